@@ -66,44 +66,53 @@ else
     skip "bench/run over stubs: no python3 or git"
 fi
 
-# The programs of rust/tools, as `cargo install` builds them.
+# The program of rust/tools, as `cargo install` builds it.
 programs() {
     local built=$room/installed/bin
     try "cargo install of rust/tools" cargo install --offline --quiet --path tools --root "$room/installed"
-    # Runs a program on its stored input, if there is one, in the folder of its files, if there is one.
+    is_alone() { [ "$(ls "$built")" = tokens ]; }
+    try "it installs one program, tokens" is_alone
+    # Runs a command on the stored input of its crate, if there is one, in the folder of its files, if there is one.
     in_its_data() {
         local crate=$PWD/../crates/$1 input=/dev/null
         [ -f "$crate/stdin" ] && input=$crate/stdin
-        (cd "$crate/data" 2> /dev/null || cd "$crate" && exec "$built/$1" "${@:2}" < "$input")
+        (cd "$crate/data" 2> /dev/null || cd "$crate" && exec "$built/tokens" "${@:2}" < "$input")
     }
     stored() {
-        local name words wanted status
+        local name command words wanted status
         for name in tokens highlight find_calls pretty rust_check same indent outline; do
+            case $name in
+                tokens) command=() ;;
+                find_calls) command=(find) ;;
+                rust_check) command=(check) ;;
+                *) command=("$name") ;;
+            esac
             words=()
             wanted=0
             status=0
             [ -f "../crates/$name/args" ] && mapfile -t words < "../crates/$name/args"
             [ -f "../crates/$name/status" ] && wanted=$(< "../crates/$name/status")
-            in_its_data "$name" "${words[@]}" > "$room/seen" || status=$?
+            in_its_data "$name" "${command[@]}" "${words[@]}" > "$room/seen" || status=$?
             [ "$status" -eq "$wanted" ] && cmp "../crates/$name/stdout" "$room/seen" || return 1
         done
     }
-    try "the programs of rust/tools on the stored runs of their crates" stored
+    try "its commands on the stored runs of their crates" stored
     # Runs a command on the text of the first word, and compares its status and what it says with the next two.
     refused() {
         local status=0
-        printf '%b' "$1" | "$built/$4" "${@:5}" > "$room/seen" 2> "$room/errors" || status=$?
+        printf '%b' "$1" | "$built/tokens" "${@:4}" > "$room/seen" 2> "$room/errors" || status=$?
         [ "$status" -eq "$2" ] && [ ! -s "$room/seen" ] && printf '%b' "$3" | cmp - "$room/errors"
     }
-    try "the pretty text of each Rust file here has the tokens of the file" ../bench/reads_back.sh "$built" ..
-    try "tokens of rust/tools says where the fault of a text stands" refused 'a\n(' 1 'fault 2:0\n' tokens print
-    try "highlight of rust/tools says which byte is no text" \
+    try "the pretty text of each Rust file here has the tokens of the file" ../bench/reads_back.sh "$built/tokens" ..
+    try "tokens print says where the fault of a text stands" refused 'a\n(' 1 'fault 2:0\n' print
+    try "tokens highlight says which byte is no text" \
         refused 'a\0377' 2 '-: error: not UTF-8 at byte 1\n' highlight html
     if command -v python3 > /dev/null; then
-        try "the rows of checks/programs on rust/tools" \
+        try "the rows of checks/programs on its commands" \
             env "CARGO_BUILD=$built" ../checks/programs tokens highlight find_calls pretty rust_check same indent \
             outline
-        try "the commands of README.md print what it shows" ../checks/pages "$built" ../README.md
+        try "the commands that pages show print what they show" \
+            ../checks/pages "$built" ../README.md tools/README.md
     fi
     if command -v python3 > /dev/null && command -v valgrind > /dev/null; then
         try "twice the text takes at most 2.1 times the instructions, by the named shapes of bench/doubling.py" \
@@ -112,6 +121,7 @@ programs() {
         skip "how instructions grow with the text: no python3 or no valgrind"
     fi
     tools() { (cd tools && cargo "$@"); }
+    try "the words and messages of its commands" tools test --offline --quiet
     documented_tools() { RUSTDOCFLAGS="-D warnings" tools doc --offline --quiet --no-deps; }
     try "the documents of rust/tools" documented_tools
     if cargo clippy --version > /dev/null 2>&1; then
@@ -270,6 +280,12 @@ replace-with = "here"
 directory = "$room/packages/registry"
 END
 
+if has proc-macro2-1 && has unicode-ident-1 && command -v python3 > /dev/null; then
+    try "what would be published is complete, and cargo builds it from what it packages" \
+        ../checks/packages "$room/packages/registry"
+else
+    skip "what would be published: no proc-macro2, unicode-ident or python3"
+fi
 if has proc-macro2-1 && has unicode-ident-1; then
     try "the bridge over the public crate" bridge test --offline --quiet --all-features
     # Macros over the bridge: their own tests, and the lines and columns at which they tell errors.

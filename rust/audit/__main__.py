@@ -6,8 +6,8 @@
     python3 rust/audit --test     tests itself: changes that are planted are told
 
 It shares no code with rust/erase. Each file's first line says from which source it was made. Of that source it leaves
-out comments and what only proofs read: clauses, ghost items and the attributes `tactic` and `cycle`. The tokens that
-are left are compared in order.
+out comments; what only proofs read: clauses, ghost items and the attributes `tactic` and `cycle`; and the allocator,
+whose type has one value. The tokens that are left are compared in order.
 
 A line of whitelist.txt is a change: the tokens of the source, `=>`, and those in their place. NAME is any one name and
 PATH any path, each the same on both sides; NAMES are any names with commas between them, BODY is anything, and CRATE is
@@ -106,9 +106,80 @@ def last_name(token):
     return token.rsplit('::', 1)[-1] or token
 
 
+# The allocator's one value, by the tokens of an expression; where it is held; and statements that are of it alone.
+VALUE = r'(?:[*&] )?(?:(?:\w[\w:]* \. )*(?:\w+::)*(?:alloc|allocator)(?: \( (?:& )?(?:\w+ )?\))?|Global)'
+HELD = rf'(?:pub )?(?:\( crate \) )?(?:mut )?(?:\w+ : Global|alloc : (?:_|{VALUE}))'
+ALLOCATOR = re.compile(rf'{VALUE}|{HELD}')
+STATEMENT = re.compile(rf'(?:let (?:mut )?alloc = {VALUE}|type Alloc = Global|use std::alloc::Global'
+                       rf'|debug \. field \( "alloc" , {VALUE} \)) ;')
+LENT = re.compile(r'(?:pub )?(?:\( crate \) )?fn (?:alloc|allocator) \( (?:\w+ : )?& \w+ \) -> Global { [^}]*}')
+GIVEN = re.compile(rf'(format|vec) ! ([(\[]) in {VALUE} ;')
+
+
+def words_of(part):
+    return ' '.join(token for token, _ in part)
+
+
+def end_of(found, at):
+    """The index of the bracket that closes the one at `at`."""
+    depth = 0
+    for index in range(at, len(found)):
+        depth += (found[index][0] in ('(', '[', '{')) - (found[index][0] in (')', ']', '}'))
+        if depth == 0:
+            return index
+    sys.exit(f'line {found[at][1]}: a bracket that nothing closes')
+
+
+def split(found):
+    """The parts between the commas that stand in no bracket."""
+    parts, at = [[]], 0
+    while at < len(found):
+        end = end_of(found, at) if found[at][0] in ('(', '[', '{') else at
+        if found[at][0] == ',':
+            parts.append([])
+        else:
+            parts[-1] += found[at:end + 1]
+        at = end + 1
+    return parts
+
+
+def without_allocators(found):
+    """The tokens without the allocator, of whose type there is one value: what is in brackets is read part by part."""
+    out, at = [], 0
+    while at < len(found):
+        token, line = found[at]
+        front = words_of(found[at:at + 24])
+        gone = STATEMENT.match(front) or LENT.match(front)
+        given = GIVEN.match(front)
+        if gone:
+            at += gone.group().count(' ') + 1
+        elif given:
+            out += found[at:at + 3]
+            at += given.group().count(' ') + 1
+        elif token in ('(', '{'):
+            end = end_of(found, at)
+            parts = split(found[at + 1:end])
+            last = parts.pop() if len(parts) > 1 and not parts[-1] else None
+            is_list = token == '(' or len(parts) > 1 or last is not None
+            kept = [without_allocators(part) for part in parts
+                    if not (ALLOCATOR.fullmatch(words_of(part)) and is_list)]
+            inside = [one for part in kept for one in (*part, (',', line))]
+            inside = inside if last is not None else inside[:-1]
+            if out and out[-1][0] == '::' and len(kept) == 1 < len(parts):
+                out[-2:] = [(f'{out[-2][0]}::{inside[0][0]}', line)]
+            else:
+                out += [found[at], *inside, found[end]]
+            at = end + 1
+        else:
+            is_shown = token.startswith('"SourceMap { alloc: Global, ')
+            out.append((token.replace('alloc: Global, ', ''), line) if is_shown else found[at])
+            at += 1
+    return out
+
+
 def changes(source, made):
     """How many tokens the source has, how many of them stay, and each change with its two lines."""
-    old, new = without_attributes(tokens(source)), tokens(made)
+    old, new = without_allocators(without_attributes(tokens(source))), tokens(made)
     rows = [[last_name(token) for token, _ in side] for side in (old, new)]
     out, same = [], 0
     for kind, first, last, start, end in difflib.SequenceMatcher(None, *rows, autojunk=False).get_opcodes():
@@ -195,6 +266,7 @@ use std::fmt;
 pub struct A { pub ghost small: { x < 9 }, x: u8, }
 /// One more.
 fn more(a: &A) -> u8 requires { a.x < 9 } ensures { result ≡ a.x + 1 } { crate::one::add(a.x, 1) }
+fn kept(alloc: Global, a: &A, b: u8) -> Kept { let alloc = a.alloc(); Kept { alloc, x: f(&b, alloc), b } }
 """
 RUST = """
 use crate::shim::fmt;
@@ -202,10 +274,12 @@ use crate::shim::fmt;
 pub struct A { x: u8, }
 /// One more.
 fn more(a: &A) -> u8 { crate::lexical::one::add(a.x, 1) }
+fn kept(a: &A, b: u8) -> Kept { Kept { x: f(&b), b } }
 """
 PLANTED = [('1)', '2)'), ('a.x', 'a.y'), (', 1', ''), ('&A', '&mut A'), ('lexical::one', 'pm_span::one'),
            ('shim::fmt', 'fmt'), ('fn more', '#[inline] fn more'), ('add', 'sub'), ('Debug', 'Debug, Clone'),
-           ('x: u8,', ''), ('{ c', '{ a.x; c')]
+           ('x: u8,', ''), ('{ c', '{ a.x; c'), ('&b', ''), (', b: u8', ''),
+           (', b }', ' }'), ('(a: &A, b', '(alloc: Global, a: &A, b'), ('f(&b)', 'f(&b, alloc)')]
 
 
 def test():

@@ -4,12 +4,16 @@
     python3 rust/erase            writes the files anew
     python3 rust/erase --check    compares them with what is there, and fails where one differs
     python3 rust/erase --test     tests the eraser itself
+    python3 rust/erase --library CHECKOUT FOLDER
+                                  makes in FOLDER the package rust/proved of another checkout's library: by these rules,
+                                  over the files of rust/proved here that are by hand
 
 What a rule dropped or renamed is counted on standard error. Where a form is met that no rule knows, each place is told
 as FILE:LINE and nothing is written. rules.py has the rules, checks.py what is rejected, known.py the names of std.
 """
 import collections
 import pathlib
+import shutil
 import sys
 
 import checks
@@ -75,31 +79,33 @@ def is_left_out(path):
     return path.name in LEFT_OUT or 'tests' in path.parts or str(path) in BY_HAND
 
 
-def erase_all(crates, below, target, counts, problems, names=known.OF_LIBRARY):
-    """The files of these crates, which may name these things: from the path of each to its text."""
+def erase_all(crates, below, target, counts, problems, names=known.OF_LIBRARY, top=TOP):
+    """The files of these crates of a checkout, which may name these things: from the path of each to its text."""
     package = rules.Package(counts, crates, below, names)
     sources = {}
     for crate in crates + below:
-        for path in sorted((TOP / 'crates' / crate / 'src').rglob('*.rt')):
-            if not is_left_out(path.relative_to(TOP)):
+        for path in sorted((top / 'crates' / crate / 'src').rglob('*.rt')):
+            if not is_left_out(path.relative_to(top)):
                 sources[path] = crate
     tokens = {}
     for path in list(sources):
         try:
             tokens[path] = tokens_of(path.read_text())
         except Rejected as error:
-            problems.append(f'{path.relative_to(TOP)}:{error.line}: {error.what}')
+            problems.append(f'{path.relative_to(top)}:{error.line}: {error.what}')
             del sources[path]
-    for learn in (package.learn, package.learn_fields):
-        for path in sources:
-            code = [Token(t.kind, t.text, t.line) for t in tokens[path] if t.kind not in ('clause', 'ghost')]
-            learn(code)
+    code = {path: [Token(t.kind, t.text, t.line) for t in tokens[path] if t.kind not in ('clause', 'ghost')]
+            for path in sources}
+    for path, crate in sources.items():
+        package.learn(code[path], crate)
+    for path in sources:
+        package.learn_fields(code[path])
     out = {}
     for path, crate in sources.items():
         if crate not in crates:
             continue
-        source = path.relative_to(TOP)
-        inside = path.relative_to(TOP / 'crates' / crate / 'src').with_suffix('.rs')
+        source = path.relative_to(top)
+        inside = path.relative_to(top / 'crates' / crate / 'src').with_suffix('.rs')
         place = target / f'{crate}.rs' if str(inside) == 'lib.rs' else target / crate / inside
         try:
             out[place], rejected = erased(path.read_text(), crate, source, package)
@@ -116,9 +122,36 @@ def compare(files, folders):
                   if path not in files or not path.exists() or path.read_text() != files[path])
 
 
+def reject(problems):
+    if problems:
+        print('\n'.join(problems))
+        sys.exit(f'{len(problems)} places are rejected: rust/erase has no rule for them')
+
+
+def write(files):
+    for path, text in files.items():
+        path.parent.mkdir(parents=True, exist_ok=True)
+        path.write_text(text)
+
+
+def make_library(checkout, folder):
+    """Makes in a folder the package rust/proved of the library crates that a checkout has."""
+    crates, problems = [crate for crate in LIBRARIES if (checkout / 'crates' / crate).is_dir()], []
+    files = erase_all(crates, [], folder / 'src', collections.Counter(), problems, top=checkout)
+    reject(problems)
+    made = {PACKAGE / 'src' / name for crate in LIBRARIES for name in (crate, f'{crate}.rs')}
+    made |= {PACKAGE / name for name in ('target', 'Cargo.lock')}
+    shutil.copytree(PACKAGE, folder, dirs_exist_ok=True,
+                    ignore=lambda at, names: [name for name in names if pathlib.Path(at, name) in made])
+    write(files)
+
+
 def main():
     if sys.argv[1:] == ['--test']:
         sys.exit(selftest.run())
+    if sys.argv[1:2] == ['--library'] and len(sys.argv) == 4:
+        make_library(pathlib.Path(sys.argv[2]).resolve(), pathlib.Path(sys.argv[3]))
+        return
     if sys.argv[1:] not in ([], ['--check']):
         sys.exit(__doc__)
     counts, problems = collections.Counter(), []
@@ -128,9 +161,7 @@ def main():
     files.update(erase_all(OWN_TESTS, LIBRARIES, PACKAGE / 'tests/own', counts, problems, known.OF_TESTS))
     files.update(erase_all(PROGRAMS, LIBRARIES, TOOLS / 'src', counts, problems))
     files.update(erase_all(JOBS, LIBRARIES, WORKLOADS / 'src', counts, problems, known.OF_JOBS))
-    if problems:
-        print('\n'.join(problems))
-        sys.exit(f'{len(problems)} places are rejected: rust/erase has no rule for them')
+    reject(problems)
     folders = [PACKAGE / 'src' / crate for crate in LIBRARIES]
     folders += [PACKAGE / 'tests/conformance' / crate for crate in TESTED]
     folders += [PACKAGE / 'tests/pretty' / crate for crate in RECORDED]
@@ -145,9 +176,7 @@ def main():
     for folder in folders:
         for path in folder.rglob('*.rs'):
             path.unlink()
-    for path, text in files.items():
-        path.parent.mkdir(parents=True, exist_ok=True)
-        path.write_text(text)
+    write(files)
     for name, number in counts.most_common():
         print(f'{number:6} {name}', file=sys.stderr)
 

@@ -58,17 +58,22 @@ def attributes(file):
 @check
 def macros(file):
     """A macro that has no counterpart."""
-    names = known.MACROS | {'display'} | file.package.names.macros
+    names = known.MACROS | {'copied', 'display', 'extended', 'gathered'} | file.package.names.macros
     for at, token in enumerate(file.tokens):
         called = found(file.tokens, at, f'{token.text} !') and file.tokens[at + 1].text == '!'
         if token.kind == 'name' and called and found(file.tokens, at, f'{token.text} ! ='):
             continue
         if token.kind == 'name' and called and token.text not in names:
             yield token.line, f'the macro `{token.text}!`'
-        if token.text == 'format' and called and not found(file.tokens, at, 'format ! ( in'):
-            yield token.line, '`format!` without its allocator'
-        if token.text == 'vec' and called and not found(file.tokens, at, 'vec ! [ in'):
-            yield token.line, '`vec!` without its allocator'
+
+
+@check
+def allocators(file):
+    """An allocator where no rule looks."""
+    for at, token in enumerate(file.tokens):
+        path = found(file.tokens, preceding(file.tokens, at) - 1, f': : {token.text}')
+        if token.kind == 'name' and token.text in ('Allocator', 'Global', 'alloc', 'allocator') and not path:
+            yield token.line, 'an allocator in a place that no rule knows'
 
 
 @check
@@ -105,7 +110,7 @@ def closures(file):
         while index < len(tokens) and depth >= 0 and not (depth == 0 and tokens[index].text in ',;'):
             depth += (tokens[index].text in '([{' and tokens[index].kind == 'mark')
             depth -= (tokens[index].text in ')]}' and tokens[index].kind == 'mark')
-            if found(tokens, index, '. clone ('):
+            if found(tokens, index, '. try_clone ('):
                 yield tokens[index].line, 'a closure that clones'
             index += 1
     for at, token in enumerate(tokens):
@@ -161,7 +166,7 @@ def methods(file):
             continue
         after = following(tokens, name)
         called = tokens[after].text == '(' or found(tokens, after, ': : <')
-        if called and tokens[name].text not in names:
+        if called and tokens[name].text.removesuffix('_fallibly') not in names:
             yield token.line, f'the method `{tokens[name].text}`'
 
 

@@ -7,7 +7,7 @@ from dataclasses import dataclass
 
 # Items of std, and what the shim has in their place (rust/proved/src/shim).
 STD_ITEMS = set('''
-    alloc alloc::AllocError alloc::AllocFailed alloc::Global
+    alloc alloc::AllocError alloc::AllocFailed
     cmp::Ordering collections::BTreeMap collections::HashMap collections::VecDeque env::Args error::Error
     fmt fmt::Debug fmt::DebugStruct fmt::Display fmt::Error fmt::Formatter fmt::Result fmt::Write fs::File
     hash::Hash hash::Hasher
@@ -21,7 +21,7 @@ TOOLCHAIN_CRATES = {'hex', 'itoa', 'memchr', 'ucd_category', 'ucd_derived', 'ucd
 
 # Methods of std's types that Rust's types have too, with the same answers, or that the shim's types have.
 METHODS = set('''
-    abs_diff all allocator and_then any append as_bytes as_mut_slice as_slice as_str
+    abs_diff all and_then any append as_bytes as_mut_slice as_slice as_str
     bytes capacity checked_add checked_mul checked_sub chars clear clone cmp collect contains copy_from_slice count
     debug_list debug_struct encode_utf8 entry escape_unicode extend_from_slice
     field filter find finish first first_chunk fmt format from_mut get get_mut hash
@@ -29,9 +29,10 @@ METHODS = set('''
     is_ascii_hexdigit is_char_boundary is_digit is_empty is_err is_none is_ok is_some is_whitespace iter
     kind last len len_utf8 lines map max min next next_back ok or_else parse partition_point pop pop_front push push_str
     range read read_to_end remove reserve resize rev reverse saturating_add saturating_mul saturating_sub shrink_to_fit
-    size_hint skip sort_unstable stdin split split_at split_first split_last split_off split_once starts_with
-    strip_prefix strip_suffix
-    take to_digit to_string trailing_zeros trim truncate unsigned_abs unwrap_or utf8_chunks utf8_error
+    size_hint skip sort_unstable stdin split split_at split_first split_first_chunk split_last split_off split_once
+    starts_with strip_prefix strip_suffix
+    take to_digit to_string trailing_zeros trim truncate try_clone try_extend try_into_iter try_next
+    unsigned_abs unwrap_or utf8_chunks utf8_error
     valid valid_up_to width wrapping_mul write write_all write_char write_str
 '''.split())
 
@@ -46,7 +47,7 @@ OF_PRIMITIVES = set('from from_le_bytes from_u32 from_digit MAX MIN'.split())
 MACROS = set('format format_args matches unreachable write writeln'.split())
 
 # Attributes that stay as they are.
-ATTRIBUTES = {'inline'}
+ATTRIBUTES = {'inline', 'non_exhaustive'}
 DERIVES = set('Clone Copy Debug Drop Eq Hash Ord PartialEq PartialOrd'.split())
 
 # What the crates of tests may name besides. Their shim is in rust/proved/tests/own.

@@ -43,10 +43,18 @@ class Package:
         self.shim = names.shim or ('proved::shim' if self.below else 'crate::shim')
         self.destructors = {}
         self.functions = set()
+        self.growing = set()
+        self.errors = set()
 
-    def learn(self, tokens):
-        """Takes note of the functions and of the types with a destructor that a file has."""
+    def learn(self, tokens, crate=''):
+        """Takes note of a file's functions, of its types with a destructor or with methods as lists have them, and of
+        the errors of a library below."""
         for at, token in enumerate(tokens):
+            name = tokens[following(tokens, at)].text
+            if token.text == 'enum' and re.search('Error(Kind)?$', name) and (crate in self.below or self.tests):
+                self.errors.add(name)
+            if token.kind == 'name' and token.text in GROWING and found(tokens, at, f'{token.text} ( & mut self'):
+                self.growing.add(owner_of(tokens, at))
             if token.text == 'fn' and token.kind == 'name':
                 self.functions.add(tokens[following(tokens, at)].text)
             for end in found(tokens, at, 'impl Drop for'):
@@ -61,6 +69,19 @@ class Package:
             opener = following(tokens, name)
             body = text_of(t for t in tokens[opener + 1:closing(tokens, opener)] if t.kind != 'comment')
             self.destructors[tokens[name].text] = dict(re.findall(r'(\w+)\s*:\s*((?:[^,<]|<.*?>+)+),', body))
+
+
+# Methods of Rattle's lists and texts that can fail, where Rust's of the same name can't.
+GROWING = {'append', 'extend_from_slice', 'push', 'push_str', 'reserve', 'resize', 'sort', 'split_off'}
+MAKING = {'from_str', 'with_capacity'}
+
+
+def owner_of(tokens, at):
+    """The type in whose `impl` a method stands at `at`, or an empty text."""
+    while at and not (tokens[at].text == 'impl' and tokens[at].kind == 'name'):
+        at -= 1
+    head = re.match(r"impl(?:<[^>]*>)?\s+(?:.*\bfor\s+)?(\w+)", text_of(tokens[at:next_mark(tokens, at, '{')]), re.S)
+    return head.group(1) if head else ''
 
 
 def following(tokens, at):
@@ -269,7 +290,7 @@ def allocating_methods(file):
     """Names in tests the shim's methods for those of Rust that take no allocator.
 
         fn f(alloc: Global) { "(".repeat(alloc, 9)?; }
-        => use crate::shim::prelude::{Repeat}; fn f(alloc: Global) { "(".repeated(alloc, 9)?; }
+        => use crate::shim::prelude::{Repeat}; fn f() { "(".repeated(9)?; }
     """
     for at, token in enumerate(file.tokens):
         if file.package.tests and token.text in ALLOCATING and found(file.tokens, at, f'{token.text} ( alloc'):
@@ -351,22 +372,19 @@ def drop_bounds(file):
 
 def taken(value, fields, bound):
     """The text that moves these fields out of a value, each under its name in `bound`, and leaves empty ones."""
-    return 'let (%s) = (%s);' % (', '.join(bound[field] for field in fields),
-                                 ', '.join(f'{value}.{field}.take()' if kind == 'take' else f'{value}.{field}'
-                                           for field, kind in fields.items()))
+    moved = [field for field, is_taken in fields.items() if is_taken]
+    both = '%s = %s' if len(moved) == 1 else '(%s) = (%s)'
+    return 'let ' + both % (', '.join(bound[field] for field in moved),
+                            ', '.join(f'{value}.{field}.take()' for field in moved)) + ';'
 
 
 def ways_out(file, line, name):
-    """How each field of a type with a destructor leaves it: an `Option` is taken, and the allocator is copied."""
-    fields = {}
-    for field, kind in file.package.destructors[name].items():
-        if kind == 'Global':
-            fields[field] = 'copy'
-        elif kind.startswith('Option<'):
-            fields[field] = 'take'
-        else:
+    """Each field of a type with a destructor, and whether it is taken out: an `Option` is, and the allocator is not."""
+    fields = file.package.destructors[name]
+    for field, kind in fields.items():
+        if kind != 'Global' and not kind.startswith('Option<'):
             raise Rejected(line, f'a `Drop` of {name} that takes apart the field {field}, no `Option`')
-    return fields
+    return {field: kind != 'Global' for field, kind in fields.items()}
 
 
 def bindings(file, line, name, pattern, fields):
@@ -384,13 +402,13 @@ def bindings(file, line, name, pattern, fields):
 def destructors(file):
     """Lends to a destructor what Rattle gives it, and takes a value with one apart field by field.
 
-    Rust moves no field out of such a value. So an `Option` is taken, which leaves `None`, and the allocator is copied.
-    What is left is dropped and has nothing to drop.
+    Rust moves no field out of such a value. So an `Option` is taken, which leaves `None`. What is left is dropped and
+    has nothing to drop.
 
         struct A { a: Option<u8>, } impl Drop for A { fn drop(self) { let A { a } = self; } }
         fn f(v: A) { let A { a } = v; }
-        => struct A { a: Option<u8>, } impl Drop for A { fn drop(&mut self) { let (a) = (self.a.take()); } }
-        fn f(v: A) { let (a) = { let mut whole = v; (whole.a.take()) }; }
+        => struct A { a: Option<u8>, } impl Drop for A { fn drop(&mut self) { let a = self.a.take(); } }
+        fn f(v: A) { let a = { let mut whole = v; whole.a.take() }; }
     """
     tokens, edits, inside = file.tokens, {}, set()
     for at, opener, closer, name in impls(tokens, 'Drop'):
@@ -509,8 +527,8 @@ def texts(file):
     A crate that has a `to_string` of its own keeps it.
 
         fn text(e: &E) -> Result<String, F> { e.to_string(alloc)?; e.line.to_string(alloc)? }
-        => use crate::shim::prelude::{String, format}; fn text(e: &E) -> Result<String, F> {
-           format!(in alloc; "{e}")?; format!(in alloc; "{}", e.line)? }
+        => use crate::shim::prelude::{format}; fn text(e: &E) -> Result<String, F> {
+           format!("{e}")?; format!("{}", e.line)? }
     """
     tokens, edits = file.tokens, {}
     for at, token in enumerate(tokens):
@@ -528,6 +546,116 @@ def texts(file):
     file.tokens = replaced(tokens, edits)
 
 
+# What stands for the allocator: an expression of its type, which has one value, that takes no step to compute.
+ALLOCATOR = re.compile(r'[*&]?(?:(?:\w+(?:\.|::))*(?:alloc|allocator)(?:\((?:&?\w+)?\))?|Global)')
+# A field or a parameter that holds the allocator, or its value in a field.
+HOLDS_ALLOCATOR = re.compile(r'(?:pub(?:\(crate\))?)?(?:mut)?(?:\w+:Global|alloc:(?:_|%s))' % ALLOCATOR.pattern)
+
+
+def parts(tokens, opener):
+    """What a list in brackets has between its commas: of each the first and the last index, and the comma after it."""
+    closer = closing(tokens, opener)
+    out, first, at = [], None, opener + 1
+    while at <= closer:
+        token = tokens[at]
+        if at == closer or token.text == ',' and token.kind == 'mark':
+            if first is not None:
+                out.append((first, preceding(tokens, at), at if at < closer else None))
+            first = None
+        elif is_code(token):
+            first = at if first is None else first
+            if token.kind == 'mark' and token.text in '([{':
+                at = closing(tokens, at)
+        at += 1
+    return out
+
+
+def item_front(tokens, at):
+    """The index at which an item begins whose first word after its visibility is at `at`: that of its comments."""
+    while True:
+        before = at - 1
+        while tokens[before].kind == 'white':
+            before -= 1
+        if tokens[before].text == ')' and text_of(tokens[before - 3:before + 1]) == 'pub(crate)':
+            at = before - 3
+        elif tokens[before].kind == 'comment' or tokens[before].text == 'pub':
+            at = before
+        elif tokens[before].text == ']':
+            while not found(tokens, before, '# ['):
+                before -= 1
+            at = before
+        else:
+            return at
+
+
+def allocator_items(tokens, at):
+    """The indices of an import, an item or a statement that begins at `at` and is of the allocator alone."""
+    for words in ('use std : : alloc : : Global ;', 'type Alloc = Global ;'):
+        for end in found(tokens, at, words):
+            return range(at, end + 1)
+    if found(tokens, at, 'let alloc =') or found(tokens, at, 'let mut alloc ='):
+        return range(at, next_mark(tokens, at, ';') + 1)
+    for end in found(tokens, at, 'debug . field ( "alloc" ,'):
+        return range(at, next_mark(tokens, end, ';') + 1)
+    if found(tokens, at, 'fn alloc (') or found(tokens, at, 'fn allocator ('):
+        opener = next_mark(tokens, at, '{')
+        if tokens[preceding(tokens, opener)].text == 'Global':
+            return range(item_front(tokens, at), closing(tokens, opener) + 1)
+    return range(0)
+
+
+def allocator_parts(tokens, opener):
+    """The indices of each part of a list that is of the allocator alone, with one of the commas beside it."""
+    caller = tokens[preceding(tokens, opener)]
+    if tokens[opener].text == '(' and caller.kind != 'name' and caller.text not in '>=;{':
+        return
+    listed = parts(tokens, opener)
+    # A block may be one name without a comma.
+    block = tokens[opener].text == '{' and len(listed) == 1 and listed[0][2] is None
+    last = None
+    for number, (first, end, comma) in enumerate(listed):
+        text = text_of(t for t in tokens[first:end + 1] if is_code(t))
+        if not (ALLOCATOR.fullmatch(text) and not block or HOLDS_ALLOCATOR.fullmatch(text)):
+            last = comma
+        elif comma:
+            yield range(item_front(tokens, first) if tokens[opener].text == '{' else first, comma + 1)
+        else:
+            yield range(last if last is not None else first, end + 1)
+
+
+@rule
+def allocators(file):
+    """Leaves out the allocator, whose type has one value: where it is an argument, a parameter, a field or a variable.
+
+        use std::alloc::{AllocError, Global}; struct A { alloc: Global, x: u8 }
+        fn f(alloc: Global, x: u8) -> Result<A, AllocError> { let alloc = x.alloc(); g(alloc, &x)?; A { alloc, x } }
+        => use shim::alloc::AllocError; struct A { x: u8 } fn f(x: u8) -> Result<A, AllocError> { g(&x)?; A { x } }
+    """
+    tokens, goes = file.tokens, set()
+    for at, token in enumerate(tokens):
+        if at in goes or not is_code(token):
+            continue
+        gone = list(allocator_items(tokens, at))
+        for end in found(tokens, at, 'use std : : alloc : : {'):
+            comma = following(tokens, following(tokens, end))
+            if tokens[following(tokens, comma)].text == 'Global':
+                gone += [end, *range(comma, closing(tokens, end) + 1)]
+        file.count('allocators', len(gone) > 0)
+        if token.text in ('format', 'vec') and found(tokens, at, f'{token.text} !') and tokens[at + 1].text == '!':
+            opener = following(tokens, following(tokens, at))
+            if tokens[following(tokens, opener)].text != 'in':
+                raise Rejected(token.line, f'`{token.text}!` without its allocator')
+            gone += range(opener + 1, following(tokens, next_mark(tokens, at, ';')))
+        if token.kind == 'mark' and token.text in '({':
+            for part in allocator_parts(tokens, at):
+                gone += part
+                file.count('allocators')
+        if token.kind == 'string' and file.package.tests:
+            token.text = token.text.replace('alloc: Global, ', '')
+        goes |= set(gone)
+    file.tokens = without(tokens, goes)
+
+
 @rule
 def memory(file):
     """Ends the process, by the shim, where a body says that memory ran out: that error has no value in Rust.
@@ -543,10 +671,190 @@ def memory(file):
     file.tokens = replaced(tokens, edits)
 
 
+@rule
+def errors(file):
+    """Leaves the errors of the library open to more cases, and `Error` to native/errors.rs, which tells what is inside.
+
+        pub enum AError { One } impl Error for AError {} pub enum B { One }
+        => #[non_exhaustive] pub enum AError { One } pub enum B { One }
+    """
+    if file.package.below:
+        return
+    goes, edits = set(), {}
+    for at, token in enumerate(file.tokens):
+        name = file.tokens[following(file.tokens, following(file.tokens, following(file.tokens, at)))].text
+        for words in (f'impl Error for {name} {{ }}', 'use std : : error : : Error ;'):
+            for end in found(file.tokens, at, words):
+                goes |= set(range(at, end + 1))
+                file.count('errors')
+    tokens = without(file.tokens, goes)
+    for at, token in enumerate(tokens):
+        name = tokens[following(tokens, following(tokens, at))].text
+        if found(tokens, at, f'pub enum {name} {{') and re.search('Error(Kind)?$', name):
+            edits[at, at] = '#[non_exhaustive]\npub'
+            file.count('errors')
+    file.tokens = replaced(tokens, edits)
+
+
+def arms(tokens, opener):
+    """The patterns of a `match` whose braces open at `opener`, each as a text."""
+    at, closer = opener + 1, closing(tokens, opener)
+    while at < closer:
+        start = at
+        while not found(tokens, at, '= >'):
+            at = closing(tokens, at) if tokens[at].kind == 'mark' and tokens[at].text in '([{' else at
+            at += 1
+            if at >= closer:
+                return
+        yield text_of(t for t in tokens[start:at] if is_code(t))
+        at = following(tokens, at + 1)
+        block = tokens[at].text == '{'
+        while at < closer and tokens[at].text != ',':
+            at = closing(tokens, at) + 1 if tokens[at].kind == 'mark' and tokens[at].text in '([{' else at + 1
+            if block:
+                break
+        at += found(tokens, at, ',') != []
+
+
+@rule
+def open_matches(file):
+    """Ends a `match` over the errors of the library with an arm that is never reached, as they are open to more cases.
+
+        enum AError {} fn f(e: AError) { match e { AError::One => 1, AError::Two(e) => { 2 } }
+        match e { AError::One => 1, other => 2 } match e { B::One => 1 } }
+        => enum AError {} fn f(e: AError) { match e { AError::One => 1, AError::Two(e) => { 2 }
+           _ => unreachable!("each case is above"), } match e { AError::One => 1, other => 2 } match e { B::One => 1 } }
+    """
+    tokens, edits = file.tokens, {}
+    for at, token in enumerate(tokens):
+        if token.text != 'match' or token.kind != 'name' or not (file.package.below or file.package.tests):
+            continue
+        opener = at
+        while tokens[opener].text != '{':
+            opener = closing(tokens, opener) if tokens[opener].text in ('(', '[') else opener
+            opener += 1
+        patterns = list(arms(tokens, opener))
+        whole = any(re.fullmatch(r'_|(?:Err\()?[a-z_]\w*\)?', pattern) for pattern in patterns)
+        named = set(re.findall(r'\b([A-Z]\w*)::[A-Z]', ' '.join(patterns)))
+        if not whole and named & file.package.errors:
+            closer = closing(tokens, opener)
+            edits[closer, closer] = '_ => unreachable!("each case is above"),\n}'
+            file.count('open-matches')
+    file.tokens = replaced(tokens, edits)
+
+
+# Rattle's traits whose methods can fail where Rust's can't: their names in the shim, and the macro that gives Rust's.
+FALLIBLE = {
+    'Clone': ('TryClone', 'clone', 'try_clone', 'copied'),
+    'Extend': ('TryExtend', 'extend', 'try_extend', 'extended'),
+    'FromIterator': ('TryFromIterator', 'from_iter', 'try_from_iter', 'gathered'),
+}
+
+
+@rule
+def fallible_traits(file):
+    """Names the traits whose methods can fail as what they are, and gives Rust's traits by them, by macros of the shim.
+
+        impl Clone for A { fn clone(&self) -> Result<A, E> { self.0.clone()? } }
+        impl Extend<T> for A { fn extend<I: IntoIterator<Item = T>>(&mut self, i: I) -> Result<(), E> {} }
+        => use crate::shim::prelude::{TryClone, TryExtend};
+           impl TryClone for A { fn try_clone(&self) -> Result<A, E> { self.0.try_clone()? } } shim::copied!(A);
+           impl TryExtend<T> for A { fn try_extend<I: IntoIterator<Item = T>>(&mut self, i: I) -> Result<(), E> {} }
+           shim::extended!(A, T);
+    """
+    tokens, edits = file.tokens, {}
+    for at, token in enumerate(tokens):
+        for method, fallible in (('clone', 'try_clone'), ('extend', 'try_extend')):
+            if token.text == '.' and found(tokens, at, f'. {method} ('):
+                name = following(tokens, at)
+                edits[name, name] = fallible
+                file.count('fallible-traits')
+    for trait, (name, method, fallible, macro) in FALLIBLE.items():
+        for at, opener, closer, kind in impls(tokens, rf'{trait}(?:<\w+>)?'):
+            head, own = next_mark(tokens, at, trait), next_mark(tokens, opener, method)
+            items = ', ' + tokens[head + 2].text if tokens[head + 1].text == '<' else ''
+            if not re.fullmatch(r'\w+', kind):
+                raise Rejected(tokens[at].line, f'a `{trait}` for {kind}, a type with parameters')
+            edits.update({(head, head): name, (own, own): fallible})
+            edits[closer, closer] = '}\n\nshim::%s!(%s%s);' % (macro, kind, items)
+            file.count('fallible-traits')
+    file.tokens = replaced(tokens, edits)
+
+
+# Methods of the library's types that can fail where Rust's of the same name can't, by what follows their names; and the
+# variables of whose type `next` is one.
+FALLIBLE_METHODS = {'into_iter': '( self )', 'next': '( & mut self )'}
+WALKS = {'steps', 'walk'}
+
+
+@rule
+def fallible_methods(file):
+    """Names those methods of the library as what they are, so that their names are left to Rust's traits.
+
+        impl A { fn into_iter(self) -> Result<B, E> { g(walk.next()?, self.into_iter()?) } fn next(&mut self) -> A {} }
+        => impl A { fn try_into_iter(self) -> Result<B, E> { g(walk.try_next()?, self.try_into_iter()?) }
+           fn next(&mut self) -> A {} }
+    """
+    tokens, edits = file.tokens, {}
+    for at, token in enumerate(tokens):
+        if token.kind != 'name' or token.text not in FALLIBLE_METHODS:
+            continue
+        before, after = preceding(tokens, at), following(tokens, at)
+        declared = tokens[before].text == 'fn' and found(
+            tokens, after, FALLIBLE_METHODS[token.text] + ' - > Result <')
+        owner = tokens[preceding(tokens, before)].text
+        called = owner in WALKS if token.text == 'next' else found(tokens, after, '( ) ?')
+        if declared or tokens[before].text == '.' and called:
+            edits[at, at] = f'try_{token.text}'
+            file.count('fallible-methods')
+    file.tokens = replaced(tokens, edits)
+
+
+def variables(tokens, at, types):
+    """The variables of the function, or the fields of the struct, that its text at `at` declares with these types."""
+    text = text_of(t for t in tokens[at:closing(tokens, next_mark(tokens, at, '{')) + 1] if t.kind != 'comment')
+    named = '|'.join(sorted(types)) or '!'
+    declared = re.findall(r"(\w+)\s*:\s*(?:&\s*(?:'\w+\s+)?(?:mut\s+)?)?(?:%s)\b" % named, text)
+    return set(declared + re.findall(r'let\s+(?:mut\s+)?(\w+)\s*=\s*(?:%s)\s*::' % named, text))
+
+
+@rule
+def lists(file):
+    """Names what can fail of Rattle's lists and texts otherwise, since both are Rust's, to which the shim adds it.
+
+    A type of the library that has such a method keeps its name. `self` and what is called `quote` are of such types;
+    what else is, its declaration says. rustc refuses the rest.
+
+        fn f(a: &str, v: &mut Vec<u8>) -> Result<String, E> { v.push(1)?; self.push(2)?; String::from_str(a)? }
+        => use crate::shim::prelude::{Grow, GrowText}; fn f(a: &str, v: &mut Vec<u8>) -> Result<String, E> {
+           v.push_fallibly(1)?; self.push(2)?; String::from_str_fallibly(a)? }
+    """
+    tokens, own, fields = file.tokens, set(), set()
+    for at, token in enumerate(tokens):
+        if found(tokens, at, f'struct {tokens[following(tokens, at)].text} {{'):
+            fields |= variables(tokens, at, file.package.growing)
+        if token.text == 'fn' and token.kind == 'name':
+            has_body = next((t for t in tokens[at:] if t.text in '{;'), token).text == '{'
+            own = variables(tokens, at, file.package.growing) if has_body else set()
+        if token.kind != 'name' or token.text not in GROWING | MAKING or tokens[following(tokens, at)].text != '(':
+            continue
+        before = preceding(tokens, at)
+        owner = preceding(tokens, before)
+        is_field = tokens[preceding(tokens, owner)].text == '.'
+        kept = tokens[owner].text in (fields if is_field else own | {'quote', 'self'})
+        grows = token.text in GROWING and tokens[before].text == '.' and not kept
+        path = text_of(t for t in tokens[max(0, before - 12):at] if is_code(t))
+        if grows or token.text in MAKING and re.search(r'\b(String|Vec|Vec::<[^:]*>)::$', path):
+            token.text += '_fallibly'
+            file.count('lists')
+
+
 # What every source of Rattle names without an import, where Rust has another thing of that name or none.
-PRELUDE = ('AllocGlobal', 'Box', 'Clone', 'Extend', 'FromIterator', 'HostRuntime', 'String', 'Vec')
-# The methods of tests that are of traits there.
-WITH_TRAITS = {'collected': 'Collect', 'extend': 'Extend', 'repeated': 'Repeat', 'sort': 'Sort'}
+PRELUDE = ('AllocGlobal', 'Box', 'HostRuntime', 'TryClone', 'TryExtend', 'TryFromIterator')
+# The methods that are of traits of the shim, and those that are of traits of tests.
+OF_TRAITS = {'try_clone': 'TryClone', 'try_extend': 'TryExtend'}
+OF_GROWING = {'Grow': {'push', 'reserve', 'with_capacity'}, 'GrowText': {'from_str', 'push_str'}}
+OF_TEST_TRAITS = {'collected': 'Collect', 'repeated': 'Repeat'}
 
 
 @rule
@@ -554,29 +862,35 @@ def prelude(file):
     """Imports from the shim what Rattle's prelude has and Rust's has otherwise, as far as the file names it.
 
         fn copy(t: &A) -> Result<Box<A>, E> { t.clone() }
-        => use crate::shim::prelude::{Box, Clone}; fn copy(t: &A) -> Result<Box<A>, E> { t.clone() }
+        => use crate::shim::prelude::{Box, TryClone}; fn copy(t: &A) -> Result<Box<A>, E> { t.try_clone() }
     """
     tokens, used = file.tokens, set()
+    writes_texts = any(token.text == 'String' for token in tokens)
     for at, token in enumerate(tokens):
         if token.kind != 'name':
             continue
-        if token.text in PRELUDE and (token.text != 'Clone' or found(tokens, preceding(tokens, at), 'impl Clone for')):
+        if token.text in PRELUDE:
             used.add(token.text)
-        elif token.text == 'clone' and tokens[preceding(tokens, at)].text == '.':
-            used.add('Clone')
-        elif token.text == 'format' and found(tokens, at, 'format ! ( in'):
-            used.add('format')
-        elif token.text == 'vec' and found(tokens, at, 'vec ! [ in'):
-            used.add('vec')
-        elif file.package.tests and token.text in WITH_TRAITS:
-            used.add(WITH_TRAITS[token.text])
+        elif token.text in OF_TRAITS:
+            used.add(OF_TRAITS[token.text])
+        elif token.text.endswith('_fallibly'):
+            name = token.text.removesuffix('_fallibly')
+            used.add(next((trait for trait, names in OF_GROWING.items() if name in names), 'GrowList'))
+        elif token.text in ('write', 'writeln') and found(tokens, at, f'{token.text} !') and writes_texts:
+            used.add('GrowText')
+        elif token.text in ('format', 'vec') and found(tokens, at, f'{token.text} !'):
+            used.add(token.text)
+        elif file.package.tests and token.text in OF_TEST_TRAITS:
+            used.add(OF_TEST_TRAITS[token.text])
     file.prelude = sorted(used)
     file.count('prelude', len(used))
 
 
 def linked(comment, crate, erased):
-    """A comment whose links lead to items of these crates. A crate's name alone is no link."""
+    """A comment whose links lead to items of these crates. A crate's name alone is no link, and neither is a law: the
+    pages of laws are hidden."""
     comment = comment.replace('(crate::', f'(crate::{crate}::')
+    comment = re.sub(r'\[(`\w+`)\]\([\w:]*\blaws::\w+\)', r'\1', comment)
     for other in erased:
         comment = comment.replace(f']({other}::', f'](crate::{other}::')
         comment = re.sub(rf'\[`{other}`\](?!\()', f'`{other}`', comment)
@@ -587,8 +901,8 @@ def linked(comment, crate, erased):
 def paths(file):
     """Names the shim for std and for the toolchain's crates, and for each crate its module in this package.
 
-        use std::alloc::Global; use crate::bytes::one; use memchr::memchr; fn f() { lexical::is_mark('+'); }
-        => use crate::shim::alloc::Global; use crate::lexical::bytes::one; use crate::shim::memchr::memchr;
+        use std::alloc::AllocError; use crate::bytes::one; use memchr::memchr; fn f() { lexical::is_mark('+'); }
+        => use crate::shim::alloc::AllocError; use crate::lexical::bytes::one; use crate::shim::memchr::memchr;
         fn f() { crate::lexical::is_mark('+'); }
     """
     package, tokens, edits = file.package, file.tokens, {}

@@ -16,6 +16,8 @@ REJECTED = [
     ('fn f(x: u8) { assert!(x < 9); }', 'the macro `assert!`'),
     ('fn f() { format!("a"); }', 'without its allocator'),
     ('fn f() { vec![in alloc; 1, 2]?; }', 'the macro `vec!`'),
+    ('fn f() -> Vec<Global> {}', 'an allocator in a place'),
+    ('fn f(g: A) { g.make(alloc => 1); }', 'an allocator in a place'),
     ('#[derive(Clone)] struct A;', '`Clone` without `Copy`'),
     ('#[derive(Default)] struct A;', 'a derive of `Default`'),
     ('#[repr(C)] struct A;', 'the attribute `repr`'),

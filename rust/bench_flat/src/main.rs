@@ -6,7 +6,6 @@
 mod measure;
 
 use proc_macro2::{TokenStream, TokenTree};
-use proved::shim::alloc::Global;
 use proved::token_buffer::{Cursor, TokenBuffer, TokenText};
 use std::env;
 use std::error::Error;
@@ -22,7 +21,7 @@ fn least(what: &str, trees: usize, mut run: impl FnMut() -> usize) {
 /// A text that both libraries read, and a line feed.
 fn read(text: String) -> Option<String> {
     let text = text + "\n";
-    let is_read = text.parse::<TokenStream>().is_ok() && TokenBuffer::new(Global, &text).is_ok();
+    let is_read = text.parse::<TokenStream>().is_ok() && TokenBuffer::new(&text).is_ok();
     is_read.then_some(text)
 }
 
@@ -72,13 +71,13 @@ fn main() -> Result<(), Box<dyn Error>> {
     let text = measure::source(folder.as_ref(), read)?;
     let stream: TokenStream = text.parse()?;
     let trees = walk_trees(stream.clone());
-    let buffer = TokenBuffer::new(Global, &text).map_err(|error| format!("{error:?}"))?;
+    let buffer = TokenBuffer::new(&text).map_err(|error| format!("{error:?}"))?;
     let syn_buffer = SynBuffer::new2(stream.clone());
     println!("bytes {}", text.len());
     println!("trees {trees}");
     least("flat_walk", trees, || walk_flat(buffer.begin()));
     least("syn_walk", trees, || walk_syn(syn_buffer.begin()));
-    least("flat_make_and_walk", trees, || match TokenBuffer::new(Global, &text) {
+    least("flat_make_and_walk", trees, || match TokenBuffer::new(&text) {
         Ok(buffer) => walk_flat(buffer.begin()),
         Err(_) => 0,
     });
@@ -91,7 +90,7 @@ fn main() -> Result<(), Box<dyn Error>> {
         Err(_) => 0,
     });
     least("flat_to_stream_and_walk", trees, || {
-        match buffer.begin().to_stream(Global) {
+        match buffer.begin().to_stream() {
             Ok(stream) => walk_made(stream.trees()),
             Err(_) => 0,
         }

@@ -4,7 +4,6 @@ use proc_macro2::{token_stream, Delimiter, Spacing};
 use proved::pm_span::Span;
 use proved::pm_stream::{Group, TokenStream, TokenTree};
 use proved::pm_token::{Delimiter as OwnDelimiter, Ident, Literal, Punct, Spacing as OwnSpacing};
-use proved::shim::alloc::Global;
 use std::fmt::Write;
 use std::mem;
 
@@ -27,7 +26,7 @@ struct Open {
 /// public crate `'''`. The table then keeps the spans of the trees before it.
 pub fn to_proved(stream: &proc_macro2::TokenStream, spans: &mut Spans) -> Result<TokenStream, NoToken> {
     let mut open: Vec<Open> = Vec::new();
-    let mut trees = TokenStream::new(Global);
+    let mut trees = TokenStream::new();
     let mut left = stream.clone().into_iter();
     let mut text = String::new();
     loop {
@@ -35,7 +34,7 @@ pub fn to_proved(stream: &proc_macro2::TokenStream, spans: &mut Spans) -> Result
             Some(proc_macro2::TokenTree::Group(group)) => {
                 open.push(Open {
                     delimiter: group.delimiter(),
-                    before: mem::replace(&mut trees, TokenStream::new(Global)),
+                    before: mem::replace(&mut trees, TokenStream::new()),
                     after: mem::replace(&mut left, group.stream().into_iter()),
                     span: spans.place_of_group(group),
                 });
@@ -74,7 +73,7 @@ fn proved_token(token: proc_macro2::TokenTree, spans: &mut Spans, text: &mut Str
             TokenTree::Ident(identifier(text).ok_or_else(other)?)
         }
         proc_macro2::TokenTree::Literal(_) if Literal::is_whole(text) => {
-            let Ok(literal) = Literal::from_str_unchecked(Global, text);
+            let Ok(literal) = Literal::from_str_unchecked(text);
             TokenTree::Literal(literal)
         }
         _ => return Err(other()),
@@ -86,8 +85,8 @@ fn proved_token(token: proc_macro2::TokenTree, spans: &mut Spans, text: &mut Str
 /// The identifier that is written so.
 fn identifier(text: &str) -> Option<Ident> {
     match text.strip_prefix("r#") {
-        Some(name) => Ident::new_raw(Global, name, Span::call_site()).ok(),
-        None => Ident::new(Global, text, Span::call_site()).ok(),
+        Some(name) => Ident::new_raw(name, Span::call_site()).ok(),
+        None => Ident::new(text, Span::call_site()).ok(),
     }
 }
 

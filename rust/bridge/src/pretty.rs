@@ -3,7 +3,6 @@ use crate::{to_proved, NoToken, Spans};
 use proved::pretty_printer::to_pretty_string;
 use proved::quoting::QuoteError;
 use proved::relayout::{with_doc_comments, RelayoutError};
-use proved::shim::alloc::Global;
 use std::error::Error;
 use std::fmt::{self, Display};
 
@@ -25,11 +24,11 @@ use std::fmt::{self, Display};
 /// stream come back from a text: a group without delimiters, as macros by example make, or a `'` with nothing after it.
 pub fn pretty(stream: &proc_macro2::TokenStream) -> Result<String, PrettyError> {
     let stream = to_proved(stream, &mut Spans::new()).map_err(PrettyError::NoToken)?;
-    let text = to_pretty_string(Global, &stream).map_err(PrettyError::Quote)?;
-    match with_doc_comments(Global, text.as_str()) {
-        Ok(text) => Ok(text.into_rust()),
+    let text = to_pretty_string(&stream).map_err(PrettyError::Quote)?;
+    match with_doc_comments(text.as_str()) {
+        Ok(text) => Ok(text),
         Err(RelayoutError::Memory(error)) => Err(PrettyError::Quote(QuoteError::Memory(error))),
-        Err(RelayoutError::NoPiece) => unreachable!("the text reads back"),
+        Err(_) => unreachable!("the text reads back"),
     }
 }
 

@@ -3,7 +3,6 @@ use proc_macro2::{Delimiter, Group, Ident, Literal, Punct, Spacing, Span, TokenS
 use proved::pm_stream::{TokenStream as Own, TokenTree as OwnTree};
 use proved::pm_token::Ident as OwnIdent;
 use proved::proc_macro2::SourceMap;
-use proved::shim::alloc::Global;
 use proved_bridge::{from_proved, proved, to_proved, NoToken, Spans};
 use std::error::Error;
 
@@ -52,8 +51,8 @@ fn a_stream_comes_back_with_its_spans() -> Result<(), Box<dyn Error>> {
     for text in TEXTS {
         let stream: TokenStream = text.parse()?;
         let own = to_proved(&stream, &mut spans)?;
-        assert!(own.same_tokens(&Own::parse_unmapped(Global, text)?), "{text}");
-        assert_eq!(own.to_string(), Own::parse_unmapped(Global, text)?.to_string());
+        assert!(own.same_tokens(&Own::parse_unmapped(text)?), "{text}");
+        assert_eq!(own.to_string(), Own::parse_unmapped(text)?.to_string());
         assert_eq!(facts(&from_proved(&own, &spans)?), facts(&stream), "{text}");
         assert_eq!(from_proved(&own, &Spans::new())?.to_string(), stream.to_string());
     }
@@ -107,9 +106,9 @@ fn new_tokens_get_the_spans_that_they_bear() -> Result<(), Box<dyn Error>> {
     };
     let (name, group) = (name.span(), group.span());
     let third = spans.place(stream.clone().into_iter().nth(2).expect("three trees").span());
-    let mut map = SourceMap::new(Global);
+    let mut map = SourceMap::new();
     let read = Own::from_str("template", &mut map)?;
-    let renamed = |span| OwnIdent::new(Global, "renamed", span).map(OwnTree::Ident);
+    let renamed = |span| OwnIdent::new("renamed", span).map(OwnTree::Ident);
     let Ok(()) = own.extend_trees([renamed(name)?, renamed(group)?, renamed(third)?]);
     let Ok(()) = own.extend_streams([read]);
     let back: Vec<_> = from_proved(&own, &spans)?.into_iter().map(|tree| format!("{:?}", tree.span())).collect();
@@ -127,10 +126,10 @@ fn a_group_in_which_something_was_changed_keeps_its_span() -> Result<(), Box<dyn
         panic!("two trees");
     };
     let Ok(mut inside) = group.stream();
-    let Ok(()) = inside.extend_streams([Own::parse_unmapped(Global, "d")?]);
+    let Ok(()) = inside.extend_streams([Own::parse_unmapped("d")?]);
     let mut changed = proved::pm_stream::Group::new(group.delimiter(), inside);
     changed.set_span(group.span());
-    let Ok(changed) = Own::from_tree(Global, changed.into());
+    let Ok(changed) = Own::from_tree(changed.into());
     let (back, was) = (facts(&from_proved(&changed, &spans)?), facts(&stream));
     assert_eq!(back[..6], was[1..7]);
     assert_eq!(back[6], format!("d {:?}", Span::call_site()));
@@ -148,11 +147,11 @@ fn changed_tokens_come_back_changed() -> Result<(), Box<dyn Error>> {
     let swapped = "b\"x\" 1u8 r#a ö".parse::<TokenStream>()?;
     let mut other = Spans::new();
     let new = to_proved(&swapped, &mut other)?;
-    let mut changed = Own::new(Global);
+    let mut changed = Own::new();
     for (tree, span) in new.trees().iter().zip([literal.span(), literal.span(), ident.span(), ident.span()]) {
-        let Ok(mut tree) = proved::shim::clone::Clone::clone(tree);
+        let mut tree = tree.clone();
         tree.set_span(span);
-        let Ok(()) = changed.extend_trees([tree]);
+        changed.extend([tree]);
     }
     let back = from_proved(&changed, &spans)?;
     assert_eq!(back.to_string(), swapped.to_string());
@@ -191,7 +190,7 @@ fn a_token_that_only_the_caller_has_is_an_error() -> Result<(), Box<dyn Error>> 
 fn a_token_that_the_caller_lacks_is_an_error() -> Result<(), Box<dyn Error>> {
     // An identifier by Unicode 15 and later, and a literal by later Rust.
     for text in ["\u{11F04}", "c\"a\"u8"] {
-        let own = Own::parse_unmapped(Global, text)?;
+        let own = Own::parse_unmapped(text)?;
         let back: Result<_, NoToken> = from_proved(&own, &Spans::new());
         match text.parse::<TokenStream>().map(|stream| stream.into_iter().count()) {
             Ok(1) => assert_eq!(back?.to_string(), text),
@@ -209,8 +208,8 @@ fn a_template_takes_tokens_of_the_caller() -> Result<(), Box<dyn Error>> {
     let name: TokenStream = "\n\n name".parse()?;
     let mut spans = Spans::new();
     let name = to_proved(&name, &mut spans)?;
-    let mut quote = Quote::new(Global);
-    let filled = quote.parse("fn #name() {}", &mut SourceMap::new(Global), &[Hole::one("name", &name)]);
+    let mut quote = Quote::new();
+    let filled = quote.parse("fn #name() {}", &mut SourceMap::new(), &[Hole::one("name", &name)]);
     filled.map_err(|error| error.to_string())?;
     let made = quote.finish().map_err(|error| error.to_string())?;
     assert!(made.is_well_spaced());

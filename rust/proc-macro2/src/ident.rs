@@ -5,7 +5,6 @@ use crate::span::Repr as SpanRepr;
 use crate::{compiler, print, Span};
 use proved::pm_span::Span as Place;
 use proved::pm_token::{Ident as Own, IdentError};
-use proved::shim::alloc::Global;
 use std::cmp::Ordering;
 use std::fmt::{self, Debug, Display};
 use std::hash::{Hash, Hasher};
@@ -46,7 +45,7 @@ impl Ident {
     #[inline]
     pub fn new(string: &str, span: Span) -> Ident {
         match span.repr {
-            SpanRepr::Own(place) => Ident::own(made(Own::new(Global, string, place), string)),
+            SpanRepr::Own(kept) => Ident::own(made(Own::new(string, kept.place()), string)),
             SpanRepr::Compiler(span) => inside(string, span),
         }
     }
@@ -60,9 +59,9 @@ impl Ident {
     #[inline]
     pub fn new_raw(string: &str, span: Span) -> Ident {
         match span.repr {
-            SpanRepr::Own(place) => Ident::own(made(Own::new_raw(Global, string, place), string)),
+            SpanRepr::Own(kept) => Ident::own(made(Own::new_raw(string, kept.place()), string)),
             SpanRepr::Compiler(span) => {
-                made(Own::new_raw(Global, string, Place::call_site()), string);
+                made(Own::new_raw(string, Place::call_site()), string);
                 Ident::compiler(proc_macro::Ident::new_raw(string, span))
             }
         }
@@ -81,7 +80,7 @@ impl Ident {
 #[cold]
 #[track_caller]
 fn inside(name: &str, span: proc_macro::Span) -> Ident {
-    made(Own::new(Global, name, Place::call_site()), name);
+    made(Own::new(name, Place::call_site()), name);
     Ident::compiler(proc_macro::Ident::new(name, span))
 }
 
@@ -104,6 +103,7 @@ fn refused(error: IdentError, name: &str) -> ! {
         IdentError::Invalid => panic!("{name:?} is not a valid Ident"),
         IdentError::Reserved => panic!("`r#{name}` cannot be a raw identifier"),
         IdentError::Memory(never) => match never {},
+        _ => unreachable!("each case is above"),
     }
 }
 

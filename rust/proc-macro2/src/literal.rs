@@ -5,7 +5,7 @@ use crate::span::Repr as SpanRepr;
 use crate::{compiler, print, LexError, Span};
 use proved::pm_span::Span as Place;
 use proved::pm_token::Literal as Own;
-use proved::shim::{self, alloc::Global};
+use proved::shim;
 #[cfg(procmacro2_semver_exempt)]
 use proved::{literal_escaper::EscapeError, pm_token::ConversionErrorKind as OwnErrorKind};
 use std::ffi::CStr;
@@ -34,7 +34,7 @@ impl Clone for Literal {
     #[inline(always)]
     fn clone(&self) -> Literal {
         match &self.repr {
-            Repr::Own(literal) => Literal::own(sure(shim::clone::Clone::clone(literal))),
+            Repr::Own(literal) => Literal::own(literal.clone()),
             Repr::Compiler(literal) => compiler::inside_alone(|| Literal::compiler(literal.clone())),
         }
     }
@@ -48,7 +48,7 @@ macro_rules! literals {
             if compiler::inside() {
                 compiler::inside_alone(|| Literal::compiler(proc_macro::Literal::$name($value)))
             } else {
-                Literal::own(sure(Own::$name(Global, $given)))
+                Literal::own(sure(Own::$name($given)))
             }
         }
     )*};
@@ -142,7 +142,7 @@ impl Literal {
 
     /// The literal of a text that is one, with no place.
     fn made(text: &str) -> Literal {
-        Literal::own(sure(Own::from_str_unchecked(Global, text)))
+        Literal::own(sure(Own::from_str_unchecked(text)))
     }
 
     /// The literal of a number of tenths, which has at most nine digits before the dot.
@@ -190,19 +190,19 @@ impl Literal {
     /// ```
     #[cfg(procmacro2_semver_exempt)]
     pub fn str_value(&self) -> Result<String, ConversionErrorKind> {
-        self.value(|literal| literal.str_value(Global)).map(|value| value.into_rust())
+        self.value(|literal| literal.str_value())
     }
 
     /// The value of a C string literal, with the zero that ends it.
     #[cfg(procmacro2_semver_exempt)]
     pub fn cstr_value(&self) -> Result<Vec<u8>, ConversionErrorKind> {
-        self.value(|literal| literal.cstr_value(Global)).map(|value| value.into_rust())
+        self.value(|literal| literal.cstr_value())
     }
 
     /// The value of a byte string literal.
     #[cfg(procmacro2_semver_exempt)]
     pub fn byte_str_value(&self) -> Result<Vec<u8>, ConversionErrorKind> {
-        self.value(|literal| literal.byte_str_value(Global)).map(|value| value.into_rust())
+        self.value(|literal| literal.byte_str_value())
     }
 
     /// What the proved literal of its text answers.
@@ -210,12 +210,13 @@ impl Literal {
     fn value<T>(&self, ask: impl FnOnce(&Own) -> Result<T, OwnErrorKind>) -> Result<T, ConversionErrorKind> {
         let answer = match &self.repr {
             Repr::Own(literal) => ask(literal),
-            Repr::Compiler(literal) => ask(&sure(Own::from_str_unchecked(Global, &literal.to_string()))),
+            Repr::Compiler(literal) => ask(&sure(Own::from_str_unchecked(&literal.to_string()))),
         };
         answer.map_err(|kind| match kind {
             OwnErrorKind::FailedToUnescape(fault) => ConversionErrorKind::FailedToUnescape(fault),
             OwnErrorKind::InvalidLiteralKind => ConversionErrorKind::InvalidLiteralKind,
             OwnErrorKind::Memory(never) => match never {},
+            _ => unreachable!("each case is above"),
         })
     }
 
@@ -266,7 +267,7 @@ impl FromStr for Literal {
         let read = if cfg!(span_locations) {
             map::with(|map| Own::from_str(repr, map)).ok()
         } else {
-            Own::is_whole(repr).then(|| sure(Own::from_str_unchecked(Global, repr)))
+            Own::is_whole(repr).then(|| sure(Own::from_str_unchecked(repr)))
         };
         read.map(Literal::own).ok_or_else(|| LexError::own(Place::call_site()))
     }

@@ -3,11 +3,11 @@ pub(crate) use proved::pm_span::SourceMap;
 use proved::pm_span::Span;
 use proved::pm_stream::TokenStream;
 use proved::pm_token::ParseError;
-use proved::shim::alloc::{AllocError, Global};
+use proved::shim::alloc::AllocError;
 use std::cell::RefCell;
 
 thread_local! {
-    static MAP: RefCell<SourceMap> = RefCell::new(SourceMap::new(Global));
+    static MAP: RefCell<SourceMap> = RefCell::new(SourceMap::new());
 }
 
 /// What a call answers that can only run out of memory, which ends the process here.
@@ -25,12 +25,13 @@ pub(crate) fn place_of(error: ParseError) -> Span {
         ParseError::Lex(fault) if cfg!(span_locations) => fault.span(),
         ParseError::Lex(_) | ParseError::MapFull => Span::call_site(),
         ParseError::Memory(never) => match never {},
+        _ => unreachable!("each case is above"),
     }
 }
 
 /// Whether a text can be read. It becomes no file of the map.
 pub(crate) fn is_readable(text: &str) -> bool {
-    TokenStream::parse_unmapped(Global, text).is_ok()
+    TokenStream::parse_unmapped(text).is_ok()
 }
 
 /// The trees of a text, which with span locations becomes the next file of the thread's map.
@@ -38,7 +39,7 @@ pub(crate) fn read(text: &str) -> Result<TokenStream, ParseError> {
     if cfg!(span_locations) {
         with(|map| TokenStream::from_str(text, map))
     } else {
-        TokenStream::parse_unmapped(Global, text)
+        TokenStream::parse_unmapped(text)
     }
 }
 

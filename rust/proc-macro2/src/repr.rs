@@ -1,7 +1,5 @@
 //! Tokens of two kinds: the compiler's, inside macros, and those of the proved functions.
 use crate::compiler;
-use crate::map::sure;
-use proved::shim;
 
 /// A token, a stream or an error of the compiler's or of the proved functions.
 pub(crate) enum Repr<C, O> {
@@ -26,11 +24,11 @@ impl<C, O> Repr<C, O> {
     }
 }
 
-impl<C: Clone, O: shim::clone::Clone> Clone for Repr<C, O> {
+impl<C: Clone, O: Clone> Clone for Repr<C, O> {
     #[inline(always)]
     fn clone(&self) -> Repr<C, O> {
         match self {
-            Repr::Own(token) => Repr::Own(sure(token.clone())),
+            Repr::Own(token) => Repr::Own(token.clone()),
             Repr::Compiler(token) => Repr::Compiler(compiler::inside_alone(|| token.clone())),
         }
     }
@@ -61,7 +59,7 @@ macro_rules! token {
             pub fn set_span(&mut self, span: Span) {
                 match (&mut self.repr, span.repr) {
                     (Repr::Compiler(token), SpanRepr::Compiler(span)) => token.set_span(span),
-                    (Repr::Own(token), SpanRepr::Own(span)) => token.set_span(span),
+                    (Repr::Own(token), SpanRepr::Own(kept)) => token.set_span(kept.place()),
                     _ => compiler::mixed(),
                 }
             }

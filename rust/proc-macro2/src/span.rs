@@ -24,7 +24,34 @@ pub struct Span {
 #[derive(Clone, Copy)]
 pub(crate) enum Repr {
     Compiler(proc_macro::Span),
-    Own(Place),
+    Own(Kept),
+}
+
+/// A place as it is kept. Without span locations nobody can ask for it, and then it takes no memory: a span takes 4
+/// bytes in place of 12.
+#[derive(Clone, Copy)]
+pub(crate) struct Kept {
+    #[cfg(span_locations)]
+    place: Place,
+}
+
+impl Kept {
+    #[inline]
+    fn new(_place: Place) -> Kept {
+        Kept {
+            #[cfg(span_locations)]
+            place: _place,
+        }
+    }
+
+    /// The place, or none where it wasn't kept.
+    #[inline]
+    pub(crate) fn place(self) -> Place {
+        #[cfg(span_locations)]
+        return self.place;
+        #[cfg(not(span_locations))]
+        Place::call_site()
+    }
 }
 
 impl Span {
@@ -33,7 +60,7 @@ impl Span {
     }
 
     pub(crate) fn own(place: Place) -> Span {
-        Span { repr: Repr::Own(place) }
+        Span { repr: Repr::Own(Kept::new(place)) }
     }
 
     fn site(compiler: impl FnOnce() -> proc_macro::Span) -> Span {
@@ -67,7 +94,7 @@ impl Span {
     pub fn resolved_at(&self, other: Span) -> Span {
         match (self.repr, other.repr) {
             (Repr::Compiler(place), Repr::Compiler(names)) => Span::compiler(place.resolved_at(names)),
-            (Repr::Own(place), Repr::Own(names)) => Span::own(place.resolved_at(names)),
+            (Repr::Own(place), Repr::Own(names)) => Span::own(place.place().resolved_at(names.place())),
             _ => compiler::mixed(),
         }
     }
@@ -101,7 +128,7 @@ impl Span {
     fn ask<T>(&self, compiler: fn(proc_macro::Span) -> T, own: fn(Place, &mut map::SourceMap) -> T) -> T {
         match self.repr {
             Repr::Compiler(span) => compiler(span),
-            Repr::Own(place) => map::ask(place, |map| own(place, map)),
+            Repr::Own(kept) => map::ask(kept.place(), |map| own(kept.place(), map)),
         }
     }
 
@@ -144,7 +171,7 @@ impl Span {
     /// read, and `<unspecified>` for no place.
     #[cfg(span_locations)]
     pub fn file(&self) -> String {
-        self.ask(|span| span.file(), |place, map| sure(place.file(map)).into_rust())
+        self.ask(|span| span.file(), |place, map| sure(place.file(map)))
     }
 
     /// The path of the file on disk that the span is in. Outside of macros there is none.
@@ -174,6 +201,7 @@ impl Span {
     pub fn join(&self, other: Span) -> Option<Span> {
         match (self.repr, other.repr) {
             (Repr::Own(place), Repr::Own(other)) if cfg!(span_locations) => {
+                let (place, other) = (place.place(), other.place());
                 // Each panics where the map lacks it.
                 map::ask(other, |_| ());
                 map::ask(place, |map| place.join(other, map)).map(Span::own)
@@ -190,7 +218,7 @@ impl Span {
     #[cfg(procmacro2_semver_exempt)]
     #[allow(clippy::should_implement_trait)]
     pub fn eq(&self, other: &Span) -> bool {
-        matches!((self.repr, other.repr), (Repr::Own(place), Repr::Own(other)) if place.eq(&other))
+        matches!((self.repr, other.repr), (Repr::Own(place), Repr::Own(other)) if place.place().eq(&other.place()))
     }
 
     /// The source text of the span, with its white space and comments. There is none without span locations, nor for
@@ -198,8 +226,8 @@ impl Span {
     pub fn source_text(&self) -> Option<String> {
         match self.repr {
             Repr::Compiler(span) => span.source_text(),
-            Repr::Own(place) if cfg!(span_locations) => {
-                map::ask(place, |map| sure(place.source_text(map))).map(|text| text.into_rust())
+            Repr::Own(kept) if cfg!(span_locations) => {
+                map::ask(kept.place(), |map| sure(kept.place().source_text(map)))
             }
             Repr::Own(_) => None,
         }
@@ -218,7 +246,7 @@ impl Debug for Span {
     fn fmt(&self, f: &mut fmt::Formatter) -> fmt::Result {
         match self.repr {
             Repr::Compiler(span) => span.fmt(f),
-            Repr::Own(place) if cfg!(span_locations) => place.fmt(f),
+            Repr::Own(kept) if cfg!(span_locations) => kept.place().fmt(f),
             Repr::Own(_) => f.write_str("Span"),
         }
     }
@@ -228,7 +256,7 @@ impl Span {
     /// Shows it as a field, where it says anything.
     pub(crate) fn show(self, debug: &mut fmt::DebugStruct) {
         match self.repr {
-            Repr::Own(place) if cfg!(span_locations) => show_span(debug, place),
+            Repr::Own(kept) if cfg!(span_locations) => show_span(debug, kept.place()),
             Repr::Own(_) => {}
             Repr::Compiler(span) => {
                 debug.field("span", &span);

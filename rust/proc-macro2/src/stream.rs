@@ -5,7 +5,6 @@ use crate::print::ShownStream;
 use crate::repr::{show, Repr};
 use crate::{Group, Ident, LexError, Literal, Punct, TokenTree};
 use proved::pm_stream::{parts, token_stream::IntoIter as OwnIter, TokenStream as Own, TokenTree as OwnTree};
-use proved::shim::alloc::Global;
 use std::fmt::{self, Debug, Display};
 use std::str::FromStr;
 
@@ -31,7 +30,7 @@ impl TokenStream {
         if compiler::inside() {
             return inside_alone(|| TokenStream::compiler(proc_macro::TokenStream::new()));
         }
-        TokenStream::own(Own::new(Global))
+        TokenStream::own(Own::new())
     }
 
     pub(crate) fn compiler(stream: proc_macro::TokenStream) -> TokenStream {
@@ -60,8 +59,9 @@ impl TokenStream {
     }
 
     /// Puts a tree and what follows it at the end.
+    // One function for iterators of all kinds, so that a caller has no loop of its own to compile.
     #[inline(never)]
-    fn push_all(&mut self, tree: TokenTree, more: impl Iterator<Item = TokenTree>) {
+    fn push_all(&mut self, tree: TokenTree, more: &mut dyn Iterator<Item = TokenTree>) {
         self.push(tree);
         more.for_each(|tree| self.push(tree));
     }
@@ -166,7 +166,7 @@ impl Extend<TokenTree> for TokenStream {
         let Some(first) = trees.next() else { return };
         self.push(first);
         let Some(second) = trees.next() else { return };
-        self.push_all(second, trees);
+        self.push_all(second, &mut trees);
     }
 }
 
@@ -237,7 +237,7 @@ impl IntoIterator for TokenStream {
     fn into_iter(self) -> IntoIter {
         let left = match self.repr {
             Repr::Compiler(stream) => Repr::Compiler(stream.finish().into_iter()),
-            Repr::Own(stream) => Repr::Own(sure(stream.into_iter())),
+            Repr::Own(stream) => Repr::Own(stream.into_iter()),
         };
         IntoIter { left }
     }

@@ -11,6 +11,7 @@ mod line_index;
 pub mod location;
 mod lookups;
 pub mod parts;
+mod plain;
 pub mod source_map;
 pub mod spans;
 mod text;

@@ -5,7 +5,7 @@
 //! back to the stream with its marks respaced, whatever its rules choose: the crate `layout` promises that of every
 //! layout.
 
-use crate::shim::prelude::{Clone, String};
+use crate::shim::prelude::TryClone;
 
 mod atoms;
 mod chains;
@@ -18,7 +18,6 @@ use crate::layout::{Chooser, Gap, LayoutError, Place, text_with};
 use printer::Printer;
 use crate::proc_macro2::TokenStream;
 use crate::quoting::{Quote, QuoteError, laws};
-use crate::shim::alloc::Global;
 
 impl<'a> Chooser for Printer<'a> {
     #[inline(always)]
@@ -43,19 +42,19 @@ impl<'a> Chooser for Printer<'a> {
 /// memory ran out. It takes time in proportion to the length of the text.
 ///
 /// `fn f(){g(1)}` is written over three lines, the second of which is `    g(1)`.
-pub fn to_pretty_string(alloc: Global, stream: &TokenStream) -> Result<String, QuoteError>
+pub fn to_pretty_string(stream: &TokenStream) -> Result<String, QuoteError>
 {
     laws::respacing();
-    match lay_out(alloc, stream) {
+    match lay_out(stream) {
         Ok(text) => return Ok(text),
         Err(LayoutError::Memory(error)) => return Err(QuoteError::Memory(error)),
         Err(LayoutError::NotWellSpaced) => {}
         Err(LayoutError::Write(_)) => unreachable!(),
     }
-    let mut quote = Quote::new(alloc);
-    quote.push_stream(stream.clone()?)?;
+    let mut quote = Quote::new();
+    quote.push_stream(stream.try_clone()?)?;
     let stream = quote.finish()?;
-    match lay_out(alloc, &stream) {
+    match lay_out(&stream) {
         Ok(text) => Ok(text),
         Err(LayoutError::Memory(error)) => Err(QuoteError::Memory(error)),
         Err(LayoutError::NotWellSpaced | LayoutError::Write(_)) => unreachable!(),
@@ -63,10 +62,10 @@ pub fn to_pretty_string(alloc: Global, stream: &TokenStream) -> Result<String, Q
 }
 
 // The tokens of a stream as text for people, if it is well spaced.
-fn lay_out(alloc: Global, stream: &TokenStream) -> Result<String, LayoutError>
+fn lay_out(stream: &TokenStream) -> Result<String, LayoutError>
 {
-    let mut printer = Printer::new(alloc, stream)?;
-    let text = text_with(stream, &mut printer, alloc)?;
+    let mut printer = Printer::new(stream)?;
+    let text = text_with(stream, &mut printer)?;
     printer.finish()?;
     Ok(text)
 }

@@ -8,6 +8,7 @@ mod fill;
 mod holes;
 mod interpolation;
 pub mod laws;
+mod owned;
 mod quote;
 mod respace;
 mod template;

@@ -3,8 +3,11 @@
 //! The proofs of the erased bodies take the contracts of Rattle's `std` for granted. So each item here has to meet the
 //! contract of the item whose name it bears, and its comment says what that is. Most are a line over Rust's `std`.
 //!
+//! Lists and texts are Rust's. What can fail of them in Rattle alone has names of its own, as `push_fallibly`.
+//!
 //! In Rattle a call that takes memory can fail. Here Rust's allocator ends the process where memory runs out, so that
 //! the two errors of memory have no value.
+#![allow(clippy::new_without_default, clippy::should_implement_trait)]
 
 pub mod alloc;
 pub mod boxed;
@@ -22,20 +25,23 @@ pub mod string;
 pub mod unicode;
 pub mod vec;
 
-pub use crate::display_by_shim as display;
+pub use crate::{
+    copied_by_shim as copied, display_by_shim as display, extended_by_shim as extended, gathered_by_shim as gathered,
+};
 #[cfg(feature = "characters")]
 pub use characters::{ucd_derived, ucd_props, ucd_script, unicode_normalization, unicode_width};
+#[cfg(feature = "programs")]
 pub use process::{env, fs};
 pub use unicode::{ucd_category, unicode_ident};
 
 /// What is in scope in every source of Rattle, in so far as it isn't in Rust or is another there.
 pub mod prelude {
     pub use super::boxed::Box;
-    pub use super::clone::Clone;
-    pub use super::iter::{Extend, FromIterator};
+    pub use super::clone::TryClone;
+    pub use super::iter::{TryExtend, TryFromIterator};
     pub use super::process::HostRuntime;
-    pub use super::string::String;
-    pub use super::vec::Vec;
+    pub use super::string::GrowText;
+    pub use super::vec::{Grow, GrowList};
     pub use crate::format_by_shim as format;
 }
 
@@ -44,9 +50,24 @@ pub mod clone {
     use super::alloc::AllocError;
 
     /// A value that can be copied, which takes memory. The contract of an `impl` says what the copy is.
-    pub trait Clone: Sized {
+    pub trait TryClone: Sized {
         /// A copy of the value.
-        fn clone(&self) -> Result<Self, AllocError>;
+        fn try_clone(&self) -> Result<Self, AllocError>;
+    }
+
+    /// Gives Rust's `Clone` to a type that has Rattle's.
+    #[doc(hidden)]
+    #[macro_export]
+    macro_rules! copied_by_shim {
+        ($name:ident) => {
+            impl ::core::clone::Clone for $name {
+                #[inline]
+                fn clone(&self) -> $name {
+                    let Ok(copy) = $crate::shim::clone::TryClone::try_clone(self);
+                    copy
+                }
+            }
+        };
     }
 }
 
@@ -55,18 +76,42 @@ pub mod iter {
     use super::alloc::AllocError;
 
     /// A collection that is made of items.
-    pub trait FromIterator<T>: Sized {
-        /// Where its memory comes from.
-        type Alloc;
-
+    pub trait TryFromIterator<T>: Sized {
         /// The collection of these items, in order.
-        fn from_iter<I: IntoIterator<Item = T>>(alloc: Self::Alloc, items: I) -> Result<Self, AllocError>;
+        fn try_from_iter<I: IntoIterator<Item = T>>(items: I) -> Result<Self, AllocError>;
     }
 
     /// A collection to which items are added.
-    pub trait Extend<T> {
+    pub trait TryExtend<T> {
         /// Adds these items, in order.
-        fn extend<I: IntoIterator<Item = T>>(&mut self, items: I) -> Result<(), AllocError>;
+        fn try_extend<I: IntoIterator<Item = T>>(&mut self, items: I) -> Result<(), AllocError>;
+    }
+
+    /// Gives Rust's `FromIterator` to a type that has Rattle's.
+    #[doc(hidden)]
+    #[macro_export]
+    macro_rules! gathered_by_shim {
+        ($name:ident, $item:ident) => {
+            impl ::core::iter::FromIterator<$item> for $name {
+                fn from_iter<I: IntoIterator<Item = $item>>(items: I) -> $name {
+                    let Ok(made) = $crate::shim::iter::TryFromIterator::try_from_iter(items);
+                    made
+                }
+            }
+        };
+    }
+
+    /// Gives Rust's `Extend` to a type that has Rattle's.
+    #[doc(hidden)]
+    #[macro_export]
+    macro_rules! extended_by_shim {
+        ($name:ident, $item:ident) => {
+            impl ::core::iter::Extend<$item> for $name {
+                fn extend<I: IntoIterator<Item = $item>>(&mut self, items: I) {
+                    let Ok(()) = $crate::shim::iter::TryExtend::try_extend(self, items);
+                }
+            }
+        };
     }
 }
 

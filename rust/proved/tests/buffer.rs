@@ -3,7 +3,6 @@
 use proved::pm_span::parts::bounds;
 use proved::pm_token::Delimiter;
 use proved::proc_macro2::{Spacing, TokenStream, TokenTree};
-use proved::shim::alloc::Global;
 use proved::token_buffer::{BufferError, Cursor, LiteralText, TokenBuffer, TokenText};
 use std::fs;
 use std::path::{Path, PathBuf};
@@ -45,7 +44,7 @@ fn compare(mut cursor: Cursor<'_>, trees: &[TokenTree]) -> usize {
                 assert!(cursor.literal().is_some() && cursor.any_group().is_none());
             }
             (TokenTree::Literal(literal), TokenText::Literal(LiteralText::Doc(text))) => {
-                assert_eq!(literal.str_value(Global).map(|value| value.to_string()).ok(), Some(text.to_string()));
+                assert_eq!(literal.str_value().map(|value| value.to_string()).ok(), Some(text.to_string()));
             }
             (TokenTree::Group(group), TokenText::Group(delimiter, inside)) => {
                 assert_eq!(group.delimiter(), delimiter);
@@ -67,18 +66,18 @@ fn every_source_is_walked() {
     let mut count = 0;
     for path in found {
         let text = fs::read_to_string(path).expect("it is read");
-        let stream = TokenStream::parse_unmapped(Global, &text);
-        match TokenBuffer::new(Global, &text) {
+        let stream = TokenStream::parse_unmapped(&text);
+        match TokenBuffer::new(&text) {
             Ok(buffer) => {
                 let stream = stream.expect("it parses");
-                let made = buffer.begin().to_stream(Global).expect("there is memory");
+                let made = buffer.begin().to_stream().expect("there is memory");
                 assert_eq!(format!("{made:?}"), format!("{stream:?}"));
                 count += compare(buffer.begin(), stream.trees());
             }
             Err(BufferError::Parse(error)) => {
                 assert_eq!(format!("{error:?}"), format!("{:?}", stream.expect_err("it has a fault")));
             }
-            Err(BufferError::TooLong) => panic!("it is too long"),
+            Err(error) => panic!("{error}"),
         }
     }
     assert!(count > 100_000, "only {count} trees");

@@ -3,7 +3,6 @@
 //! The latter is the program `tokens` at `crates/tokens/out/tokens`, or where the variable `TOKENS` says.
 
 use proved::proc_macro2::{ParseError, SourceMap, TokenStream};
-use proved::shim::alloc::Global;
 use std::env;
 use std::fs;
 use std::path::{Path, PathBuf};
@@ -35,7 +34,7 @@ fn all_sources() -> Vec<PathBuf> {
 
 /// What `tokens print` says of a text: its standard output, its errors and its status.
 fn printed(text: &str) -> (String, String, i32) {
-    let mut map = SourceMap::new(Global);
+    let mut map = SourceMap::new();
     match TokenStream::from_str(text, &mut map) {
         Ok(stream) => (format!("{stream}\n"), String::new(), 0),
         Err(ParseError::Lex(fault)) => {
@@ -79,11 +78,11 @@ fn each_source_is_printed_as_by_the_build_of_rattle() {
 fn what_is_printed_is_read_as_the_same_trees() {
     for path in all_sources() {
         let text = fs::read_to_string(&path).expect("a source is a text");
-        let Ok(stream) = TokenStream::parse_unmapped(Global, &text) else {
+        let Ok(stream) = TokenStream::parse_unmapped(&text) else {
             continue;
         };
         assert!(stream.is_well_spaced(), "{}", path.display());
-        let back = TokenStream::parse_unmapped(Global, &stream.to_string()).expect("it was printed from trees");
+        let back = TokenStream::parse_unmapped(&stream.to_string()).expect("it was printed from trees");
         assert!(stream.same_tokens(&back), "{}", path.display());
     }
 }

@@ -15,28 +15,24 @@ use proved::proc_macro2::{
     pieces, reprint, Delimiter, Ident, Literal, PieceKind, SourceMap, Span, TokenStream, TokenTree,
 };
 use proved::quoting::{Hole, Quote};
-use proved::shim::alloc::Global;
-use proved::shim::prelude::Clone as _;
 use proved::token_buffer::TokenBuffer;
 
 const TEXT: &str = "fn f(x: u8) -> u8 { x + 1 }";
 
 #[test]
 fn calls_in_place_of_proc_macro2s() {
-    let alloc = Global;
-    let mut map = SourceMap::new(alloc);
+    let mut map = SourceMap::new();
     let stream = TokenStream::from_str(TEXT, &mut map).unwrap();
-    assert_eq!(*reprint(alloc, TEXT).unwrap(), *stream.to_string());
-    let Ok(empty) = TokenStream::from_trees(alloc, []);
-    let mut built = TokenStream::new(alloc);
+    assert_eq!(*reprint(TEXT).unwrap(), *stream.to_string());
+    let Ok(empty) = TokenStream::from_trees([]);
+    let mut built = TokenStream::new();
     assert!(empty.is_empty() && built.same_tokens(&empty));
 
-    let Ok(trees) = stream.into_iter();
+    let trees = stream.into_iter();
     let Ok(()) = built.extend_trees(trees);
     assert_eq!(built.trees().len(), 7);
-    let mut walk = built.walk();
     let mut names = Vec::new();
-    while let Ok(Some(tree)) = walk.next() {
+    for tree in built.walk() {
         if let TokenTree::Ident(name) = tree {
             names.push(name.to_string());
         }
@@ -46,7 +42,7 @@ fn calls_in_place_of_proc_macro2s() {
     let TokenTree::Group(group) = &built.trees()[6] else { panic!("it is the body") };
     let Ok(inside) = group.stream();
     assert!(inside.same_tokens(group.stream_ref()));
-    let Ok(copy) = built.trees()[0].clone();
+    let copy = built.trees()[0].clone();
     let TokenTree::Ident(keyword) = &copy else { panic!("it is a keyword") };
     assert!(keyword.eq_str("fn"));
 
@@ -65,22 +61,21 @@ fn calls_in_place_of_proc_macro2s() {
 
     let literal = Literal::from_str("\"a\"", &mut map).unwrap();
     assert_eq!(literal.text(), "\"a\"");
-    assert_eq!(*literal.str_value(alloc).unwrap(), *"a");
-    let Ok(string) = Literal::string(alloc, "a");
+    assert_eq!(*literal.str_value().unwrap(), *"a");
+    let Ok(string) = Literal::string("a");
     assert_eq!(string.text(), literal.text());
 }
 
 #[test]
 fn calls_in_place_of_quotes_and_syns() {
-    let alloc = Global;
-    let mut map = SourceMap::new(alloc);
-    let name = Ident::new(alloc, "g", Span::call_site()).unwrap();
-    let Ok(name) = TokenStream::from_trees(alloc, [TokenTree::Ident(name)]);
-    let mut quote = Quote::new(alloc);
+    let mut map = SourceMap::new();
+    let name = Ident::new("g", Span::call_site()).unwrap();
+    let Ok(name) = TokenStream::from_trees([TokenTree::Ident(name)]);
+    let mut quote = Quote::new();
     quote.parse("fn #name() {}", &mut map, &[Hole::one("name", &name)]).unwrap();
     assert_eq!(quote.finish().unwrap().to_string(), "fn g () { }");
 
-    let buffer = TokenBuffer::new(alloc, TEXT).unwrap();
+    let buffer = TokenBuffer::new(TEXT).unwrap();
     let (keyword, after) = buffer.begin().ident().unwrap();
     assert_eq!(keyword.text, "fn");
     let (_, after) = after.ident().unwrap();
@@ -89,8 +84,7 @@ fn calls_in_place_of_quotes_and_syns() {
 
 #[test]
 fn calls_in_place_of_syns_items() {
-    let alloc = Global;
-    let mut map = SourceMap::new(alloc);
+    let mut map = SourceMap::new();
     let stream = TokenStream::from_str("#[a] struct S<T: A = B>(T) where T: C;", &mut map).unwrap();
     assert_eq!(parse_file(stream.trees()).unwrap().items.count(), 1);
     let item = parse_type_item(stream.trees()).unwrap();
@@ -101,23 +95,22 @@ fn calls_in_place_of_syns_items() {
     assert_eq!(parse_param(params).unwrap().0.kind, ParamKind::Type);
 
     let path = TokenStream::from_str("Clone", &mut map).unwrap();
-    assert_eq!(impl_generics(alloc, &item).unwrap().to_string(), "< T : A >");
-    let header = impl_header(alloc, &item, &path).unwrap();
+    assert_eq!(impl_generics(&item).unwrap().to_string(), "< T : A >");
+    let header = impl_header(&item, &path).unwrap();
     assert_eq!(header.to_string(), "impl < T : A > Clone for S < T > where T : C");
-    assert_eq!(type_generics(alloc, &item).unwrap().to_string(), "< T >");
-    assert_eq!(where_clause(alloc, &item).unwrap().to_string(), "where T : C");
-    let clause = where_clause_with_bound(alloc, &item, &path).unwrap();
-    let header = impl_header_where(alloc, &item, &path, &clause).unwrap();
+    assert_eq!(type_generics(&item).unwrap().to_string(), "< T >");
+    assert_eq!(where_clause(&item).unwrap().to_string(), "where T : C");
+    let clause = where_clause_with_bound(&item, &path).unwrap();
+    let header = impl_header_where(&item, &path, &clause).unwrap();
     assert_eq!(header.to_string(), "impl < T : A > Clone for S < T > where T : C , T : Clone");
-    let Ok(told) = compile_error(alloc, "a", item.name.span());
+    let Ok(told) = compile_error("a", item.name.span());
     assert_eq!(told.to_string(), ":: core :: compile_error ! { \"a\" }");
-    let Ok(told) = parse_type_item(path.trees()).unwrap_err().to_compile_error(alloc);
+    let Ok(told) = parse_type_item(path.trees()).unwrap_err().to_compile_error();
     assert_eq!(told.to_string(), ":: core :: compile_error ! { \"not expected here\" }");
 }
 
 #[test]
 fn calls_in_place_of_rustc_lexers_and_prettypleases() {
-    let alloc = Global;
     let mut walk = pieces("a+=1");
     let first = walk.next_piece().unwrap();
     assert_eq!((first.text, first.piece.bytes), ("a", 1));
@@ -125,8 +118,8 @@ fn calls_in_place_of_rustc_lexers_and_prettypleases() {
     assert_eq!(mark.piece.kind, PieceKind::Mark { mark: '+', joint: true });
     assert!(unescape_str("a").all(|(_, read)| read == Ok('a')));
 
-    let mut map = SourceMap::new(alloc);
+    let mut map = SourceMap::new();
     let stream = TokenStream::from_str(TEXT, &mut map).unwrap();
-    let text = to_pretty_string(alloc, &stream).unwrap();
+    let text = to_pretty_string(&stream).unwrap();
     assert_eq!(*text, *"fn f(x: u8) -> u8 {\n    x + 1\n}\n");
 }

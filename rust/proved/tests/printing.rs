@@ -1,4 +1,4 @@
-//! Rust's `Display` of each type that has one: the text that Rattle's writes, whatever the writer does.
+//! Rust's `Display` of each type that has one writes the text that Rattle's writes, also into a writer that fails.
 
 use proved::declarations::Fault;
 use proved::item_headers::HeaderError;
@@ -7,12 +7,11 @@ use proved::proc_macro2::{
     Delimiter, Group, Ident, IdentError, Literal, ParseError, Punct, Spacing, Span, TokenStream,
 };
 use proved::quoting::{QuoteError, TemplateError};
-use proved::shim::alloc::Global;
 use proved::shim::fmt;
 use proved::token_buffer::{BufferError, TokenBuffer};
 use std::fmt::{Error, Result, Write};
 
-/// A writer with room for so many bytes, which refuses a text for which it has none, or takes its front.
+/// A writer with room for `left` more bytes. It rejects a text that doesn't fit, or takes the front of it.
 struct Room {
     left: usize,
     takes_fronts: bool,
@@ -70,7 +69,7 @@ fn print_to_all(value: &impl fmt::Display, wanted: &str) -> usize {
 }
 
 fn parsed(text: &str) -> TokenStream {
-    TokenStream::parse_unmapped(Global, text).expect("the text parses")
+    TokenStream::parse_unmapped(text).expect("the text parses")
 }
 
 /// Prints a stream, its trees and groups of it by each way there is.
@@ -78,7 +77,7 @@ fn print_stream(text: &str) {
     let stream = parsed(text);
     let most_calls = |text: &str| text.len() / 64 + 1;
     assert!(print_to_all(&stream, text) <= most_calls(text));
-    let buffer = TokenBuffer::new(Global, text).expect("the text parses");
+    let buffer = TokenBuffer::new(text).expect("the text parses");
     assert!(print_to_all(&buffer.begin(), text) <= most_calls(text));
     let shown = [
         (Delimiter::Parenthesis, format!("({text})")),
@@ -91,7 +90,7 @@ fn print_stream(text: &str) {
         assert!(print_to_all(&group, &text) <= most_calls(&text));
         let tree = TokenTree::Group(group);
         assert!(print_to_all(&tree, &text) <= most_calls(&text));
-        let Ok(alone) = TokenStream::from_tree(Global, tree);
+        let Ok(alone) = TokenStream::from_tree(tree);
         assert!(print_to_all(&alone, &text) <= most_calls(&text));
     }
 }
@@ -114,13 +113,13 @@ fn streams_groups_and_cursors_are_printed() {
 
 #[test]
 fn tokens_are_printed() {
-    let Ok(text) = Literal::string(Global, &"a\"é".repeat(100));
+    let Ok(text) = Literal::string(&"a\"é".repeat(100));
     let texts = text.to_string();
     for raw in [false, true] {
         let ident = if raw {
-            Ident::new_raw(Global, "größe", Span::call_site())
+            Ident::new_raw("größe", Span::call_site())
         } else {
-            Ident::new(Global, "größe", Span::call_site())
+            Ident::new("größe", Span::call_site())
         };
         let ident = ident.expect("it is a name");
         let wanted = if raw { "r#größe" } else { "größe" };
@@ -132,13 +131,13 @@ fn tokens_are_printed() {
     let mark = Punct::new('+', Spacing::Joint);
     print_to_all(&mark, "+");
     print_to_all(&TokenTree::Punct(mark), "+");
-    let Ok(alone) = TokenStream::from_tree(Global, TokenTree::Punct(Punct::new('+', Spacing::Joint)));
+    let Ok(alone) = TokenStream::from_tree(TokenTree::Punct(Punct::new('+', Spacing::Joint)));
     assert_eq!(print_to_all(&alone, "+"), 1);
 }
 
 #[test]
 fn errors_are_printed() {
-    let fault = TokenStream::parse_unmapped(Global, "(").expect_err("nothing closes it");
+    let fault = TokenStream::parse_unmapped("(").expect_err("nothing closes it");
     print_to_all(&fault, "cannot parse string into token stream");
     print_to_all(&ParseError::MapFull, &ParseError::MapFull.to_string());
     print_to_all(&IdentError::Number, &IdentError::Number.to_string());
@@ -154,7 +153,7 @@ fn errors_are_printed() {
 fn nothing_is_written_of_nothing() {
     let nothing = parsed("");
     let none = Group::new(Delimiter::None, parsed(""));
-    let buffer = TokenBuffer::new(Global, " ").expect("it has no tokens");
+    let buffer = TokenBuffer::new(" ").expect("it has no tokens");
     let mut full = Room::new(0, false);
     assert_eq!(write!(full, "{nothing}{none}{}", buffer.begin()), Ok(()));
     assert_eq!((full.calls, full.text.as_str()), (0, ""));

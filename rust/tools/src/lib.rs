@@ -1,10 +1,9 @@
-//! What the programs `tokens`, `highlight`, `find_calls`, `pretty`, `rust_check`, `same`,
-//! `indent` and `outline` call.
+//! The program `tokens`, and what its [commands] call.
 //!
-//! Each module is a crate of `crates/`, made into plain Rust by `rust/erase` as those of [`proved`] are. A program's
-//! `main` is by hand, in `src/bin`: what `main.rt` of its crate does, over the streams and words of
-//! [`proved::shim::process`].
+//! Each module but `commands` is a crate of `crates/`, made into plain Rust by `rust/erase` as those of [`proved`] are.
 #![forbid(unsafe_code)]
+
+pub mod commands;
 
 // What only clauses name is unused in an erased text, and code after an error of memory is never run. Its style is that
 // of Rattle's text.
@@ -100,6 +99,8 @@ pub mod outline {
     mod answer;
     mod entries;
     pub mod files;
+    mod level;
+    mod levels;
     mod lines;
     mod names;
     pub mod options;

@@ -3,8 +3,6 @@
 //! `workloads JOB SEED SIZE` reads the items of which it makes them from standard input, where a form feed stands
 //! between two.
 #![forbid(unsafe_code)]
-
-use proved::shim::alloc::Global;
 use std::env;
 use std::io::{self, Read, Write};
 use workloads::digest::Digest;
@@ -41,12 +39,12 @@ fn run(job: &str, seed: u64, size: u64, items: &[&str], digest: &mut Digest) -> 
     let mut random = Random::new(seed);
     for job in jobs {
         match *job {
-            "read" => reading::run(Global, &mut random, size, items, digest),
-            "generate" => generating::run(Global, &mut random, size, items, digest),
-            "prettify" => prettifying::run(Global, &mut random, size, items, digest),
-            "list" => listing::run(Global, &mut random, size, items, digest),
-            "edit" => editing::run(Global, &mut random, size, items, digest),
-            "awkward" => awkward::run(Global, &mut random, size, items, digest),
+            "read" => reading::run(&mut random, size, items, digest),
+            "generate" => generating::run(&mut random, size, items, digest),
+            "prettify" => prettifying::run(&mut random, size, items, digest),
+            "list" => listing::run(&mut random, size, items, digest),
+            "edit" => editing::run(&mut random, size, items, digest),
+            "awkward" => awkward::run(&mut random, size, items, digest),
             _ => Err(Fail::Usage),
         }?;
     }

@@ -2,8 +2,6 @@
 use proc_macro2::{Delimiter, Group, Span, TokenStream, TokenTree};
 use proved_bridge::proved::pm_stream::{Group as OwnGroup, TokenStream as OwnStream, TokenTree as OwnTree};
 use proved_bridge::proved::pm_token::Delimiter as OwnDelimiter;
-use proved_bridge::proved::shim::alloc::Global;
-use proved_bridge::proved::shim::clone::Clone as _;
 use proved_bridge::{from_proved, to_proved, Spans};
 
 /// Leaves an item as it is, after it went over to a proved stream and came back.
@@ -34,20 +32,20 @@ fn shown(stream: TokenStream) -> String {
 pub fn more(_: proc_macro::TokenStream, item: proc_macro::TokenStream) -> proc_macro::TokenStream {
     let mut spans = Spans::new();
     let own = to_proved(&item.into(), &mut spans).expect("the compiler's tokens are of the grammar");
-    let constant = OwnStream::parse_unmapped(Global, "const _: &str = \"more\";").expect("it is a text");
+    let constant = OwnStream::parse_unmapped("const _: &str = \"more\";").expect("it is a text");
     from_proved(&with_more(&own, &constant), &spans).expect("they were the compiler's").into()
 }
 
 fn with_more(stream: &OwnStream, constant: &OwnStream) -> OwnStream {
-    let mut out = OwnStream::new(Global);
+    let mut out = OwnStream::new();
     for tree in stream.trees() {
-        let Ok(mut tree) = tree.clone();
+        let mut tree = tree.clone();
         if let OwnTree::Group(group) = &tree {
             let inside = with_more(group.stream_ref(), constant);
-            let Ok(mut front) = constant.clone();
+            let mut front = constant.clone();
             let mut made = match group.delimiter() {
                 OwnDelimiter::Brace => {
-                    let Ok(()) = front.extend_streams([inside]);
+                    front.extend([inside]);
                     OwnGroup::new(OwnDelimiter::Brace, front)
                 }
                 other => OwnGroup::new(other, inside),
@@ -55,7 +53,7 @@ fn with_more(stream: &OwnStream, constant: &OwnStream) -> OwnStream {
             made.set_span(group.span());
             tree = OwnTree::Group(made);
         }
-        let Ok(()) = out.extend_trees([tree]);
+        out.extend([tree]);
     }
     out
 }

@@ -1,13 +1,12 @@
 //! A derive over `proved-bridge`, which needs neither syn nor quote: the parts of the item and templates come from the
 //! proved functions, over whichever `proc-macro2` the project has.
-use proved_bridge::proved::declarations::{
-    compile_error, parse_type_item, AttributeArgs, Attributes, Body, Fault, Fields, Variant, VariantList,
+use proved_bridge::proved::error::{Fault, HeaderError};
+use proved_bridge::proved::items::{
+    compile_error, impl_generics, parse_type_item, type_generics, where_clause, AttributeArgs, Attributes, Body, Fields,
+    Variant, VariantList,
 };
-use proved_bridge::proved::item_headers::{impl_generics, type_generics, where_clause, HeaderError};
-use proved_bridge::proved::proc_macro2::{Group, Literal, SourceMap, Span, TokenStream, TokenTree};
-use proved_bridge::proved::quoting::{Hole, Quote};
-use proved_bridge::proved::shim::alloc::Global;
-use proved_bridge::proved::shim::clone::Clone as _;
+use proved_bridge::proved::quote::{Hole, Quote};
+use proved_bridge::proved::{Group, Literal, SourceMap, Span, TokenStream, TokenTree};
 use proved_bridge::{from_proved, to_proved, NoToken, Spans};
 
 const CODE: &str = "
@@ -23,7 +22,7 @@ struct Refusal(TokenStream);
 
 impl From<Fault> for Refusal {
     fn from(fault: Fault) -> Refusal {
-        let Ok(told) = fault.to_compile_error(Global);
+        let Ok(told) = fault.to_compile_error();
         Refusal(told)
     }
 }
@@ -32,8 +31,8 @@ impl From<HeaderError> for Refusal {
     fn from(error: HeaderError) -> Refusal {
         match error {
             HeaderError::Fault(fault) => Refusal::from(fault),
-            HeaderError::Keyword(_) | HeaderError::Quote(_) => {
-                let Ok(told) = compile_error(Global, "its parameters can't be printed", Span::call_site());
+            other => {
+                let Ok(told) = compile_error(&other.to_string(), Span::call_site());
                 Refusal(told)
             }
         }
@@ -41,7 +40,7 @@ impl From<HeaderError> for Refusal {
 }
 
 fn refused<T>(what: &str, span: Span) -> Result<T, Refusal> {
-    let Ok(told) = compile_error(Global, what, span);
+    let Ok(told) = compile_error(what, span);
     Err(Refusal(told))
 }
 
@@ -65,11 +64,10 @@ fn names(item: &TokenStream) -> Result<TokenStream, Refusal> {
         return refused("names are for enums", item.keyword.span());
     };
     let (variants, texts) = variants(body)?;
-    let parameters = impl_generics(Global, &item)?;
-    let arguments = type_generics(Global, &item)?;
-    let clause = where_clause(Global, &item)?;
-    let Ok(name) = item.name.clone();
-    let name = stream(TokenTree::Ident(name));
+    let parameters = impl_generics(&item)?;
+    let arguments = type_generics(&item)?;
+    let clause = where_clause(&item)?;
+    let name = TokenStream::from(item.name.clone());
     let holes = [
         Hole::one("parameters", &parameters),
         Hole::one("name", &name),
@@ -89,36 +87,28 @@ fn variants(body: &Group) -> Result<(Vec<TokenStream>, Vec<TokenStream>), Refusa
         if let Fields::Named(fields) | Fields::Tuple(fields) = variant.fields {
             return refused("a variant has a name alone", fields.span());
         }
-        texts.push(stream(TokenTree::Literal(text(&variant)?)));
-        let Ok(name) = variant.name.clone();
-        names.push(stream(TokenTree::Ident(name)));
+        texts.push(TokenStream::from(text(&variant)?));
+        names.push(TokenStream::from(variant.name.clone()));
     }
     Ok((names, texts))
 }
 
 /// The text of a variant: that of its attribute, or its name.
 fn text(variant: &Variant) -> Result<Literal, Refusal> {
-    for attribute in Attributes::new(variant.attributes).filter(|attribute| attribute.is("name")) {
+    if let Some(attribute) = Attributes::new(variant.attributes).find(|attribute| attribute.is("name")) {
         let AttributeArgs::Value([TokenTree::Literal(text)]) = attribute.args() else {
             return refused("a name is a literal, as in `#[name = \"red\"]`", attribute.group.span());
         };
-        let Ok(text) = text.clone();
-        return Ok(text);
+        return Ok(text.clone());
     }
-    let Ok(text) = Literal::string(Global, &variant.name.to_string());
-    Ok(text)
+    Ok(Literal::from(variant.name.to_string().as_str()))
 }
 
 /// A template with its holes filled: a stream that comes back from its printed text.
 fn filled(template: &str, holes: &[Hole]) -> TokenStream {
-    let mut quote = Quote::new(Global);
-    quote.parse(template, &mut SourceMap::new(Global), holes).expect("each hole is filled");
+    let mut quote = Quote::new();
+    quote.parse(template, &mut SourceMap::new(), holes).expect("each hole is filled");
     let filled = quote.finish().expect("an item can be printed");
     assert!(filled.is_well_spaced());
     filled
-}
-
-fn stream(tree: TokenTree) -> TokenStream {
-    let Ok(stream) = TokenStream::from_tree(Global, tree);
-    stream
 }

@@ -1,12 +1,9 @@
 //! An attribute that wraps a function's body, over `proved-bridge`, which needs neither syn nor quote. What the
 //! function is comes from the proved `parse_item`; all of its tokens but the braces stay as they are.
-use proved_bridge::proved::declarations::{
-    compile_error, parse_item, split_inner_attributes, AnyItem, Fault, ItemKind,
-};
-use proved_bridge::proved::proc_macro2::{Delimiter, Group, Ident, Literal, SourceMap, Span, TokenStream, TokenTree};
-use proved_bridge::proved::quoting::{Hole, Quote};
-use proved_bridge::proved::shim::alloc::{AllocError, Global};
-use proved_bridge::proved::shim::clone::Clone as _;
+use proved_bridge::proved::error::Fault;
+use proved_bridge::proved::items::{compile_error, parse_item, split_inner_attributes, AnyItem, ItemKind};
+use proved_bridge::proved::quote::{Hole, Quote};
+use proved_bridge::proved::{Delimiter, Group, Ident, Literal, SourceMap, Span, TokenStream, TokenTree};
 use proved_bridge::{from_proved, to_proved, NoToken, Spans};
 
 /// What stands between the inner attributes of the body and its statements, which see none of its names. The guard
@@ -26,13 +23,13 @@ struct Refusal(TokenStream);
 
 impl From<Fault> for Refusal {
     fn from(fault: Fault) -> Refusal {
-        let Ok(told) = fault.to_compile_error(Global);
+        let Ok(told) = fault.to_compile_error();
         Refusal(told)
     }
 }
 
 fn refusal(what: &str, span: Span) -> Refusal {
-    let Ok(told) = compile_error(Global, what, span);
+    let Ok(told) = compile_error(what, span);
     Refusal(told)
 }
 
@@ -59,11 +56,11 @@ fn wrapped(log: &TokenStream, item: &TokenStream, own: Span) -> Result<TokenStre
     let item = parse_item(item.trees())?;
     let (name, head, body) = function(&item)?;
     let (attributes, statements) = split_inner_attributes(body.stream_ref().trees())?;
-    let (Ok(mut inside), Ok(statements), Ok(mut whole)) = (copied(attributes), copied(statements), copied(head));
-    let Ok(()) = inside.extend_streams([prologue(log, name, own)?, statements]);
+    let (mut inside, mut whole) = (TokenStream::from(attributes), TokenStream::from(head));
+    inside.extend([prologue(log, name, own)?, TokenStream::from(statements)]);
     let mut braces = Group::new(Delimiter::Brace, inside);
     braces.set_span(body.span());
-    let Ok(()) = whole.extend_trees([TokenTree::Group(braces)]);
+    whole.extend([braces]);
     Ok(whole)
 }
 
@@ -78,21 +75,11 @@ fn function<'a>(item: &AnyItem<'a>) -> Result<(&'a Ident, &'a [TokenTree], &'a G
 
 /// The prologue of the function of this name.
 fn prologue(log: &TokenStream, name: &Ident, own: Span) -> Result<TokenStream, Refusal> {
-    let Ok(text) = Literal::string(Global, &name.to_string());
-    let Ok(text) = TokenStream::from_tree(Global, TokenTree::Literal(text));
-    let guard = Ident::new(Global, "_guard", own).expect("it is a name");
-    let Ok(guard) = TokenStream::from_tree(Global, TokenTree::Ident(guard));
-    let mut quote = Quote::new(Global);
+    let text = TokenStream::from(Literal::from(name.to_string().as_str()));
+    let guard = TokenStream::from(Ident::new("_guard", own).expect("it is a name"));
+    let mut quote = Quote::new();
     let holes = [Hole::one("log", log), Hole::one("text", &text), Hole::one("guard", &guard)];
-    quote.parse(PROLOGUE, &mut SourceMap::new(Global), &holes).expect("each hole is filled");
+    quote.parse(PROLOGUE, &mut SourceMap::new(), &holes).expect("each hole is filled");
     let span = log.trees().first().map_or_else(Span::call_site, TokenTree::span);
     quote.finish().map_err(|_| refusal("this can't be written as the name of a function", span))
-}
-
-fn copied(trees: &[TokenTree]) -> Result<TokenStream, AllocError> {
-    let mut copy = TokenStream::new(Global);
-    for tree in trees {
-        copy.extend_trees([tree.clone()?])?;
-    }
-    Ok(copy)
 }

@@ -3,7 +3,6 @@
 
 use crate::pm_span::Span;
 use crate::pm_stream::TokenTree;
-use crate::shim::error::Error;
 use crate::shim::fmt;
 
 /// Where trees aren't as the grammar has them.
@@ -25,6 +24,32 @@ impl Fault {
         };
         Fault { at, span }
     }
+
+    /// The field [`span`](Fault::span): where the first tree that doesn't fit stands.
+    pub fn span(&self) -> Option<Span>
+    {
+        self.span
+    }
+}
+
+impl PartialEq for Fault {
+    /// Whether both count as many trees, and have the same span or none.
+    fn eq(&self, other: &Fault) -> bool {
+        self.at == other.at && are_same(self.span, other.span)
+    }
+}
+
+impl Eq for Fault {
+}
+
+// Whether both are the same span, or none.
+fn are_same(span: Option<Span>, other: Option<Span>) -> bool
+{
+    match (span, other) {
+        (Some(span), Some(other)) => span.eq(&other),
+        (None, None) => true,
+        _ => false,
+    }
 }
 
 impl fmt::Display for Fault {
@@ -37,5 +62,3 @@ impl fmt::Display for Fault {
 }
 
 crate::shim::display!(Fault);
-
-impl Error for Fault {}

@@ -6,18 +6,18 @@ use crate::pm_span::Span;
 use crate::pm_stream::{Group, TokenStream, TokenTree};
 use crate::pm_token::parts::{ident, punct, string_literal};
 use crate::pm_token::{Delimiter, Spacing};
-use crate::shim::alloc::{AllocError, Global};
+use crate::shim::alloc::AllocError;
 
 impl Fault {
     /// The code that makes the compiler tell the fault: `::core::compile_error! { "not expected here" }`.
     ///
     /// The text is that of Display. Each tree has the fault's span, which where more trees are missing is the call
     /// site. Fails where memory runs out.
-    pub fn to_compile_error(&self, alloc: Global) -> Result<TokenStream, AllocError>
+    pub fn to_compile_error(&self) -> Result<TokenStream, AllocError>
     {
         match self.span {
-            Some(span) => compile_error(alloc, "not expected here", span),
-            None => compile_error(alloc, "the declaration ends too early", Span::call_site()),
+            Some(span) => compile_error("not expected here", span),
+            None => compile_error("the declaration ends too early", Span::call_site()),
         }
     }
 }
@@ -25,15 +25,14 @@ impl Fault {
 /// The code that makes the compiler tell this text: `::core::compile_error! { "text" }`, each tree with this span.
 ///
 /// So a macro refuses what it can't use at the token that is wrong. Fails where memory runs out.
-pub fn compile_error(alloc: Global, text: &str, span: Span) -> Result<TokenStream, AllocError>
+pub fn compile_error(text: &str, span: Span) -> Result<TokenStream, AllocError>
 {
-    let core = ident(alloc, "core", false, span)?;
-    let name = ident(alloc, "compile_error", false, span)?;
-    let text = TokenTree::Literal(string_literal(alloc, text, span)?);
-    let mut braces = Group::new(Delimiter::Brace, TokenStream::from_tree(alloc, text)?);
+    let core = ident("core", false, span)?;
+    let name = ident("compile_error", false, span)?;
+    let text = TokenTree::Literal(string_literal(text, span)?);
+    let mut braces = Group::new(Delimiter::Brace, TokenStream::from_tree(text)?);
     braces.set_span(span);
     TokenStream::from_trees(
-        alloc,
         [
             TokenTree::Punct(punct(':', Spacing::Joint, span)),
             TokenTree::Punct(punct(':', Spacing::Alone, span)),

@@ -1,10 +1,10 @@
 // Made from crates/explain/src/comment_hints.rt by rust/erase: change that file, not this one.
 //! Which block comments a text leaves open.
 
-use crate::shim::prelude::Vec;
+use crate::shim::prelude::Grow;
 
 use crate::lexical::parts::Cursor;
-use crate::shim::alloc::{AllocError, Global};
+use crate::shim::alloc::AllocError;
 
 /// What stands at a cursor in a block comment.
 #[derive(Clone, Copy)]
@@ -33,16 +33,15 @@ fn sign_at(at: Cursor<'_>) -> Option<(Sign, Cursor<'_>)>
 /// How many block comments are open at the end of the text, the one at the cursor among them, and the cursors before
 /// and after the one that ended last.
 pub fn open_comments<'a>(
-    alloc: Global,
     start: Cursor<'a>,
 ) -> Result<(usize, Option<(Cursor<'a>, Cursor<'a>)>), AllocError>
 {
-    let mut opened = Vec::new(alloc);
+    let mut opened = Vec::new();
     let mut closed = None;
     let mut at = start;
     while let Some((sign, after)) = sign_at(at) {
         match sign {
-            Sign::Opens => opened.push(at)?,
+            Sign::Opens => opened.push_fallibly(at)?,
             Sign::Closes => {
                 let Some(from) = opened.pop() else {
                     unreachable!()

@@ -1,12 +1,11 @@
 // Made from crates/explain/src/explained.rt by rust/erase: change that file, not this one.
 //! What is said of a text that doesn't parse.
 
-use crate::shim::prelude::Vec;
-
 use crate::explain::reason::Reason;
 use crate::pm_span::Span;
 use crate::pm_token::Delimiter;
 use crate::shim::alloc::AllocError;
+use crate::shim::fmt;
 
 /// A stretch of a text.
 #[derive(Clone, Copy)]
@@ -44,13 +43,25 @@ pub struct Explained {
 }
 
 /// Why no reason is answered.
-#[derive(Debug)]
+#[derive(Debug, PartialEq, Eq)]
+#[non_exhaustive]
 pub enum ExplainError {
     /// The text doesn't fit a new map.
     MapFull,
     /// Memory ran out.
     Memory(AllocError),
 }
+
+impl fmt::Display for ExplainError {
+    fn fmt<W: fmt::Write>(&self, f: &mut fmt::Formatter<W>) -> fmt::Result {
+        match self {
+            ExplainError::MapFull => f.write_str("map full"),
+            ExplainError::Memory(_) => f.write_str("no memory"),
+        }
+    }
+}
+
+crate::shim::display!(ExplainError);
 
 impl From<AllocError> for ExplainError {
     fn from(error: AllocError) -> ExplainError {

@@ -1,7 +1,7 @@
 // Made from crates/explain/src/explaining.rt by rust/erase: change that file, not this one.
 //! From a text to the reason why it doesn't parse.
 
-use crate::shim::prelude::Vec;
+use crate::shim::prelude::Grow;
 
 use crate::explain::explained::{ExplainError, Explained, Opener, Stretch};
 use crate::explain::nesting::{Refusal, close, delimiter};
@@ -10,7 +10,7 @@ use crate::explain::stuck::reason_at;
 use crate::lexical::parts::Cursor;
 use crate::lexical::{PieceKind, past_white, piece_at};
 use crate::pm_span::parts::{bounds, fits_new, span_of};
-use crate::shim::alloc::{AllocError, Global};
+use crate::shim::alloc::AllocError;
 
 /// Why a text doesn't parse, or `None` where it parses.
 ///
@@ -18,18 +18,18 @@ use crate::shim::alloc::{AllocError, Global};
 /// fit a new map, and with `Memory` where the list of open delimiters can't grow, the only thing that takes memory.
 ///
 /// Of `a + 0x;` the reason is `NoDigits`, and `at` is `0x`, the bytes 4..6.
-pub fn explain(alloc: Global, text: &str) -> Result<Option<Explained>, ExplainError>
+pub fn explain(text: &str) -> Result<Option<Explained>, ExplainError>
 {
     let Some(lo) = fits_new(text) else {
         return Err(ExplainError::MapFull);
     };
-    Ok(explain_at(alloc, lo, text)?)
+    Ok(explain_at(lo, text)?)
 }
 
 /// Why a text doesn't parse that begins at the position `base`.
-fn explain_at(alloc: Global, base: u32, text: &str) -> Result<Option<Explained>, AllocError>
+fn explain_at(base: u32, text: &str) -> Result<Option<Explained>, AllocError>
 {
-    let mut openers = Vec::new(alloc);
+    let mut openers = Vec::new();
     let mut rest = text;
     let mut at = base;
     let mut first = true;
@@ -40,7 +40,7 @@ fn explain_at(alloc: Global, base: u32, text: &str) -> Result<Option<Explained>,
             PieceKind::Opener(c) => {
                 let delimiter = delimiter(c);
                 let at = stretch(text, rest, tail, at, end);
-                openers.push(Opener { delimiter, at })?;
+                openers.push_fallibly(Opener { delimiter, at })?;
             }
             PieceKind::Closer(c) => {
                 if let Some(refusal) = close(&mut openers, delimiter(c)) {

@@ -8,7 +8,7 @@ use crate::explain::quote_hints::nearest;
 use crate::explain::reason::Reason;
 use crate::lexical::parts::Cursor;
 use crate::pm_span::parts::bounds;
-use crate::shim::alloc::{AllocError, Global};
+use crate::shim::alloc::AllocError;
 
 /// What helps to mend a fault: advice, by definitions of its own in `specs/Hint.antt`.
 #[derive(Clone, Copy)]
@@ -30,21 +30,21 @@ pub enum Hint {
 /// the list of open comments can't grow, the only thing that takes memory.
 ///
 /// Of `/* a/*.rs */` one comment is open, and `/*.rs */` ended last, the bytes 4..12.
-pub fn advice(alloc: Global, text: &str, explained: &Explained) -> Result<Option<Hint>, AllocError>
+pub fn advice(text: &str, explained: &Explained) -> Result<Option<Hint>, AllocError>
 {
     match explained.reason {
-        Reason::UnclosedComment => Ok(Some(comment_hint(alloc, text, explained.at)?)),
+        Reason::UnclosedComment => Ok(Some(comment_hint(text, explained.at)?)),
         Reason::UnclosedRawString => Ok(quote_hint(text, explained.at)),
         _ => Ok(None),
     }
 }
 
 /// The hint for a block comment that doesn't end, whose front stands there.
-fn comment_hint(alloc: Global, text: &str, at: Stretch) -> Result<Hint, AllocError>
+fn comment_hint(text: &str, at: Stretch) -> Result<Hint, AllocError>
 {
     let start = Cursor::new(&text[at.start..]);
     let (lo, _) = bounds(at.span);
-    let (depth, ended) = open_comments(alloc, start)?;
+    let (depth, ended) = open_comments(start)?;
     let Some((from, to)) = ended else {
         return Ok(Hint::Comments {
             depth,

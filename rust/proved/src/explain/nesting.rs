@@ -1,8 +1,6 @@
 // Made from crates/explain/src/nesting.rt by rust/erase: change that file, not this one.
 //! The openers that wait for a closer.
 
-use crate::shim::prelude::Vec;
-
 use crate::explain::explained::Opener;
 use crate::explain::reason::Reason;
 use crate::pm_token::Delimiter;

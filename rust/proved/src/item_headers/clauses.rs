@@ -1,7 +1,7 @@
 // Made from crates/item_headers/src/clauses.rt by rust/erase: change that file, not this one.
 //! Where clauses, with predicates added.
 
-use crate::shim::prelude::Clone;
+use crate::shim::prelude::TryClone;
 
 use crate::item_headers::errors::HeaderError;
 use crate::item_headers::lists::{Lead, push_lead, push_mark, push_trees};
@@ -11,16 +11,16 @@ use crate::declarations::{
 };
 use crate::proc_macro2::{IdentError, TokenStream, TokenTree};
 use crate::quoting::Quote;
-use crate::shim::alloc::{AllocError, Global};
+use crate::shim::alloc::AllocError;
 
 /// The where clause of the item, or nothing where it has no predicates.
 ///
 /// Of `struct S<T> where T: A,` it is `where T: A`, and of `struct S<T> where` nothing. A fault tells that the trees in
 /// its place aren't the where clause of an item.
-pub fn where_clause(alloc: Global, item: &TypeItem<'_>) -> Result<TokenStream, HeaderError>
+pub fn where_clause(item: &TypeItem<'_>) -> Result<TokenStream, HeaderError>
 {
-    let mut quote = Quote::new(alloc);
-    push_where(&mut quote, alloc, item.where_clause)?;
+    let mut quote = Quote::new();
+    push_where(&mut quote, item.where_clause)?;
     Ok(quote.finish()?)
 }
 
@@ -29,15 +29,14 @@ pub fn where_clause(alloc: Global, item: &TypeItem<'_>) -> Result<TokenStream, H
 /// Of `struct S<T> where T: A,` and `T: B` it is `where T: A, T: B`; of `struct S<T>` it is `where T: B`. What the
 /// predicate is isn't looked at. It fails as [`where_clause`] does.
 pub fn where_clause_with(
-    alloc: Global,
     item: &TypeItem<'_>,
     predicate: &TokenStream,
 ) -> Result<TokenStream, HeaderError>
 {
-    let mut quote = Quote::new(alloc);
-    let any = push_where(&mut quote, alloc, item.where_clause)?;
-    push_lead(&mut quote, alloc, Lead::Where, any)?;
-    let copy = predicate.clone()?;
+    let mut quote = Quote::new();
+    let any = push_where(&mut quote, item.where_clause)?;
+    push_lead(&mut quote, Lead::Where, any)?;
+    let copy = predicate.try_clone()?;
     quote.push_stream(copy)?;
     Ok(quote.finish()?)
 }
@@ -47,21 +46,19 @@ pub fn where_clause_with(
 /// Of `struct S<'a, T, U, const N: usize> where T: A` and `B` it is `where T: A, T: B, U: B`. A fault tells that the
 /// generic parameters or the where clause aren't those of an item. What the bound is isn't looked at.
 pub fn where_clause_with_bound(
-    alloc: Global,
     item: &TypeItem<'_>,
     bound: &TokenStream,
 ) -> Result<TokenStream, HeaderError>
 {
-    let mut quote = Quote::new(alloc);
-    let any = push_where(&mut quote, alloc, item.where_clause)?;
-    push_bounds(&mut quote, alloc, item.generics, bound, any)?;
+    let mut quote = Quote::new();
+    let any = push_where(&mut quote, item.where_clause)?;
+    push_bounds(&mut quote, item.generics, bound, any)?;
     Ok(quote.finish()?)
 }
 
 // Puts the predicates of a where clause at the end, and answers whether there are any.
 pub(crate) fn push_where(
     quote: &mut Quote,
-    alloc: Global,
     where_clause: &[TokenTree],
 ) -> Result<bool, HeaderError>
 {
@@ -69,7 +66,7 @@ pub(crate) fn push_where(
     let mut any = false;
     while !left.is_empty() {
         let (predicate, rest) = parse_predicate(left)?;
-        push_lead(quote, alloc, Lead::Where, any)?;
+        push_lead(quote, Lead::Where, any)?;
         push_predicate(quote, &predicate)?;
         any = true;
         left = rest;
@@ -88,7 +85,6 @@ fn push_predicate(quote: &mut Quote, predicate: &Predicate<'_>) -> Result<(), Al
 // Puts the bound on each parameter that is a type at the end, in a where clause that has some predicates or none.
 fn push_bounds(
     quote: &mut Quote,
-    alloc: Global,
     generics: &[TokenTree],
     bound: &TokenStream,
     any: bool,
@@ -98,7 +94,7 @@ fn push_bounds(
     let mut any_now = any;
     while !left.is_empty() {
         let (param, rest) = parse_param(left)?;
-        let more = push_bound(quote, alloc, &param, bound, any_now)?;
+        let more = push_bound(quote, &param, bound, any_now)?;
         any_now = more;
         left = rest;
     }
@@ -108,7 +104,6 @@ fn push_bounds(
 // Puts the bound on a parameter at the end, if it is a type, and answers whether there are any predicates now.
 fn push_bound(
     quote: &mut Quote,
-    alloc: Global,
     param: &Param<'_>,
     bound: &TokenStream,
     any: bool,
@@ -117,10 +112,10 @@ fn push_bound(
     match param.kind {
         ParamKind::Lifetime => Ok(any),
         ParamKind::Type => {
-            push_lead(quote, alloc, Lead::Where, any)?;
+            push_lead(quote, Lead::Where, any)?;
             push_trees(quote, param.name)?;
             push_mark(quote, ':')?;
-            let copy = bound.clone()?;
+            let copy = bound.try_clone()?;
             quote.push_stream(copy)?;
             Ok(true)
         }

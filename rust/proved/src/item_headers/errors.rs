@@ -2,14 +2,14 @@
 //! Why nothing is written.
 
 use crate::declarations::Fault;
-use crate::proc_macro2::IdentError;
+use crate::proc_macro2::{IdentError, Span};
 use crate::quoting::QuoteError;
 use crate::shim::alloc::AllocError;
-use crate::shim::error::Error;
 use crate::shim::fmt;
 
 /// Why nothing is written.
-#[derive(Debug)]
+#[derive(Debug, PartialEq)]
+#[non_exhaustive]
 pub enum HeaderError {
     /// The generic parameters or the where clause aren't as the grammar has them. The trees are counted from the
     /// parameter or the predicate that doesn't fit, and from the front of all where the brackets or the `where` don't.
@@ -18,6 +18,17 @@ pub enum HeaderError {
     Keyword(IdentError),
     /// No printed text shows what was put together, or memory ran out.
     Quote(QuoteError),
+}
+
+impl HeaderError {
+    /// Where the fault stands, as [`Fault::span`] has it: `None` if more trees are missing, or for another error.
+    pub fn span(&self) -> Option<Span>
+    {
+        match self {
+            HeaderError::Fault(fault) => fault.span(),
+            HeaderError::Keyword(_) | HeaderError::Quote(_) => None,
+        }
+    }
 }
 
 impl fmt::Display for HeaderError {
@@ -31,8 +42,6 @@ impl fmt::Display for HeaderError {
 }
 
 crate::shim::display!(HeaderError);
-
-impl Error for HeaderError {}
 
 impl From<Fault> for HeaderError {
     fn from(fault: Fault) -> HeaderError {

@@ -1,7 +1,7 @@
 // Made from crates/item_headers/src/header.rt by rust/erase: change that file, not this one.
 //! The front of an `impl`.
 
-use crate::shim::prelude::Clone;
+use crate::shim::prelude::TryClone;
 
 use crate::item_headers::clauses::push_where;
 use crate::item_headers::errors::HeaderError;
@@ -10,7 +10,6 @@ use crate::item_headers::params::{Form, push_generics};
 use crate::declarations::TypeItem;
 use crate::proc_macro2::{TokenStream, TokenTree};
 use crate::quoting::Quote;
-use crate::shim::alloc::Global;
 
 /// The front of an `impl` of a trait for the item's type, up to its braces.
 ///
@@ -18,13 +17,12 @@ use crate::shim::alloc::Global;
 /// `impl<'a, T: A> D<T> for S<'a, T> where T: C`. A fault tells that the generic parameters or the where clause aren't
 /// those of an item. What the trait is isn't looked at.
 pub fn impl_header(
-    alloc: Global,
     item: &TypeItem<'_>,
     trait_path: &TokenStream,
 ) -> Result<TokenStream, HeaderError>
 {
-    let mut quote = front(alloc, item, trait_path)?;
-    push_where(&mut quote, alloc, item.where_clause)?;
+    let mut quote = front(item, trait_path)?;
+    push_where(&mut quote, item.where_clause)?;
     Ok(quote.finish()?)
 }
 
@@ -34,35 +32,33 @@ pub fn impl_header(
 /// Of the same item and `where T: C, T: D<T>` it is `impl<'a, T: A> D<T> for S<'a, T> where T: C, T: D<T>`. A fault
 /// tells that the generic parameters aren't those of an item. What the trait and the clause are isn't looked at.
 pub fn impl_header_where(
-    alloc: Global,
     item: &TypeItem<'_>,
     trait_path: &TokenStream,
     where_clause: &TokenStream,
 ) -> Result<TokenStream, HeaderError>
 {
-    let mut quote = front(alloc, item, trait_path)?;
-    let clause = where_clause.clone()?;
+    let mut quote = front(item, trait_path)?;
+    let clause = where_clause.try_clone()?;
     quote.push_stream(clause)?;
     Ok(quote.finish()?)
 }
 
 // All before the where clause.
-fn front(alloc: Global, item: &TypeItem<'_>, trait_path: &TokenStream) -> Result<Quote, HeaderError>
+fn front(item: &TypeItem<'_>, trait_path: &TokenStream) -> Result<Quote, HeaderError>
 {
-    let mut quote = Quote::new(alloc);
-    push_word(&mut quote, alloc, "impl")?;
+    let mut quote = Quote::new();
+    push_word(&mut quote, "impl")?;
     push_generics(
         &mut quote,
-        alloc,
         item.generics,
         Lead::Angle,
         Form::Declared,
     )?;
-    let path = trait_path.clone()?;
+    let path = trait_path.try_clone()?;
     quote.push_stream(path)?;
-    push_word(&mut quote, alloc, "for")?;
-    let name = item.name.clone()?;
+    push_word(&mut quote, "for")?;
+    let name = item.name.try_clone()?;
     quote.push(TokenTree::Ident(name))?;
-    push_generics(&mut quote, alloc, item.generics, Lead::Angle, Form::Named)?;
+    push_generics(&mut quote, item.generics, Lead::Angle, Form::Named)?;
     Ok(quote)
 }

@@ -1,11 +1,11 @@
 // Made from crates/item_headers/src/lists.rt by rust/erase: change that file, not this one.
 //! Words, marks and trees put into a quote, and what stands before each element of a list.
 
-use crate::shim::prelude::Clone;
+use crate::shim::prelude::TryClone;
 
 use crate::proc_macro2::{Ident, IdentError, Punct, Spacing, Span, TokenTree};
 use crate::quoting::Quote;
-use crate::shim::alloc::{AllocError, Global};
+use crate::shim::alloc::AllocError;
 
 /// What stands before the first element of a list.
 #[derive(Clone, Copy)]
@@ -25,9 +25,9 @@ pub(crate) fn push_mark(quote: &mut Quote, character: char) -> Result<(), AllocE
 }
 
 // Puts a word at the end.
-pub(crate) fn push_word(quote: &mut Quote, alloc: Global, name: &str) -> Result<(), IdentError>
+pub(crate) fn push_word(quote: &mut Quote, name: &str) -> Result<(), IdentError>
 {
-    let ident = Ident::new(alloc, name, Span::call_site())?;
+    let ident = Ident::new(name, Span::call_site())?;
     quote.push(TokenTree::Ident(ident))?;
     Ok(())
 }
@@ -37,7 +37,7 @@ pub(crate) fn push_trees(quote: &mut Quote, trees: &[TokenTree]) -> Result<(), A
 {
     let mut left = trees;
     while let Some((tree, rest)) = left.split_first() {
-        let copy = tree.clone()?;
+        let copy = tree.try_clone()?;
         quote.push(copy)?;
         left = rest;
     }
@@ -58,7 +58,6 @@ pub(crate) fn push_led(quote: &mut Quote, trees: &[TokenTree]) -> Result<(), All
 // Puts what stands before an element at the end: the first, or one after others.
 pub(crate) fn push_lead(
     quote: &mut Quote,
-    alloc: Global,
     lead: Lead,
     any: bool,
 ) -> Result<(), IdentError>
@@ -66,15 +65,15 @@ pub(crate) fn push_lead(
     if any {
         return Ok(push_mark(quote, ',')?);
     }
-    push_first_lead(quote, alloc, lead)
+    push_first_lead(quote, lead)
 }
 
-fn push_first_lead(quote: &mut Quote, alloc: Global, lead: Lead) -> Result<(), IdentError>
+fn push_first_lead(quote: &mut Quote, lead: Lead) -> Result<(), IdentError>
 {
     match lead {
         Lead::Angle => Ok(push_mark(quote, '<')?),
         Lead::Turbofish => Ok(push_turbofish(quote)?),
-        Lead::Where => push_word(quote, alloc, "where"),
+        Lead::Where => push_word(quote, "where"),
     }
 }
 

@@ -6,7 +6,6 @@ use crate::item_headers::lists::{Lead, push_lead, push_led, push_mark, push_tree
 use crate::declarations::{Param, ParamKind, TypeItem, parse_param, within_generics};
 use crate::proc_macro2::{IdentError, TokenStream, TokenTree};
 use crate::quoting::Quote;
-use crate::shim::alloc::Global;
 
 /// How a parameter is written.
 #[derive(Clone, Copy)]
@@ -22,12 +21,11 @@ pub(crate) enum Form {
 ///
 /// Of `struct S<'a, T: A = B, const N: usize = 3>` they are `<'a, T: A, const N: usize>`. A fault tells that the trees
 /// in their place aren't the generic parameters of an item.
-pub fn impl_generics(alloc: Global, item: &TypeItem<'_>) -> Result<TokenStream, HeaderError>
+pub fn impl_generics(item: &TypeItem<'_>) -> Result<TokenStream, HeaderError>
 {
-    let mut quote = Quote::new(alloc);
+    let mut quote = Quote::new();
     push_generics(
         &mut quote,
-        alloc,
         item.generics,
         Lead::Angle,
         Form::Declared,
@@ -38,21 +36,20 @@ pub fn impl_generics(alloc: Global, item: &TypeItem<'_>) -> Result<TokenStream, 
 /// The arguments of the item's type: the names of its parameters in order, or nothing where it has none.
 ///
 /// Of `struct S<'a, T: A = B, const N: usize = 3>` they are `<'a, T, N>`. It fails as [`impl_generics`] does.
-pub fn type_generics(alloc: Global, item: &TypeItem<'_>) -> Result<TokenStream, HeaderError>
+pub fn type_generics(item: &TypeItem<'_>) -> Result<TokenStream, HeaderError>
 {
-    let mut quote = Quote::new(alloc);
-    push_generics(&mut quote, alloc, item.generics, Lead::Angle, Form::Named)?;
+    let mut quote = Quote::new();
+    push_generics(&mut quote, item.generics, Lead::Angle, Form::Named)?;
     Ok(quote.finish()?)
 }
 
 /// The same as an expression wants them, as `::<'a, T, N>`; nothing where the item has none. It fails as
 /// [`impl_generics`] does.
-pub fn turbofish(alloc: Global, item: &TypeItem<'_>) -> Result<TokenStream, HeaderError>
+pub fn turbofish(item: &TypeItem<'_>) -> Result<TokenStream, HeaderError>
 {
-    let mut quote = Quote::new(alloc);
+    let mut quote = Quote::new();
     push_generics(
         &mut quote,
-        alloc,
         item.generics,
         Lead::Turbofish,
         Form::Named,
@@ -63,7 +60,6 @@ pub fn turbofish(alloc: Global, item: &TypeItem<'_>) -> Result<TokenStream, Head
 // Puts the parameters at the end, in brackets.
 pub(crate) fn push_generics(
     quote: &mut Quote,
-    alloc: Global,
     trees: &[TokenTree],
     lead: Lead,
     form: Form,
@@ -73,8 +69,8 @@ pub(crate) fn push_generics(
     let mut any = false;
     while !left.is_empty() {
         let (param, rest) = parse_param(left)?;
-        push_lead(quote, alloc, lead, any)?;
-        push_param(quote, alloc, &param, form)?;
+        push_lead(quote, lead, any)?;
+        push_param(quote, &param, form)?;
         any = true;
         left = rest;
     }
@@ -86,32 +82,31 @@ pub(crate) fn push_generics(
 
 fn push_param(
     quote: &mut Quote,
-    alloc: Global,
     param: &Param<'_>,
     form: Form,
 ) -> Result<(), IdentError>
 {
     match form {
-        Form::Declared => push_declared(quote, alloc, param),
+        Form::Declared => push_declared(quote, param),
         Form::Named => Ok(push_trees(quote, param.name)?),
     }
 }
 
 // Puts all of a parameter but its default at the end.
-fn push_declared(quote: &mut Quote, alloc: Global, param: &Param<'_>) -> Result<(), IdentError>
+fn push_declared(quote: &mut Quote, param: &Param<'_>) -> Result<(), IdentError>
 {
     push_trees(quote, param.attributes)?;
-    push_keyword(quote, alloc, param.kind)?;
+    push_keyword(quote, param.kind)?;
     push_trees(quote, param.name)?;
     Ok(push_led(quote, param.bounds)?)
 }
 
 // Puts the keyword of a parameter at the end, if it has one.
-fn push_keyword(quote: &mut Quote, alloc: Global, kind: ParamKind) -> Result<(), IdentError>
+fn push_keyword(quote: &mut Quote, kind: ParamKind) -> Result<(), IdentError>
 {
     match kind {
         ParamKind::Lifetime => Ok(()),
         ParamKind::Type => Ok(()),
-        ParamKind::Const => push_word(quote, alloc, "const"),
+        ParamKind::Const => push_word(quote, "const"),
     }
 }

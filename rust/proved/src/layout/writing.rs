@@ -1,14 +1,12 @@
 // Made from crates/layout/src/writing.rt by rust/erase: change that file, not this one.
 //! Writes a stream with chosen gaps.
 
-use crate::shim::prelude::String;
-
 use crate::layout::errors::LayoutError;
 use crate::layout::gaps::{Chooser, Place, fitting, push_gap};
 use crate::pm_stream::{Step, TokenStream, TokenTree};
 use crate::pm_token::parts::{TextBuilder, is_raw, name_of};
 use crate::pm_token::{Delimiter, Ident};
-use crate::shim::alloc::{AllocError, Global};
+use crate::shim::alloc::AllocError;
 use crate::shim::io::Write;
 
 /// The stream's tokens with the gaps that the chooser gives.
@@ -22,13 +20,12 @@ use crate::shim::io::Write;
 pub fn text_with<C: Chooser>(
     stream: &TokenStream,
     chooser: &mut C,
-    alloc: Global,
 ) -> Result<String, LayoutError>
 {
     if !stream.is_well_spaced() {
         return Err(LayoutError::NotWellSpaced);
     }
-    let text = laid_out(stream, chooser, alloc)?;
+    let text = laid_out(stream, chooser)?;
     Ok(text)
 }
 
@@ -36,14 +33,13 @@ pub fn text_with<C: Chooser>(
 fn laid_out<C: Chooser>(
     stream: &TokenStream,
     chooser: &mut C,
-    alloc: Global,
 ) -> Result<String, AllocError>
 {
-    let mut text = TextBuilder::with_room(alloc, 0)?;
+    let mut text = TextBuilder::with_room(0)?;
     let mut steps = stream.steps();
     let mut before = None;
     let mut depth: usize = 0;
-    while let Some(step) = steps.next()? {
+    while let Some(step) = steps.try_next()? {
         let place = Place {
             before,
             after: Some(step),
@@ -157,11 +153,10 @@ pub(crate) fn closer(delimiter: Delimiter) -> Option<char>
 pub fn write_with<C: Chooser, W: Write>(
     stream: &TokenStream,
     chooser: &mut C,
-    alloc: Global,
     writer: &mut W,
 ) -> Result<(), LayoutError>
 {
-    let text = text_with(stream, chooser, alloc)?;
+    let text = text_with(stream, chooser)?;
     match writer.write_all(text.as_str().as_bytes()) {
         Ok(()) => Ok(()),
         Err(error) => Err(LayoutError::Write(error)),

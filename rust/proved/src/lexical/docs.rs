@@ -1,10 +1,9 @@
 // Made from crates/lexical/src/docs.rt by rust/erase: change that file, not this one.
 //! Doc comments.
 
-use crate::lexical::cursor::Cursor;
 use crate::lexical::piece::PieceKind;
-use crate::lexical::search::skip_to;
-use crate::lexical::text::{before, begins, without_return};
+use crate::lexical::search::from_first;
+use crate::lexical::text::{before, begins, split_first, without_return};
 
 /// Whether the comment documents what it stands in.
 fn is_inner(comment: &str) -> bool
@@ -36,12 +35,12 @@ fn doc_text<'a>(comment: &'a str, rest: &str) -> &'a str
 /// Whether a CR stands in the text that no LF follows there.
 fn has_bare_return(text: &str) -> bool
 {
-    let mut at = skip_to(Cursor::new(text), b'\r');
-    while let Some((_, after)) = at.advance() {
-        if !begins(after.rest, "\n") {
+    let mut rest = from_first(text, b'\r');
+    while let Some((_, after)) = split_first(rest) {
+        if !begins(after, "\n") {
             return true;
         }
-        at = skip_to(after, b'\r');
+        rest = from_first(after, b'\r');
     }
     false
 }

@@ -1,7 +1,7 @@
 // Made from crates/lexical/src/lexer.rt by rust/erase: change that file, not this one.
 //! Which piece stands at the front of a text.
 
-use crate::lexical::class::{PieceStart, piece_start_of};
+use crate::lexical::class::{PieceStart, byte_start, piece_start_of};
 use crate::lexical::comments::comment;
 use crate::lexical::cursor::Cursor;
 use crate::lexical::identifiers::{identifier, name};
@@ -9,7 +9,15 @@ use crate::lexical::literals::{literal, quoted};
 use crate::lexical::marks::{begins_comment, follows_quote, mark};
 use crate::lexical::numbers::number;
 use crate::lexical::piece::{Piece, PieceKind};
-use crate::lexical::quick::{quick, quick_extent, quick_literal, quick_quote_or_comment};
+use crate::lexical::quick::quoted::{
+    bare_character, character, escaped_string, letter_character, plain_string, string,
+    wide_character,
+};
+use crate::lexical::quick::{
+    Extent, byte_at, byte_literal, line_comment, lone_quote, long_number, quick, quick_literal,
+};
+use crate::lexical::text::strip;
+use crate::lexical::words::{count_few_plain, count_plain};
 
 /// A literal that was read, if one was, as a piece: its kind, and the cursor after it.
 #[inline(always)]
@@ -69,7 +77,7 @@ fn read_piece(at: Cursor<'_>, at_front: bool) -> Option<(PieceKind<'_>, Cursor<'
 ///
 /// It answers `None` where no piece stands: at the end of the source, and where what follows begins
 /// no piece, as at an unclosed string. A closer that matches nothing is a piece. At most one piece
-/// stands at a byte offset, as [`one_piece`](crate::lexical::laws::one_piece) says.
+/// stands at a byte offset, as `one_piece` says.
 /// At `+=` the mark `+` stands, Joint, of 1 byte and 1 character. At `/* /* */` none stands, as one
 /// comment is open at the end.
 #[inline(always)]
@@ -81,19 +89,160 @@ pub fn piece_at(text: &str, first: bool) -> Option<Piece<'_>>
     }
 }
 
-/// The same, of pieces that stand more seldom.
-#[inline(never)]
+/// The same, of pieces that stand more seldom: by the first byte, in a function of its own for each.
+#[inline(always)]
 fn other_piece(text: &str, first: bool) -> Option<Piece<'_>>
 {
-    if let Some(extent) = quick_extent(text) {
-        return Some(Piece {
-            kind: PieceKind::Literal,
-            bytes: extent.bytes,
-            chars: extent.chars,
-        });
+    match byte_start(byte_at(text.as_bytes(), 0)) {
+        PieceStart::Letter => letter_piece(text, first),
+        PieceStart::Digit => digit_piece(text, first),
+        PieceStart::Slash => slash_piece(text, first),
+        PieceStart::Quote => quote_piece(text, first),
+        PieceStart::DoubleQuote => string_piece(text, first),
+        _ => piece_by_characters(text, first),
     }
-    match quick_quote_or_comment(text) {
+}
+
+/// The literal of this extent, as a piece.
+#[inline(always)]
+fn literal_piece<'a>(extent: Extent) -> Piece<'a>
+{
+    Piece {
+        kind: PieceKind::Literal,
+        bytes: extent.bytes,
+        chars: extent.chars,
+    }
+}
+
+/// The same, of a text that begins with a letter: often a byte or a byte string.
+#[inline(never)]
+fn letter_piece(text: &str, first: bool) -> Option<Piece<'_>>
+{
+    match byte_literal(text) {
+        Some(extent) => Some(literal_piece(extent)),
+        None => piece_by_characters(text, first),
+    }
+}
+
+/// The same, of a text that begins with a digit.
+#[inline(never)]
+fn digit_piece(text: &str, first: bool) -> Option<Piece<'_>>
+{
+    match long_number(text) {
+        Some(extent) => Some(literal_piece(extent)),
+        None => piece_by_characters(text, first),
+    }
+}
+
+/// The same, of a text that begins with `/`: often a line comment.
+#[inline(never)]
+fn slash_piece(text: &str, first: bool) -> Option<Piece<'_>>
+{
+    match line_comment(text) {
         Some(piece) => Some(piece),
+        None => piece_by_characters(text, first),
+    }
+}
+
+/// The same, of a text that begins with `'`: a character of one byte, or a lone quote.
+///
+/// Other characters have functions of their own, so that this one needs few registers.
+#[inline(never)]
+fn quote_piece(text: &str, first: bool) -> Option<Piece<'_>>
+{
+    let second = byte_at(text.as_bytes(), 1);
+    if second == b'\\' {
+        return match letter_character(text) {
+            Some(extent) => Some(literal_piece(extent)),
+            None => escaped_piece(text, first),
+        };
+    }
+    if let Some(extent) = bare_character(text) {
+        return Some(literal_piece(extent));
+    }
+    if !second.is_ascii() {
+        return wide_piece(text, first);
+    }
+    match lone_quote(text) {
+        Some(piece) => Some(piece),
+        None => piece_by_characters(text, first),
+    }
+}
+
+/// The same, of a text that begins with `'` and a backslash.
+#[inline(never)]
+fn escaped_piece(text: &str, first: bool) -> Option<Piece<'_>>
+{
+    match character(text) {
+        Some(extent) => Some(literal_piece(extent)),
+        None => piece_by_characters(text, first),
+    }
+}
+
+/// The same, of a text that begins with `'` and a character past ASCII.
+#[inline(never)]
+fn wide_piece(text: &str, first: bool) -> Option<Piece<'_>>
+{
+    match wide_character(text) {
+        Some(extent) => Some(literal_piece(extent)),
+        None => piece_by_characters(text, first),
+    }
+}
+
+/// The same, of a text that begins with `"`: a string of a few characters of ASCII.
+///
+/// Other strings have functions of their own, so that this one needs few registers.
+#[inline(never)]
+fn string_piece(text: &str, first: bool) -> Option<Piece<'_>>
+{
+    let Some(inside) = strip(text, "\"") else {
+        return piece_by_characters(text, first);
+    };
+    let bytes = inside.as_bytes();
+    let stretch = count_few_plain(bytes);
+    if byte_at(bytes, stretch) == b'\\' {
+        return escaped_string_piece(text, inside, stretch, first);
+    }
+    if let Some(extent) = plain_string(inside, stretch) {
+        return Some(literal_piece(extent));
+    }
+    if stretch < 8 {
+        return other_string_piece(text, first);
+    }
+    long_string_piece(text, inside, first)
+}
+
+/// The same, of a string whose first escape comes after so many bytes of ASCII.
+#[inline(never)]
+fn escaped_string_piece<'a>(
+    text: &'a str,
+    inside: &str,
+    stretch: usize,
+    first: bool,
+) -> Option<Piece<'a>>
+{
+    match escaped_string(text, inside, stretch) {
+        Some(extent) => Some(literal_piece(extent)),
+        None => piece_by_characters(text, first),
+    }
+}
+
+/// The same, of a string with more than a few bytes before its first escape.
+#[inline(never)]
+fn long_string_piece<'a>(text: &'a str, inside: &str, first: bool) -> Option<Piece<'a>>
+{
+    match plain_string(inside, count_plain(inside.as_bytes())) {
+        Some(extent) => Some(literal_piece(extent)),
+        None => other_string_piece(text, first),
+    }
+}
+
+/// The same, of another string.
+#[inline(never)]
+fn other_string_piece(text: &str, first: bool) -> Option<Piece<'_>>
+{
+    match string(text) {
+        Some(extent) => Some(literal_piece(extent)),
         None => piece_by_characters(text, first),
     }
 }

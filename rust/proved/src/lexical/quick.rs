@@ -5,16 +5,15 @@
 //! decoded. Where the bytes tell nothing, [`piece_at`](crate::lexical::piece_at) reads the piece by its characters.
 
 mod numbers;
-mod quoted;
+pub mod quoted;
 
-use crate::lexical::bytes::{Class, holds_ascii};
+use crate::lexical::bytes::{Class, count_ascii, holds_ascii};
 use crate::lexical::class::{PieceStart, byte_start};
 use crate::lexical::piece::{Piece, PieceKind};
 use crate::lexical::text::char_count;
-use crate::lexical::words::count_name;
-use crate::shim::memchr::memchr2;
+use crate::lexical::words::{count_line, count_name};
 use numbers::{long_number_size, number_size};
-use quoted::{byte_size, byte_string_size, character_size, string, string_size, wide_character};
+use quoted::{byte_size, byte_string_size, character_size, string_size};
 
 /// The byte at the index, or a space where there is none.
 #[inline(always)]
@@ -50,13 +49,32 @@ fn name_size(text: &str) -> Option<usize>
     }
 }
 
+/// The same, by one byte after the other: the names of lifetimes are short.
+#[inline(always)]
+fn short_name_size(text: &str) -> Option<usize>
+{
+    let bytes = text.as_bytes();
+    if !holds_ascii(Class::IdentifierStart, byte_at(bytes, 0)) {
+        return None;
+    }
+    let size = count_ascii(bytes, Class::IdentifierContinue);
+    if ends_name(byte_at(bytes, size)) {
+        Some(size)
+    } else {
+        None
+    }
+}
+
 /// How many bytes the rest of the line has, of ASCII with no CR.
 #[inline(always)]
 fn line_size(text: &str) -> Option<usize>
 {
     let bytes = text.as_bytes();
-    let size = memchr2(b'\n', b'\r', bytes).unwrap_or(bytes.len());
-    if byte_at(bytes, size) != b'\r' && bytes[..size].is_ascii() {
+    let size = count_line(bytes);
+    if size == bytes.len() {
+        return Some(size);
+    }
+    if bytes[size] == b'\n' {
         Some(size)
     } else {
         None
@@ -64,8 +82,8 @@ fn line_size(text: &str) -> Option<usize>
 }
 
 /// The line comment at the front, which is no inner doc comment.
-#[inline(never)]
-fn line_comment(text: &str) -> Option<Piece<'_>>
+#[inline(always)]
+pub fn line_comment(text: &str) -> Option<Piece<'_>>
 {
     let bytes = text.as_bytes();
     let third = byte_at(bytes, 2);
@@ -130,7 +148,7 @@ fn counted(text: &str, size: usize) -> Extent
 
 /// The extent of the byte or byte string at the front.
 #[inline(always)]
-fn byte_literal(text: &str) -> Option<Extent>
+pub fn byte_literal(text: &str) -> Option<Extent>
 {
     match byte_size(text) {
         Some(size) => Some(ascii_extent(size)),
@@ -181,57 +199,27 @@ pub fn quick(text: &str) -> Option<Piece<'_>>
     }
 }
 
-/// The extent of the number or literal between quotes at the front, where a few bytes tell it. `None` says nothing.
-///
-/// It stands apart from [`quick`], which is compiled into the loops over pieces and has plain integers. It answers no
-/// kind, so that its caller writes the piece at once, and not in parts.
+/// The extent of the number at the front, be it a float or an integer with a base or a suffix, where a few bytes tell
+/// it. `None` says nothing.
 #[inline(always)]
-pub fn quick_extent(text: &str) -> Option<Extent>
+pub fn long_number(text: &str) -> Option<Extent>
 {
-    let bytes = text.as_bytes();
-    if bytes.is_empty() {
-        return None;
-    }
-    match byte_start(bytes[0]) {
-        PieceStart::Digit => Some(ascii_extent(long_number_size(text)?)),
-        PieceStart::DoubleQuote => string(text),
-        PieceStart::Letter => byte_literal(text),
-        PieceStart::Quote => match character_size(text) {
-            Some(size) => Some(ascii_extent(size)),
-            None => {
-                if byte_at(bytes, 1).is_ascii() {
-                    None
-                } else {
-                    wide_character(text)
-                }
-            }
-        },
-        _ => None,
-    }
+    Some(ascii_extent(long_number_size(text)?))
 }
 
-/// The lone quote or line comment at the front, where a few bytes tell it. `None` says nothing.
-///
-/// It stands apart from [`quick`] too, and is asked where [`quick_extent`] says nothing.
+/// The lone quote at the front, before a name that bars none. `None` says nothing.
 #[inline(always)]
-pub fn quick_quote_or_comment(text: &str) -> Option<Piece<'_>>
+pub fn lone_quote(text: &str) -> Option<Piece<'_>>
 {
-    let bytes = text.as_bytes();
-    if bytes.is_empty() {
+    if byte_at(text.as_bytes(), 0) != b'\'' {
         return None;
     }
-    match byte_start(bytes[0]) {
-        PieceStart::Quote => {
-            name_size(&text[1..])?;
-            let quote = PieceKind::Mark {
-                joint: true,
-                mark: '\'',
-            };
-            Some(ascii(quote, 1))
-        }
-        PieceStart::Slash => line_comment(text),
-        _ => None,
-    }
+    short_name_size(&text[1..])?;
+    let quote = PieceKind::Mark {
+        joint: true,
+        mark: '\'',
+    };
+    Some(ascii(quote, 1))
 }
 
 /// How many bytes the literal has that stands at the front, where a few bytes tell it. `None` says nothing.

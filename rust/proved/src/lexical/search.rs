@@ -14,6 +14,14 @@ pub fn skip_to(at: Cursor<'_>, stop: u8) -> Cursor<'_>
     at.after_bytes(size)
 }
 
+/// The text from the first `stop` on, an ASCII character, or its end where none stands. It counts no characters.
+pub fn from_first(text: &str, stop: u8) -> &str
+{
+    let bytes = text.as_bytes();
+    let before = memchr(stop, bytes).unwrap_or(bytes.len());
+    &text[before..]
+}
+
 /// The cursor before the first of the two ASCII characters, or at the end of the text where none stands.
 pub fn skip_to_either(at: Cursor<'_>, a: u8, b: u8) -> Cursor<'_>
 {

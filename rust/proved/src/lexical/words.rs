@@ -37,3 +37,106 @@ pub fn count_name(bytes: &[u8]) -> usize
     }
     count + count_ascii(&bytes[count..], Class::IdentifierContinue)
 }
+
+/// How many of the 8 bytes come before the first that is past ASCII, a quote, a backslash or a CR: `None` says all.
+///
+/// The sums set the highest bit of each byte but those that are looked for.
+#[inline(always)]
+fn count_plain_in_word(bytes: &[u8; 8]) -> Option<usize>
+{
+    let word = u64::from_le_bytes(*bytes);
+    let low = word & 0x7F7F_7F7F_7F7F_7F7F;
+    let quotes = (low ^ 0x2222_2222_2222_2222) + 0x7F7F_7F7F_7F7F_7F7F;
+    let backslashes = (low ^ 0x5C5C_5C5C_5C5C_5C5C) + 0x7F7F_7F7F_7F7F_7F7F;
+    let returns = (low ^ 0x0D0D_0D0D_0D0D_0D0D) + 0x7F7F_7F7F_7F7F_7F7F;
+    let hits = (!(quotes & backslashes & returns) | word) & 0x8080_8080_8080_8080;
+    if hits == 0 {
+        return None;
+    }
+    Some((hits.trailing_zeros() / 8) as usize)
+}
+
+/// How many bytes come before the first that is past ASCII, a quote, a backslash or a CR, by one byte after the other.
+#[inline(always)]
+fn count_plain_bytes(bytes: &[u8]) -> usize
+{
+    let mut count = 0;
+    while count < bytes.len() {
+        let byte = bytes[count];
+        if !byte.is_ascii() || byte == b'"' || byte == b'\\' || byte == b'\r' {
+            break;
+        }
+        count += 1;
+    }
+    count
+}
+
+/// The same, by words: so many bytes before the first that is past ASCII, a quote, a backslash or a CR.
+#[inline(always)]
+pub fn count_plain(bytes: &[u8]) -> usize
+{
+    let mut size = 0;
+    while let Some(word) = bytes[size..].first_chunk::<8>() {
+        if let Some(more) = count_plain_in_word(word) {
+            return size + more;
+        }
+        size += 8;
+    }
+    size + count_plain_bytes(&bytes[size..])
+}
+
+/// The same, of the first 8 bytes, or of all where they are fewer: it needs fewer registers.
+#[inline(always)]
+pub fn count_few_plain(bytes: &[u8]) -> usize
+{
+    match bytes.first_chunk::<8>() {
+        Some(word) => count_plain_in_word(word).unwrap_or(8),
+        None => count_plain_bytes(bytes),
+    }
+}
+
+/// How many of the 8 bytes come before the first that is past ASCII, a LF or a CR: `None` says all.
+///
+/// The sums set the highest bit of each byte but those that are looked for.
+#[inline(always)]
+fn count_line_in_word(bytes: &[u8; 8]) -> Option<usize>
+{
+    let word = u64::from_le_bytes(*bytes);
+    let low = word & 0x7F7F_7F7F_7F7F_7F7F;
+    let feeds = (low ^ 0x0A0A_0A0A_0A0A_0A0A) + 0x7F7F_7F7F_7F7F_7F7F;
+    let returns = (low ^ 0x0D0D_0D0D_0D0D_0D0D) + 0x7F7F_7F7F_7F7F_7F7F;
+    let ends = (!(feeds & returns) | word) & 0x8080_8080_8080_8080;
+    if ends == 0 {
+        return None;
+    }
+    Some((ends.trailing_zeros() / 8) as usize)
+}
+
+/// How many bytes come before the first that is past ASCII, a LF or a CR, by one byte after the other.
+#[inline(always)]
+fn count_line_bytes(bytes: &[u8]) -> usize
+{
+    let mut count = 0;
+    while count < bytes.len() {
+        let byte = bytes[count];
+        if !byte.is_ascii() || byte == b'\n' || byte == b'\r' {
+            break;
+        }
+        count += 1;
+    }
+    count
+}
+
+/// The same, by words: so many bytes before the first that is past ASCII, a LF or a CR.
+#[inline(always)]
+pub fn count_line(bytes: &[u8]) -> usize
+{
+    let mut end = 0;
+    while let Some(word) = bytes[end..].first_chunk::<8>() {
+        if let Some(more) = count_line_in_word(word) {
+            return end + more;
+        }
+        end += 8;
+    }
+    end + count_line_bytes(&bytes[end..])
+}

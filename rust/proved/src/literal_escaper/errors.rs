@@ -1,8 +1,11 @@
 // Made from crates/literal_escaper/src/errors.rt by rust/erase: change that file, not this one.
 //! What can be wrong with the content of a literal.
 
+use crate::shim::fmt;
+
 /// A fault in the content of a literal, or a warning about it.
 #[derive(Debug, PartialEq, Eq)]
+#[non_exhaustive]
 pub enum EscapeError {
     /// No character where one was wanted: the content of `''`.
     ZeroChars,
@@ -65,4 +68,43 @@ impl EscapeError {
             _ => true,
         }
     }
+
+    /// What is wrong, in a few words, as `Display` writes it: `nothing follows the backslash` for `LoneSlash`.
+    pub fn message(&self) -> &'static str
+    {
+        match self {
+            EscapeError::ZeroChars => "no character stands between the quotes",
+            EscapeError::MoreThanOneChar => "more than one character stands between the quotes",
+            EscapeError::LoneSlash => "nothing follows the backslash",
+            EscapeError::InvalidEscape => "no escape begins so",
+            EscapeError::BareCarriageReturn => "CR that is not escaped",
+            EscapeError::BareCarriageReturnInRawString => "CR in a raw string",
+            EscapeError::EscapeOnlyChar => "this character stands here only escaped",
+            EscapeError::TooShortHexEscape => "fewer than two digits in the escape",
+            EscapeError::InvalidCharInHexEscape => "this is no digit to the base 16",
+            EscapeError::OutOfRangeHexEscape => "an escape past ASCII where characters are wanted",
+            EscapeError::NoBraceInUnicodeEscape => "no brace follows the front of the escape",
+            EscapeError::InvalidCharInUnicodeEscape => "this is no digit to the base 16",
+            EscapeError::EmptyUnicodeEscape => "no digit stands in the escape",
+            EscapeError::UnclosedUnicodeEscape => "no brace ends the escape",
+            EscapeError::LeadingUnderscoreUnicodeEscape =>
+                "an underscore before the digits of the escape",
+            EscapeError::OverlongUnicodeEscape => "more than six digits in the escape",
+            EscapeError::LoneSurrogateUnicodeEscape => "the code of a surrogate",
+            EscapeError::OutOfRangeUnicodeEscape => "a code above 10FFFF",
+            EscapeError::UnicodeEscapeInByte => "an escape of a character where bytes are wanted",
+            EscapeError::NonAsciiCharInByte => "a character past ASCII where bytes are wanted",
+            EscapeError::NulInCStr => "a zero in a C string",
+            EscapeError::UnskippedWhitespaceWarning => "white space that is not skipped",
+            EscapeError::MultipleSkippedLinesWarning => "more than one line end is skipped",
+        }
+    }
 }
+
+impl fmt::Display for EscapeError {
+    fn fmt<W: fmt::Write>(&self, f: &mut fmt::Formatter<W>) -> fmt::Result {
+        f.write_str(self.message())
+    }
+}
+
+crate::shim::display!(EscapeError);

@@ -1,10 +1,8 @@
 // Made from crates/pm_span/src/byte_index.rt by rust/erase: change that file, not this one.
 //! A text that isn't ASCII, whose bytes are found by characters.
 
-use crate::shim::prelude::{String, Vec};
-
 use crate::pm_span::text::{skip_chars, skip_chars_back};
-use crate::shim::alloc::{AllocError, Global};
+use crate::shim::alloc::AllocError;
 use crate::shim::collections::BTreeMap;
 use crate::shim::fmt;
 use crate::shim::ops::Range;
@@ -45,7 +43,7 @@ pub(crate) struct Memo {
 
 impl ByteIndex {
     /// The index of this text of so many characters, where lines that aren't ASCII begin and end as said.
-    pub(crate) fn new(alloc: Global, text: String, count: u32, bounds: Vec<OffsetPair>) -> ByteIndex
+    pub(crate) fn new(text: String, count: u32, bounds: Vec<OffsetPair>) -> ByteIndex
     {
         let start = OffsetPair { chars: 0, bytes: 0 };
         let memo = Memo {
@@ -57,7 +55,7 @@ impl ByteIndex {
             text,
             count,
             bounds,
-            known: BTreeMap::new(alloc),
+            known: BTreeMap::new(),
             memo,
         }
     }

@@ -1,13 +1,13 @@
 // Made from crates/pm_span/src/file_info.rt by rust/erase: change that file, not this one.
 //! A file of a source map.
 
-use crate::shim::prelude::{Box, String, Vec};
+use crate::shim::prelude::{Box, GrowText};
 
 use crate::pm_span::byte_index::{ByteIndex, OffsetPair};
 use crate::pm_span::line_index::LineIndex;
 use crate::pm_span::location::LineColumn;
 use crate::pm_span::text_lines::{Lines, find_lines};
-use crate::shim::alloc::{AllocError, Global};
+use crate::shim::alloc::AllocError;
 use crate::shim::fmt;
 use crate::shim::ops::Range;
 
@@ -30,18 +30,17 @@ enum FileText {
 impl FileText {
     /// A copy of this text of so many characters, where lines that aren't ASCII begin and end as said.
     fn new(
-        alloc: Global,
         text: &str,
         count: u32,
         bounds: Vec<OffsetPair>,
     ) -> Result<FileText, AllocError>
     {
-        let copy = String::from_str(alloc, text)?;
+        let copy = String::from_str_fallibly(text)?;
         if count as usize == text.len() {
             return Ok(FileText::Ascii(copy));
         }
-        let index = ByteIndex::new(alloc, copy, count, bounds);
-        Ok(FileText::Wide(Box::new(alloc, index)?))
+        let index = ByteIndex::new(copy, count, bounds);
+        Ok(FileText::Wide(Box::new(index)?))
     }
 }
 
@@ -64,18 +63,18 @@ impl fmt::Debug for FileInfo {
 
 impl FileInfo {
     /// The file of this text that begins at `lo`; refused if a growth is.
-    pub(crate) fn new(alloc: Global, text: &str, lo: u32) -> Result<FileInfo, AllocError>
+    pub(crate) fn new(text: &str, lo: u32) -> Result<FileInfo, AllocError>
     {
         let Lines {
             starts,
             non_ascii_bounds,
             count,
-        } = find_lines(alloc, text)?;
+        } = find_lines(text)?;
         Ok(FileInfo {
-            text: FileText::new(alloc, text, count, non_ascii_bounds)?,
+            text: FileText::new(text, count, non_ascii_bounds)?,
             lo,
             hi: lo + count,
-            lines: LineIndex::new(alloc, starts, count)?,
+            lines: LineIndex::new(starts, count)?,
         })
     }
 

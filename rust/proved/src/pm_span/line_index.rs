@@ -1,10 +1,10 @@
 // Made from crates/pm_span/src/line_index.rt by rust/erase: change that file, not this one.
 //! The lines of a text, found by offsets.
 
-use crate::shim::prelude::Vec;
+use crate::shim::prelude::Grow;
 
 use crate::pm_span::location::LineColumn;
-use crate::shim::alloc::{AllocError, Global};
+use crate::shim::alloc::AllocError;
 
 /// So many characters are a block.
 const BLOCK: u32 = 32;
@@ -37,22 +37,21 @@ fn block_for(line_feeds: usize, count: u32) -> u32
 
 /// For each block of so many characters how many of the line starts stand up to its start.
 fn count_by_blocks(
-    alloc: Global,
     starts: &[u32],
     count: u32,
     block: u32,
 ) -> Result<Vec<u32>, AllocError>
 {
     if starts.len() <= FEW_LINES {
-        return Ok(Vec::new(alloc));
+        return Ok(Vec::new());
     }
     let size = count / block;
-    let mut blocks = Vec::with_capacity(alloc, size as usize + 1)?;
+    let mut blocks = Vec::with_capacity_fallibly(size as usize + 1)?;
     let mut lines = 0;
     let mut block_start = 0u32;
     for _ in 0..size as usize + 1 {
         lines = count_on(starts, lines, block_start);
-        blocks.push(lines.min(u32::MAX as usize) as u32)?;
+        blocks.push_fallibly(lines.min(u32::MAX as usize) as u32)?;
         block_start = block_start.saturating_add(block);
     }
     Ok(blocks)
@@ -81,10 +80,11 @@ fn block_of(char_offset: u32, block: u32) -> u32
 
 impl LineIndex {
     /// The index of these line starts, which ascend, in a text of so many characters.
-    pub(crate) fn new(alloc: Global, starts: Vec<u32>, count: u32) -> Result<LineIndex, AllocError>
+    #[inline(always)]
+    pub(crate) fn new(starts: Vec<u32>, count: u32) -> Result<LineIndex, AllocError>
     {
         let block = block_for(starts.len(), count);
-        let blocks = count_by_blocks(alloc, &starts, count, block)?;
+        let blocks = count_by_blocks(&starts, count, block)?;
         Ok(LineIndex {
             starts,
             blocks,

@@ -1,7 +1,7 @@
 // Made from crates/pm_span/src/lookups.rt by rust/erase: change that file, not this one.
 //! What a span is asked of the map that holds it.
 
-use crate::shim::prelude::{String, format};
+use crate::shim::prelude::{GrowText, format};
 
 use crate::pm_span::byte_index::OffsetPair;
 use crate::pm_span::location::LineColumn;
@@ -39,9 +39,9 @@ impl Span {
         let (lo, _) = self.bounds();
         let (number, _) = map.file_of(lo);
         if number == 0 {
-            String::from_str(map.allocator(), "<unspecified>")
+            String::from_str_fallibly("<unspecified>")
         } else {
-            format!(in map.allocator(); "<parsed string {number}>")
+            format!("<parsed string {number}>")
         }
     }
 

@@ -5,7 +5,7 @@ use crate::pm_span::source_map::SourceMap;
 use crate::pm_span::spans::Span;
 pub use crate::pm_span::text::char_count;
 use crate::pm_span::text::has_fewer_chars;
-use crate::shim::alloc::{AllocError, Global};
+use crate::shim::alloc::AllocError;
 
 /// The span of the positions from `lo` up to `hi`, in characters.
 pub fn span_of(lo: u32, hi: u32) -> Span
@@ -46,9 +46,4 @@ pub fn fits_new(text: &str) -> Option<u32>
 pub fn add_file(map: &mut SourceMap, text: &str) -> Result<(), AllocError>
 {
     map.add_file(text)
-}
-
-/// Where the memory of the map comes from, and that of the streams that are read with it.
-pub fn allocator(map: &SourceMap) -> Global {
-    map.allocator()
 }

@@ -1,14 +1,14 @@
 // Made from crates/pm_span/src/source_map.rt by rust/erase: change that file, not this one.
 //! The map of the texts that were read.
 
-use crate::shim::prelude::{String, Vec};
+use crate::shim::prelude::{Grow, GrowText};
 
 use crate::pm_span::byte_index::OffsetPair;
 use crate::pm_span::file_info::FileInfo;
 use crate::pm_span::location::LineColumn;
 use crate::pm_span::spans::Span;
 use crate::pm_span::text::has_fewer_chars;
-use crate::shim::alloc::{AllocError, Global};
+use crate::shim::alloc::AllocError;
 use crate::shim::fmt;
 use crate::shim::ops::Range;
 
@@ -18,7 +18,6 @@ use crate::shim::ops::Range;
 /// begins one past the end of the file before it (`next-position`), so that a position lies in
 /// one file only. After the texts `ab` and `c` the files stand at 0..0, 1..3 and 4..5.
 pub struct SourceMap {
-    alloc: Global,
     /// The files from 1 on.
     files: Vec<FileInfo>,
     /// The positions that each of them takes.
@@ -53,7 +52,6 @@ fn count_begun(places: &[Place], position: u32) -> usize
 impl fmt::Debug for SourceMap {
     fn fmt(&self, f: &mut core::fmt::Formatter<'_>) -> fmt::Result {
         let mut debug = f.debug_struct("SourceMap");
-        debug.field("alloc", &self.alloc);
         debug.field("files", &self.files);
         debug.field("limit", &self.limit);
         debug.finish()
@@ -62,21 +60,20 @@ impl fmt::Debug for SourceMap {
 
 impl SourceMap {
     /// A map with no file but file 0, whose positions go up to 4294967295; takes no memory.
-    pub fn new(alloc: Global) -> SourceMap
+    pub fn new() -> SourceMap
     {
-        SourceMap::with_limit(alloc, u32::MAX)
+        SourceMap::with_limit(u32::MAX)
     }
 
     /// A map with no file but file 0, whose positions go up to `limit`; takes no memory.
     ///
     /// A text whose file would end past the limit doesn't fit (`fits`). With the limit 5, `abcd`
     /// stands at 1..5, and then not even the empty text fits.
-    pub fn with_limit(alloc: Global, limit: u32) -> SourceMap
+    pub fn with_limit(limit: u32) -> SourceMap
     {
         SourceMap {
-            alloc,
-            files: Vec::new(alloc),
-            places: Vec::new(alloc),
+            files: Vec::new(),
+            places: Vec::new(),
             limit,
         }
     }
@@ -152,7 +149,6 @@ impl SourceMap {
     /// A copy of the text of a span of the map, whose file may keep what it found; `None` for 0..0 alone.
     pub(crate) fn source_text(&mut self, span: Span) -> Result<Option<String>, AllocError>
     {
-        let alloc = self.alloc;
         let (lo, hi) = span.bounds();
         let (number, _) = self.file_of(lo);
         if number == 0 {
@@ -171,7 +167,7 @@ impl SourceMap {
             chars: end,
             bytes: bytes.end,
         };
-        let text = String::from_str(alloc, source.text_between(from, to))?;
+        let text = String::from_str_fallibly(source.text_between(from, to))?;
         Ok(Some(text))
     }
 
@@ -186,18 +182,13 @@ impl SourceMap {
         }
     }
 
-    /// What the map's memory is taken from.
-    pub(crate) fn allocator(&self) -> Global {
-        self.alloc
-    }
-
     /// Adds the text as the next file; a refused growth leaves the map as it was.
     pub(crate) fn add_file(&mut self, text: &str) -> Result<(), AllocError>
     {
         let lo = self.last_hi() + 1;
-        let file = FileInfo::new(self.alloc, text, lo)?;
-        self.places.push(Place { lo, hi: file.hi() })?;
-        match self.files.push(file) {
+        let file = FileInfo::new(text, lo)?;
+        self.places.push_fallibly(Place { lo, hi: file.hi() })?;
+        match self.files.push_fallibly(file) {
             Ok(()) => Ok(()),
             Err(_) => {
                 let _ = self.places.pop();

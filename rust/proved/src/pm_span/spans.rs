@@ -1,7 +1,7 @@
 // Made from crates/pm_span/src/spans.rt by rust/erase: change that file, not this one.
 //! Where tokens stand.
 
-use crate::shim::prelude::String;
+use crate::shim::prelude::GrowText;
 
 use crate::shim::fmt;
 

@@ -5,16 +5,16 @@ mod collects;
 
 use crate::pm_stream::stream::{Group, TokenStream, TokenTree};
 use crate::pm_token::{Ident, Literal, Punct};
-use crate::shim::alloc::{AllocError, Global};
+use crate::shim::alloc::AllocError;
 
 impl TokenStream {
     /// The stream of this tree, by the rule `split`. Fails where memory runs out.
     ///
     /// The literal `-3i32` gives two trees, the mark `-` Alone and the literal `3i32`, both with the
     /// span of that literal. Any other tree gives itself.
-    pub fn from_tree(alloc: Global, tree: TokenTree) -> Result<TokenStream, AllocError>
+    pub fn from_tree(tree: TokenTree) -> Result<TokenStream, AllocError>
     {
-        let mut stream = TokenStream::new(alloc);
+        let mut stream = TokenStream::new();
         stream.put(tree)?;
         Ok(stream)
     }
@@ -22,11 +22,10 @@ impl TokenStream {
     /// The stream of these trees, in order, each by the rule `split`. Fails where memory runs out,
     /// which it doesn't for no trees.
     pub fn from_trees<I: IntoIterator<Item = TokenTree>>(
-        alloc: Global,
         trees: I,
     ) -> Result<TokenStream, AllocError>
     {
-        let mut stream = TokenStream::new(alloc);
+        let mut stream = TokenStream::new();
         stream.extend_trees(trees)?;
         Ok(stream)
     }
@@ -36,11 +35,10 @@ impl TokenStream {
     ///
     /// The trees of a stream that shares them with no other are moved, not copied.
     pub fn from_streams<I: IntoIterator<Item = TokenStream>>(
-        alloc: Global,
         streams: I,
     ) -> Result<TokenStream, AllocError>
     {
-        let mut stream = TokenStream::new(alloc);
+        let mut stream = TokenStream::new();
         stream.extend_streams(streams)?;
         Ok(stream)
     }

@@ -7,21 +7,19 @@
 use crate::pm_stream::steps::{Step, Steps};
 use crate::pm_stream::stream::{Group, TokenStream, TokenTree};
 use crate::pm_token::{Delimiter, Spacing};
-use crate::shim::alloc::Global;
 use crate::shim::fmt;
 use crate::shim::fmt::Display;
 
 fn print_trees<W: fmt::Write>(
-    alloc: Global,
     trees: &[TokenTree],
     within: bool,
     f: &mut fmt::Formatter<W>,
 ) -> fmt::Result
 {
-    let mut steps = Steps::new(alloc, trees);
+    let mut steps = Steps::new(trees);
     let mut gap = within;
     loop {
-        match steps.next() {
+        match steps.try_next() {
             Ok(None) => return Ok(()),
             Ok(Some(step)) => {
                 print_step(step, &mut gap, f)?;
@@ -34,7 +32,7 @@ fn print_trees<W: fmt::Write>(
                 print_space(gap, f)?;
                 print_opening(around, f)?;
                 let inside = group.stream_ref().trees();
-                print_trees(alloc, inside, is_brace(around), f)?;
+                print_trees(inside, is_brace(around), f)?;
                 print_ending(around, f)?;
                 gap = true;
             }
@@ -138,7 +136,7 @@ fn gap_within(tree: &TokenTree) -> bool
 /// written in part then.
 impl Display for TokenStream {
     fn fmt<W: fmt::Write>(&self, f: &mut fmt::Formatter<W>) -> fmt::Result {
-        print_trees(self.alloc(), self.trees(), false, f)
+        print_trees(self.trees(), false, f)
     }
 }
 
@@ -165,7 +163,7 @@ impl Display for Group {
         let delimiter = self.delimiter();
         let stream = self.stream_ref();
         print_opening(delimiter, f)?;
-        print_trees(stream.alloc(), stream.trees(), is_brace(delimiter), f)?;
+        print_trees(stream.trees(), is_brace(delimiter), f)?;
         print_ending(delimiter, f)
     }
 }

@@ -1,25 +1,25 @@
 // Made from crates/pm_stream/src/doc.rt by rust/erase: change that file, not this one.
 //! The tokens of a doc comment.
 
-use crate::shim::prelude::Vec;
+use crate::shim::prelude::Grow;
 
 use crate::pm_stream::stream::{Group, TokenStream, TokenTree};
 use crate::pm_span::Span;
 use crate::pm_token::parts::{ident, punct, string_literal};
 use crate::pm_token::{Delimiter, Ident, Literal, Punct, Spacing};
-use crate::shim::alloc::{AllocError, Global};
+use crate::shim::alloc::AllocError;
 
 /// The group `[doc = ".."]` of the text (`doc-tokens`), where it and each tree in it has this span.
-pub(crate) fn doc_group(alloc: Global, text: &str, span: Span) -> Result<Group, AllocError>
+pub(crate) fn doc_group(text: &str, span: Span) -> Result<Group, AllocError>
 {
-    let doc = ident(alloc, "doc", false, span)?;
+    let doc = ident("doc", false, span)?;
     let equals = punct('=', Spacing::Alone, span);
-    let text = string_literal(alloc, text, span)?;
-    let mut trees = Vec::with_capacity(alloc, 3)?;
-    trees.push(TokenTree::Ident(doc))?;
-    trees.push(TokenTree::Punct(equals))?;
-    trees.push(TokenTree::Literal(text))?;
-    let stream = TokenStream::from_vec(alloc, trees)?;
+    let text = string_literal(text, span)?;
+    let mut trees = Vec::with_capacity_fallibly(3)?;
+    trees.push_fallibly(TokenTree::Ident(doc))?;
+    trees.push_fallibly(TokenTree::Punct(equals))?;
+    trees.push_fallibly(TokenTree::Literal(text))?;
+    let stream = TokenStream::from_vec(trees)?;
     Ok(Group::from_parts(Delimiter::Bracket, stream, span))
 }
 

@@ -1,16 +1,16 @@
 // Made from crates/pm_stream/src/parse.rt by rust/erase: change that file, not this one.
 //! The parser: from the pieces of a text to its token trees.
 
-use crate::shim::prelude::Vec;
+use crate::shim::prelude::{Grow, GrowList};
 
 use crate::pm_stream::doc::doc_group;
 use crate::pm_stream::stream::{Group, TokenStream, TokenTree};
 use crate::lexical::{Piece, PieceKind, past_white, piece_at};
-use crate::pm_span::parts::{add_file, allocator, fits, fits_new, span_of};
+use crate::pm_span::parts::{add_file, fits, fits_new, span_of};
 use crate::pm_span::{SourceMap, Span};
 use crate::pm_token::parts::{fault, ident, literal, punct};
 use crate::pm_token::{Delimiter, ParseError, Spacing};
-use crate::shim::alloc::{AllocError, Global};
+use crate::shim::alloc::AllocError;
 
 /// For how many trees a list may keep room that stays empty.
 const FEW_TREES: usize = 8;
@@ -35,7 +35,7 @@ impl TokenStream {
         let Some(lo) = fits(map, text) else {
             return Err(ParseError::MapFull);
         };
-        let parsed = parse(allocator(map), lo, text);
+        let parsed = parse(lo, text);
         if let Err(ParseError::Memory(_)) = &parsed {
             return parsed;
         }
@@ -51,19 +51,19 @@ impl TokenStream {
     /// a map: `from_str` finds it at the same position.
     ///
     /// `a += b` gives four trees, the first the identifier `a` at 1..2. The fault of `(]` is 2..2.
-    pub fn parse_unmapped(alloc: Global, text: &str) -> Result<TokenStream, ParseError>
+    pub fn parse_unmapped(text: &str) -> Result<TokenStream, ParseError>
     {
         let Some(lo) = fits_new(text) else {
             return Err(ParseError::MapFull);
         };
-        parse(alloc, lo, text)
+        parse(lo, text)
     }
 }
 
 /// The trees of a text that begins at the position `base`.
-pub(crate) fn parse(alloc: Global, base: u32, text: &str) -> Result<TokenStream, ParseError>
+pub(crate) fn parse(base: u32, text: &str) -> Result<TokenStream, ParseError>
 {
-    let mut parser = Parser::new(alloc);
+    let mut parser = Parser::new();
     let mut rest = text;
     let mut at = base;
     let mut first = true;
@@ -81,7 +81,6 @@ pub(crate) fn parse(alloc: Global, base: u32, text: &str) -> Result<TokenStream,
 
 /// What was read so far.
 struct Parser {
-    alloc: Global,
     /// The groups that are open, the innermost last.
     frames: Vec<Frame>,
     /// The trees of all of them and those outside every group, the innermost group's last.
@@ -101,12 +100,11 @@ struct Frame {
 
 impl Parser {
     /// Nothing was read.
-    fn new(alloc: Global) -> Parser
+    fn new() -> Parser
     {
         Parser {
-            alloc,
-            frames: Vec::new(alloc),
-            trees: Vec::new(alloc),
+            frames: Vec::new(),
+            trees: Vec::new(),
         }
     }
 
@@ -121,7 +119,7 @@ impl Parser {
             PieceKind::Doc { inner, text } => self.push_doc(inner, text, span_of(lo, hi))?,
             PieceKind::Mark { joint, mark } => self.push_mark(mark, joint, span_of(lo, hi))?,
             PieceKind::Name { raw, name } => {
-                let name = ident(self.alloc, name, raw, span_of(lo, hi))?;
+                let name = ident(name, raw, span_of(lo, hi))?;
                 self.push(TokenTree::Ident(name))?;
             }
             PieceKind::Literal => self.push_literal(&text[..piece.bytes], span_of(lo, hi))?,
@@ -137,7 +135,7 @@ impl Parser {
     {
         // Proofs learn by it that the tree is built.
         let _ = tree.span();
-        self.trees.push(tree)?;
+        self.trees.push_fallibly(tree)?;
         Ok(())
     }
 
@@ -152,7 +150,7 @@ impl Parser {
     #[inline(never)]
     fn push_literal(&mut self, text: &str, span: Span) -> Result<(), AllocError>
     {
-        let literal = literal(self.alloc, text, span)?;
+        let literal = literal(text, span)?;
         self.push(TokenTree::Literal(literal))
     }
 
@@ -164,7 +162,7 @@ impl Parser {
         if inner {
             self.push_mark('!', false, span)?;
         }
-        let group = doc_group(self.alloc, text, span)?;
+        let group = doc_group(text, span)?;
         self.push(TokenTree::Group(group))
     }
 
@@ -172,7 +170,7 @@ impl Parser {
     fn open(&mut self, delimiter: Delimiter, lo: u32) -> Result<(), AllocError>
     {
         let before = self.trees.len();
-        self.frames.push(Frame {
+        self.frames.push_fallibly(Frame {
             before,
             delimiter,
             lo,
@@ -190,10 +188,10 @@ impl Parser {
         if frame.delimiter != delimiter {
             return Err(fault_at(lo));
         }
-        let trees = self.trees.split_off(frame.before)?;
-        let stream = TokenStream::from_vec(self.alloc, trees)?;
+        let trees = self.trees.split_off_fallibly(frame.before)?;
+        let stream = TokenStream::from_vec(trees)?;
         let group = Group::from_parts(delimiter, stream, span_of(frame.lo, hi));
-        self.trees.push(TokenTree::Group(group))?;
+        self.trees.push_fallibly(TokenTree::Group(group))?;
         Ok(())
     }
 
@@ -212,18 +210,18 @@ impl Parser {
     fn finish(self) -> Result<TokenStream, ParseError>
     {
         let Parser {
-            alloc,
             mut frames,
             mut trees,
         } = self;
         if let Some(frame) = frames.pop() {
             return Err(fault_at(frame.lo));
         }
-        // It held the trees of all open groups too. Where memory for a smaller list is refused it stays as it is.
+        // The list also held the trees of all open groups. If the smaller allocation is refused,
+        // the list stays as it is.
         if trees.capacity().saturating_sub(trees.len()) > FEW_TREES {
             trees.shrink_to_fit();
         }
-        Ok(TokenStream::from_vec(alloc, trees)?)
+        Ok(TokenStream::from_vec(trees)?)
     }
 }
 

@@ -1,12 +1,10 @@
 // Made from crates/pm_stream/src/parts.rt by rust/erase: change that file, not this one.
 //! What the crates above make streams of, and users don't.
 
-use crate::shim::prelude::Vec;
-
 use crate::pm_stream::stream::{Group, TokenStream, TokenTree};
 use crate::pm_span::Span;
 use crate::pm_token::{Delimiter, Ident, Literal, Punct};
-use crate::shim::alloc::{AllocError, Global};
+use crate::shim::alloc::AllocError;
 
 /// The group of these parts.
 pub fn group(delimiter: Delimiter, stream: TokenStream, span: Span) -> Group
@@ -15,9 +13,30 @@ pub fn group(delimiter: Delimiter, stream: TokenStream, span: Span) -> Group
 }
 
 /// The stream of these trees. Fails where memory runs out.
-pub fn stream(alloc: Global, trees: Vec<TokenTree>) -> Result<TokenStream, AllocError>
+pub fn stream(trees: Vec<TokenTree>) -> Result<TokenStream, AllocError>
 {
-    TokenStream::from_vec(alloc, trees)
+    TokenStream::from_vec(trees)
+}
+
+/// The trees of the stream, in order. A list that no other stream shares is taken over. Another is copied, which fails
+/// where memory runs out.
+pub fn into_trees(stream: TokenStream) -> Result<Vec<TokenTree>, AllocError>
+{
+    stream.into_list()
+}
+
+/// The trees of the group, which keeps none.
+#[inline(always)]
+pub fn take_stream(group: &mut Group) -> TokenStream
+{
+    group.take_stream()
+}
+
+/// Puts these trees into the group in place of its own.
+#[inline(always)]
+pub fn set_stream(group: &mut Group, stream: TokenStream)
+{
+    group.set_stream(stream);
 }
 
 /// Puts a group after the trees of a stream. Where memory runs out the stream stays as it was.

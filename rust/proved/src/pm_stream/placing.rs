@@ -1,13 +1,13 @@
 // Made from crates/pm_stream/src/placing.rt by rust/erase: change that file, not this one.
 //! Where each tree of a text stands, with no trees made of it.
 
-use crate::shim::prelude::Vec;
+use crate::shim::prelude::Grow;
 
 use crate::pm_stream::parse::{delimiter, fault_at};
 use crate::lexical::{Piece, PieceKind, past_white, piece_at};
 use crate::pm_span::parts::fits_new;
 use crate::pm_token::{Delimiter, ParseError};
-use crate::shim::alloc::{AllocError, Global};
+use crate::shim::alloc::AllocError;
 
 /// A line and a column of a text, as in [`LineColumn`](crate::pm_span::LineColumn), in half the memory.
 ///
@@ -55,18 +55,18 @@ pub struct PlacedTree {
 ///
 /// `a (b)` has an identifier from 1:0 to 1:1, a group from 1:2 to 1:5, and an identifier from 1:3 to 1:4. The fault
 /// of `(]` is 2..2.
-pub fn place_trees(alloc: Global, text: &str) -> Result<Vec<PlacedTree>, ParseError>
+pub fn place_trees(text: &str) -> Result<Vec<PlacedTree>, ParseError>
 {
     let Some(lo) = fits_new(text) else {
         return Err(ParseError::MapFull);
     };
-    place_trees_at(alloc, lo, text)
+    place_trees_at(lo, text)
 }
 
 /// Where each tree of a text that begins at the position `base` stands.
-fn place_trees_at(alloc: Global, base: u32, text: &str) -> Result<Vec<PlacedTree>, ParseError>
+fn place_trees_at(base: u32, text: &str) -> Result<Vec<PlacedTree>, ParseError>
 {
-    let mut placer = Placer::with_room(alloc, text.len())?;
+    let mut placer = Placer::with_room(text.len())?;
     let mut rest = text;
     let mut at = base;
     let mut start = Place { line: 1, column: 0 };
@@ -161,12 +161,12 @@ struct OpenGroup {
 
 impl Placer {
     /// Nothing was placed. There is room for most texts of so many bytes.
-    fn with_room(alloc: Global, bytes: usize) -> Result<Placer, AllocError>
+    fn with_room(bytes: usize) -> Result<Placer, AllocError>
     {
         Ok(Placer {
-            groups: Vec::new(alloc),
+            groups: Vec::new(),
             // A tree of code has some five bytes, with the white characters after it.
-            trees: Vec::with_capacity(alloc, bytes / 4)?,
+            trees: Vec::with_capacity_fallibly(bytes / 4)?,
         })
     }
 
@@ -201,7 +201,7 @@ impl Placer {
     #[inline(always)]
     fn push(&mut self, start: Place, end: Place, kind: TreeKind) -> Result<(), AllocError>
     {
-        self.trees.push(PlacedTree { start, end, kind })?;
+        self.trees.push_fallibly(PlacedTree { start, end, kind })?;
         Ok(())
     }
 
@@ -224,7 +224,7 @@ impl Placer {
     fn open(&mut self, delimiter: Delimiter, lo: u32, start: Place) -> Result<(), AllocError>
     {
         let index = self.trees.len();
-        self.groups.push(OpenGroup {
+        self.groups.push_fallibly(OpenGroup {
             delimiter,
             lo,
             start,

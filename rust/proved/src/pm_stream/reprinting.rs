@@ -1,7 +1,7 @@
 // Made from crates/pm_stream/src/reprinting.rt by rust/erase: change that file, not this one.
 //! From a text to its printed text, with no trees in between.
 
-use crate::shim::prelude::{String, Vec};
+use crate::shim::prelude::Grow;
 
 use crate::pm_stream::display::is_brace;
 use crate::pm_stream::parse::{delimiter, fault_at};
@@ -9,7 +9,7 @@ use crate::lexical::{Piece, PieceKind, past_white, piece_at};
 use crate::pm_span::parts::fits_new;
 use crate::pm_token::parts::TextBuilder;
 use crate::pm_token::{Delimiter, ParseError};
-use crate::shim::alloc::{AllocError, Global};
+use crate::shim::alloc::AllocError;
 
 /// The printed text of a text: what Display writes of the stream that it parses to.
 ///
@@ -20,18 +20,18 @@ use crate::shim::alloc::{AllocError, Global};
 /// (`fits`), and `Memory` where a growth was refused.
 ///
 /// `a+=b` gives `a += b`, and `{x}` gives `{ x }`. The fault of `(]` is 2..2.
-pub fn reprint(alloc: Global, text: &str) -> Result<String, ParseError>
+pub fn reprint(text: &str) -> Result<String, ParseError>
 {
     let Some(lo) = fits_new(text) else {
         return Err(ParseError::MapFull);
     };
-    reprint_at(alloc, lo, text)
+    reprint_at(lo, text)
 }
 
 /// The printed text of a text that begins at the position `base`.
-fn reprint_at(alloc: Global, base: u32, text: &str) -> Result<String, ParseError>
+fn reprint_at(base: u32, text: &str) -> Result<String, ParseError>
 {
-    let mut printer = Printer::with_room(alloc, text.len())?;
+    let mut printer = Printer::with_room(text.len())?;
     let mut rest = text;
     let mut at = base;
     let mut first = true;
@@ -67,11 +67,11 @@ struct OpenGroup {
 
 impl Printer {
     /// Nothing was printed, and there is room for so many bytes.
-    fn with_room(alloc: Global, bytes: usize) -> Result<Printer, AllocError>
+    fn with_room(bytes: usize) -> Result<Printer, AllocError>
     {
         Ok(Printer {
-            groups: Vec::new(alloc),
-            draft: TextBuilder::with_room(alloc, bytes)?,
+            groups: Vec::new(),
+            draft: TextBuilder::with_room(bytes)?,
             gap: false,
         })
     }
@@ -157,7 +157,7 @@ impl Printer {
     {
         self.write_opening(delimiter)?;
         self.gap = is_brace(delimiter);
-        self.groups.push(OpenGroup { delimiter, lo })?;
+        self.groups.push_fallibly(OpenGroup { delimiter, lo })?;
         Ok(())
     }
 

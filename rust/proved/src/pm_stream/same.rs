@@ -5,11 +5,10 @@
 //! not on the stack. If memory for the list is refused, the function calls itself for the group,
 //! so that it answers all the same.
 
-use crate::shim::prelude::Vec;
+use crate::shim::prelude::Grow;
 
 use crate::pm_stream::stream::{TokenStream, TokenTree};
 use crate::pm_token::{Literal, Punct};
-use crate::shim::alloc::Global;
 
 // Two lists of trees that are to be compared.
 #[derive(Clone, Copy)]
@@ -29,14 +28,14 @@ impl TokenStream {
     /// one `+` is Alone and the other Joint.
     pub fn same_tokens(&self, other: &TokenStream) -> bool
     {
-        are_same(self.alloc(), self.trees(), other.trees())
+        are_same(self.trees(), other.trees())
     }
 }
 
 // Whether these trees are those of the other list, up to spans.
-fn are_same(alloc: Global, trees: &[TokenTree], others: &[TokenTree]) -> bool
+fn are_same(trees: &[TokenTree], others: &[TokenTree]) -> bool
 {
-    let mut outer = Vec::new(alloc);
+    let mut outer = Vec::new();
     let mut left = Lists { trees, others };
     loop {
         let Some((tree, trees)) = left.trees.split_first() else {
@@ -64,9 +63,9 @@ fn are_same(alloc: Global, trees: &[TokenTree], others: &[TokenTree]) -> bool
         if inside.trees.is_empty() && inside.others.is_empty() {
             continue;
         }
-        if outer.push(after).is_ok() {
+        if outer.push_fallibly(after).is_ok() {
             left = inside;
-        } else if !are_same(alloc, inside.trees, inside.others) {
+        } else if !are_same(inside.trees, inside.others) {
             return false;
         }
     }

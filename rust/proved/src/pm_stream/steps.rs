@@ -3,10 +3,10 @@
 //!
 //! Groups may nest as deep as a text is long, so the groups that are open stand in a list and not on the stack.
 
-use crate::shim::prelude::Vec;
+use crate::shim::prelude::Grow;
 
 use crate::pm_stream::stream::{Group, TokenStream, TokenTree};
-use crate::shim::alloc::{AllocError, Global};
+use crate::shim::alloc::AllocError;
 
 /// A step of a traversal, each with the trees that follow in the same list.
 #[derive(Clone, Copy)]
@@ -40,16 +40,16 @@ impl TokenStream {
     /// `a (b) c` has the steps past `a`, into `(b)`, past `b`, out of `(b)` and past `c`.
     pub fn steps(&self) -> Steps<'_>
     {
-        Steps::new(self.alloc(), self.trees())
+        Steps::new(self.trees())
     }
 }
 
 impl<'a> Steps<'a> {
     /// A traversal of these trees. It takes no memory.
-    pub fn new(alloc: Global, trees: &'a [TokenTree]) -> Steps<'a>
+    pub fn new(trees: &'a [TokenTree]) -> Steps<'a>
     {
         Steps {
-            outer: Vec::new(alloc),
+            outer: Vec::new(),
             left: trees,
         }
     }
@@ -59,7 +59,7 @@ impl<'a> Steps<'a> {
     /// It takes memory only on the way into a group, for what comes after that. Where it is refused, all stays as it
     /// was, and [`pass_over`](Steps::pass_over) gives the group.
     #[inline(always)]
-    pub fn next(&mut self) -> Result<Option<Step<'a>>, AllocError>
+    pub fn try_next(&mut self) -> Result<Option<Step<'a>>, AllocError>
     {
         let Some((tree, after)) = self.left.split_first() else {
             let Some(open) = self.outer.pop() else {
@@ -69,7 +69,7 @@ impl<'a> Steps<'a> {
             return Ok(Some(Step::Leave(open.group, open.after)));
         };
         if let TokenTree::Group(group) = tree {
-            self.outer.push(OpenGroup { group, after })?;
+            self.outer.push_fallibly(OpenGroup { group, after })?;
             self.left = group.stream_ref().trees();
             return Ok(Some(Step::Enter(group, after)));
         }

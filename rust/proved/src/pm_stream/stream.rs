@@ -1,7 +1,7 @@
 // Made from crates/pm_stream/src/stream.rt by rust/erase: change that file, not this one.
 //! Streams of token trees.
 
-use crate::shim::prelude::{Clone, Vec};
+use crate::shim::prelude::{Grow, TryClone};
 
 mod changes;
 mod clones;
@@ -11,12 +11,11 @@ mod owned;
 use crate::pm_span::Span;
 use crate::pm_span::parts::bounds;
 use crate::pm_token::{Delimiter, Ident, Literal, Punct};
-use crate::shim::alloc::{AllocError, Global};
+use crate::shim::alloc::AllocError;
 use crate::shim::rc::Rc;
 
 /// Token trees in order, each a token or a group of trees between delimiters.
 pub struct TokenStream {
-    alloc: Global,
     trees: Option<Rc<Vec<TokenTree>>>,
 }
 
@@ -44,7 +43,7 @@ pub struct Group {
 // dropped in little stack and no memory, however deep its groups nest.
 impl Drop for TokenStream {
     fn drop(&mut self) {
-        let (alloc, trees) = (self.alloc, self.trees.take());
+        let trees = self.trees.take();
         let Some(mut shared) = trees else {
             return;
         };
@@ -52,7 +51,6 @@ impl Drop for TokenStream {
             return;
         };
         let mut here = TokenStream {
-            alloc,
             trees: Some(shared),
         };
         let mut outer = last.stream;
@@ -112,7 +110,7 @@ fn pop_group(trees: &mut Vec<TokenTree>) -> Option<Group>
 fn put_last(shared: &mut Rc<Vec<TokenTree>>, tree: TokenTree) -> Result<(), TokenTree>
 {
     match Rc::get_mut(shared) {
-        Some(own) => match own.push(tree) {
+        Some(own) => match own.push_fallibly(tree) {
             Ok(()) => Ok(()),
             Err(refused) => Err(refused.value),
         },
@@ -122,21 +120,20 @@ fn put_last(shared: &mut Rc<Vec<TokenTree>>, tree: TokenTree) -> Result<(), Toke
 
 impl TokenStream {
     /// A stream with no trees. It takes no memory.
-    pub fn new(alloc: Global) -> TokenStream
+    pub fn new() -> TokenStream
     {
-        TokenStream { alloc, trees: None }
+        TokenStream { trees: None }
     }
 
     /// The stream of these trees. An empty list takes no memory; any other is moved into memory that
     /// streams share, and is lost where that is refused.
-    pub(crate) fn from_vec(alloc: Global, trees: Vec<TokenTree>) -> Result<TokenStream, AllocError>
+    pub(crate) fn from_vec(trees: Vec<TokenTree>) -> Result<TokenStream, AllocError>
     {
         if trees.is_empty() {
-            return Ok(TokenStream::new(alloc));
+            return Ok(TokenStream::new());
         }
         Ok(TokenStream {
-            alloc,
-            trees: Some(Rc::new(alloc, trees)?),
+            trees: Some(Rc::new(trees)?),
         })
     }
 
@@ -166,7 +163,6 @@ impl TokenStream {
     // Puts a group of the outer trees after its own, or gives them back.
     fn push_outer(&mut self, outer: TokenStream) -> Result<(), TokenStream>
     {
-        let alloc = self.alloc;
         let Some(shared) = &mut self.trees else {
             return Err(outer);
         };
@@ -177,14 +173,9 @@ impl TokenStream {
             span: Span::call_site(),
         };
         if let Err(back) = put_last(shared, TokenTree::Group(way)) {
-            return Err(back.into_inside(alloc));
+            return Err(back.into_inside());
         }
         Ok(())
-    }
-
-    /// Where its memory comes from.
-    pub(crate) fn alloc(&self) -> Global {
-        self.alloc
     }
 
     // What is true of every stream. It computes nothing: it hands the type's invariant to proofs.
@@ -235,12 +226,11 @@ impl TokenTree {
     }
 
     // The trees within a group, and none of a token.
-    fn into_inside(self, alloc: Global) -> TokenStream
+    fn into_inside(self) -> TokenStream
     {
         match self {
             TokenTree::Group(group) => group.stream,
             TokenTree::Ident(_) | TokenTree::Punct(_) | TokenTree::Literal(_) => TokenStream::new(
-                alloc,
             ),
         }
     }
@@ -285,7 +275,7 @@ impl Group {
     /// [`stream_ref`](Group::stream_ref) lends them.
     pub fn stream(&self) -> Result<TokenStream, AllocError>
     {
-        self.stream.clone()
+        self.stream.try_clone()
     }
 
     /// Where it stands, delimiters and all. Proofs learn by it what every group is (`built`).
@@ -301,5 +291,20 @@ impl Group {
     pub fn set_span(&mut self, span: Span)
     {
         self.span = span;
+    }
+
+    /// Its trees, of which it keeps none.
+    #[inline(always)]
+    pub(crate) fn take_stream(&mut self) -> TokenStream
+    {
+        let trees = self.stream.trees.take();
+        TokenStream { trees }
+    }
+
+    /// Puts these trees in place of its own.
+    #[inline(always)]
+    pub(crate) fn set_stream(&mut self, stream: TokenStream)
+    {
+        self.stream = stream;
     }
 }

@@ -1,7 +1,7 @@
 // Made from crates/pm_stream/src/token_stream.rt by rust/erase: change that file, not this one.
 //! The trees of a stream, given away one at a time.
 
-use crate::shim::prelude::Clone;
+use crate::shim::prelude::TryClone;
 
 pub use crate::pm_stream::stream::TokenStream;
 use crate::pm_stream::stream::TokenTree;
@@ -22,7 +22,7 @@ impl TokenStream {
     ///
     /// Where another stream shares the trees they are copied, and this fails where memory for that runs
     /// out; the other stream stays as it was. Else it takes no memory.
-    pub fn into_iter(self) -> Result<IntoIter, AllocError>
+    pub fn try_into_iter(self) -> Result<IntoIter, AllocError>
     {
         Ok(IntoIter {
             left: VecDeque::from_vec(self.into_list()?),
@@ -48,13 +48,15 @@ impl Iterator for IntoIter {
 }
 
 /// An iterator over copies of the trees that are left. Fails where memory runs out.
-impl Clone for IntoIter {
-    fn clone(&self) -> Result<IntoIter, AllocError> {
+impl TryClone for IntoIter {
+    fn try_clone(&self) -> Result<IntoIter, AllocError> {
         Ok(IntoIter {
-            left: self.left.clone()?,
+            left: self.left.try_clone()?,
         })
     }
 }
+
+crate::shim::copied!(IntoIter);
 
 /// Shows the list of the trees that are left, as a stream of them is shown.
 impl fmt::Debug for IntoIter {

@@ -28,11 +28,11 @@ impl<'a> Walk<'a> {
     ///
     /// It takes memory only at a group, for what comes after that, so it fails only where the next tree
     /// is a group. Where memory is refused the walk stays as it was.
-    pub fn next(&mut self) -> Result<Option<&'a TokenTree>, AllocError>
+    pub fn try_next(&mut self) -> Result<Option<&'a TokenTree>, AllocError>
     {
         loop {
             let tree = self.steps.front();
-            let step = self.steps.next()?;
+            let step = self.steps.try_next()?;
             if tree.is_some() || step.is_none() {
                 return Ok(tree);
             }

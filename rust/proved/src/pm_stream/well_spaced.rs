@@ -8,7 +8,6 @@ use crate::pm_stream::steps::{Step, Steps};
 use crate::pm_stream::stream::{TokenStream, TokenTree};
 use crate::lexical::parts::begins;
 use crate::pm_token::{Delimiter, Punct, Spacing};
-use crate::shim::alloc::Global;
 
 impl TokenStream {
     /// Whether it is `well-spaced`: whether a parse of its printed text gives the same stream again,
@@ -21,16 +20,16 @@ impl TokenStream {
     /// `+` Alone and `a`.
     pub fn is_well_spaced(&self) -> bool
     {
-        are_well_spaced(self.alloc(), self.trees())
+        are_well_spaced(self.trees())
     }
 }
 
 // Whether these trees and all trees inside them are well spaced.
-fn are_well_spaced(alloc: Global, trees: &[TokenTree]) -> bool
+fn are_well_spaced(trees: &[TokenTree]) -> bool
 {
-    let mut steps = Steps::new(alloc, trees);
+    let mut steps = Steps::new(trees);
     loop {
-        match steps.next() {
+        match steps.try_next() {
             Ok(None) => return true,
             Ok(Some(step)) => {
                 if !step_fits(step) {
@@ -44,7 +43,7 @@ fn are_well_spaced(alloc: Global, trees: &[TokenTree]) -> bool
                 if !is_shown(group.delimiter()) {
                     return false;
                 }
-                if !are_well_spaced(alloc, group.stream_ref().trees()) {
+                if !are_well_spaced(group.stream_ref().trees()) {
                     return false;
                 }
             }

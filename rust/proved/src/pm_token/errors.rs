@@ -3,7 +3,6 @@
 
 use crate::pm_span::Span;
 use crate::shim::alloc::{AllocError, AllocFailed};
-use crate::shim::error::Error;
 use crate::shim::fmt;
 
 /// A text that couldn't be read: its fault, by its span.
@@ -28,6 +27,14 @@ impl LexError {
     }
 }
 
+impl PartialEq for LexError {
+    /// Whether both faults have the same span.
+    fn eq(&self, other: &LexError) -> bool {
+        let LexError { span } = self;
+        span.eq(&other.span)
+    }
+}
+
 impl fmt::Display for LexError {
     fn fmt<W: fmt::Write>(&self, f: &mut fmt::Formatter<W>) -> fmt::Result {
         f.write_str("cannot parse string into token stream")
@@ -36,10 +43,9 @@ impl fmt::Display for LexError {
 
 crate::shim::display!(LexError);
 
-impl Error for LexError {}
-
 /// Why a text was not parsed.
-#[derive(Debug)]
+#[derive(Debug, PartialEq)]
+#[non_exhaustive]
 pub enum ParseError {
     /// The text has a fault, and is a file of the map. The fault of a stream has its span there;
     /// that of a literal is 0..0.
@@ -48,6 +54,17 @@ pub enum ParseError {
     MapFull,
     /// Memory ran out. The map is as before.
     Memory(AllocError),
+}
+
+impl ParseError {
+    /// Where the fault of the text stands, as [`LexError::span`] has it; `None` if the text has no fault.
+    pub fn span(&self) -> Option<Span>
+    {
+        match self {
+            ParseError::Lex(error) => Some(error.span()),
+            ParseError::MapFull | ParseError::Memory(_) => None,
+        }
+    }
 }
 
 impl fmt::Display for ParseError {
@@ -61,8 +78,6 @@ impl fmt::Display for ParseError {
 }
 
 crate::shim::display!(ParseError);
-
-impl Error for ParseError {}
 
 impl From<AllocError> for ParseError {
     fn from(error: AllocError) -> ParseError {

@@ -1,13 +1,13 @@
 // Made from crates/pm_token/src/escapes.rt by rust/erase: change that file, not this one.
 //! How literals between quotes are written.
 
-use crate::shim::prelude::String;
+use crate::shim::prelude::{Grow, GrowText};
 
 mod bytes;
 mod c_strings;
 
 use crate::pm_token::symbols::Symbol;
-use crate::shim::alloc::{AllocError, Global};
+use crate::shim::alloc::AllocError;
 use crate::shim::ucd_category::GeneralCategory;
 
 /// A text while it is written, seen as its characters.
@@ -17,25 +17,25 @@ pub struct TextBuilder {
 
 impl TextBuilder {
     /// Nothing yet.
-    pub(crate) fn new(alloc: Global) -> TextBuilder
+    pub(crate) fn new() -> TextBuilder
     {
         TextBuilder {
-            text: String::new(alloc),
+            text: String::new(),
         }
     }
 
     /// Nothing yet, with room for so many bytes. Fails where memory runs out.
-    pub fn with_room(alloc: Global, bytes: usize) -> Result<TextBuilder, AllocError>
+    pub fn with_room(bytes: usize) -> Result<TextBuilder, AllocError>
     {
         Ok(TextBuilder {
-            text: String::with_capacity(alloc, bytes)?,
+            text: String::with_capacity_fallibly(bytes)?,
         })
     }
 
     /// What is written, as the text of a token. Fails where memory runs out.
-    pub(crate) fn finish(self, alloc: Global) -> Result<Symbol, AllocError>
+    pub(crate) fn finish(self) -> Result<Symbol, AllocError>
     {
-        Symbol::from_string(alloc, self.text)
+        Symbol::from_string(self.text)
     }
 
     /// The text. It takes no memory.
@@ -47,7 +47,7 @@ impl TextBuilder {
     /// Writes the text. Fails where memory runs out.
     pub fn push_text(&mut self, text: &str) -> Result<(), AllocError>
     {
-        self.text.push_str(text)
+        self.text.push_str_fallibly(text)
     }
 
     /// Writes the string literal of the text. Fails where memory runs out.
@@ -61,7 +61,7 @@ impl TextBuilder {
     /// Writes the character.
     pub fn push(&mut self, c: char) -> Result<(), AllocError>
     {
-        self.text.push(c)
+        self.text.push_fallibly(c)
     }
 
     /// Writes a backslash and the letter.
@@ -124,7 +124,7 @@ impl TextBuilder {
     {
         let size = count_plain(text.as_bytes(), quote);
         let (front, rest) = text.split_at(size);
-        self.text.push_str(front)?;
+        self.text.push_str_fallibly(front)?;
         Ok(rest)
     }
 

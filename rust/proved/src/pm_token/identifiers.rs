@@ -1,7 +1,7 @@
 // Made from crates/pm_token/src/identifiers.rt by rust/erase: change that file, not this one.
 //! Identifiers.
 
-use crate::shim::prelude::Clone;
+use crate::shim::prelude::TryClone;
 
 mod comparisons;
 mod faults;
@@ -12,7 +12,7 @@ pub use faults::IdentError;
 use faults::fault;
 use crate::pm_span::Span;
 use crate::pm_span::parts::bounds;
-use crate::shim::alloc::{AllocError, Global};
+use crate::shim::alloc::AllocError;
 use crate::shim::fmt;
 
 /// An identifier or a keyword, raw or plain.
@@ -25,25 +25,24 @@ impl Ident {
     /// The identifier of this name, which has no `r#`.
     #[inline(always)]
     pub(crate) fn from_parts(
-        alloc: Global,
         name: &str,
         raw: bool,
         span: Span,
     ) -> Result<Ident, AllocError>
     {
         Ok(Ident {
-            name: Name::new(alloc, name, raw)?,
+            name: Name::new(name, raw)?,
             span,
         })
     }
 
     /// The identifier of this name, if the name has no fault.
     #[inline(always)]
-    fn checked(alloc: Global, name: &str, raw: bool, span: Span) -> Result<Ident, IdentError>
+    fn checked(name: &str, raw: bool, span: Span) -> Result<Ident, IdentError>
     {
         match fault(name, raw) {
             Some(error) => Err(error),
-            None => Ok(Ident::from_parts(alloc, name, raw, span)?),
+            None => Ok(Ident::from_parts(name, raw, span)?),
         }
     }
 
@@ -55,9 +54,9 @@ impl Ident {
     /// character that may begin an identifier and then characters that may go on with one. Only a
     /// name without a fault is refused for `Memory`. `255` is a `Number`, and `r#a` is `Invalid`.
     #[inline(always)]
-    pub fn new(alloc: Global, name: &str, span: Span) -> Result<Ident, IdentError>
+    pub fn new(name: &str, span: Span) -> Result<Ident, IdentError>
     {
-        Ident::checked(alloc, name, false, span)
+        Ident::checked(name, false, span)
     }
 
     /// The raw identifier of this name, given without `r#`, which stands at this span.
@@ -65,9 +64,9 @@ impl Ident {
     /// Refused as by [`new`](Ident::new), and then with `Reserved` where the name is `_`, `super`,
     /// `self`, `Self` or `crate`. `fn` makes `r#fn`.
     #[inline(always)]
-    pub fn new_raw(alloc: Global, name: &str, span: Span) -> Result<Ident, IdentError>
+    pub fn new_raw(name: &str, span: Span) -> Result<Ident, IdentError>
     {
-        Ident::checked(alloc, name, true, span)
+        Ident::checked(name, true, span)
     }
 
     /// Whether `text` is how the identifier is written: a raw `a` is `r#a`, and not `a`.
@@ -147,15 +146,17 @@ impl Ident {
 
 /// The same identifier, with the same span. It takes no memory. A name of more than 22 bytes is shared, and the copy
 /// fails where it has more owners than can be counted.
-impl Clone for Ident {
+impl TryClone for Ident {
     #[inline(always)]
-    fn clone(&self) -> Result<Ident, AllocError> {
+    fn try_clone(&self) -> Result<Ident, AllocError> {
         Ok(Ident {
-            name: self.name.clone()?,
+            name: self.name.try_clone()?,
             span: self.span,
         })
     }
 }
+
+crate::shim::copied!(Ident);
 
 impl fmt::Display for Ident {
     fn fmt<W: fmt::Write>(&self, f: &mut fmt::Formatter<W>) -> fmt::Result {

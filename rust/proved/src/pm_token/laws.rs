@@ -4,6 +4,8 @@
 //! `specs/ValueLaws.antt`.
 
 use crate::pm_token::delimiters::Delimiter;
+use crate::pm_token::errors::{LexError, ParseError};
+use crate::pm_token::identifiers::IdentError;
 use crate::pm_token::literals::ConversionErrorKind;
 use crate::pm_token::marks::Spacing;
 
@@ -12,6 +14,11 @@ use crate::pm_token::marks::Spacing;
 ///
 /// Of the faults of `"\z"` and `"\x1"`, both `FailedToUnescape`, neither equals the other.
 pub fn equal_delimiters_spacings_and_errors()
+{}
+
+/// Two errors of a text, or of a name, are equal exactly if they are the same: of one kind, and for a fault of
+/// a text with the same span.
+pub fn equal_errors()
 {}
 
 /// A literal that was made is one of its kind, with nothing after it: what `Literal::string` writes is a

@@ -1,7 +1,7 @@
 // Made from crates/pm_token/src/literals.rt by rust/erase: change that file, not this one.
 //! Literals.
 
-use crate::shim::prelude::Clone;
+use crate::shim::prelude::TryClone;
 
 mod conversion;
 mod integers;
@@ -16,7 +16,7 @@ use crate::pm_token::parts::show_span;
 use crate::pm_token::symbols::Symbol;
 use crate::pm_span::Span;
 use crate::pm_span::parts::bounds;
-use crate::shim::alloc::{AllocError, Global};
+use crate::shim::alloc::AllocError;
 use crate::shim::fmt;
 
 /// A literal: a string, a character, a number, by its text.
@@ -28,10 +28,10 @@ pub struct Literal {
 impl Literal {
     /// The literal of this text, where it stands. Fails where memory runs out.
     #[inline(always)]
-    pub(crate) fn from_parts(alloc: Global, text: &str, span: Span) -> Result<Literal, AllocError>
+    pub(crate) fn from_parts(text: &str, span: Span) -> Result<Literal, AllocError>
     {
         Ok(Literal {
-            text: Symbol::new(alloc, text)?,
+            text: Symbol::new(text)?,
             span,
         })
     }
@@ -61,15 +61,17 @@ impl Literal {
 
 /// The same literal, with the same span. A text of more than 22 bytes is shared, or copied where it begins with `-`.
 /// The copy fails where the text has more owners than can be counted, or memory runs out.
-impl Clone for Literal {
+impl TryClone for Literal {
     #[inline(always)]
-    fn clone(&self) -> Result<Literal, AllocError> {
+    fn try_clone(&self) -> Result<Literal, AllocError> {
         Ok(Literal {
-            text: self.text.clone()?,
+            text: self.text.try_clone()?,
             span: self.span,
         })
     }
 }
+
+crate::shim::copied!(Literal);
 
 impl fmt::Display for Literal {
     fn fmt<W: fmt::Write>(&self, f: &mut fmt::Formatter<W>) -> fmt::Result {

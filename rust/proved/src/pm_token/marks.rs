@@ -1,7 +1,7 @@
 // Made from crates/pm_token/src/marks.rt by rust/erase: change that file, not this one.
 //! Punctuation marks.
 
-use crate::shim::prelude::Clone;
+use crate::shim::prelude::TryClone;
 
 use crate::pm_token::parts::show_span;
 use crate::pm_span::Span;
@@ -85,9 +85,9 @@ impl Punct {
 }
 
 /// The same mark, with the same span. It takes no memory.
-impl Clone for Punct {
+impl TryClone for Punct {
     #[inline(always)]
-    fn clone(&self) -> Result<Punct, AllocError> {
+    fn try_clone(&self) -> Result<Punct, AllocError> {
         Ok(Punct {
             mark: self.mark,
             spacing: self.spacing,
@@ -95,6 +95,8 @@ impl Clone for Punct {
         })
     }
 }
+
+crate::shim::copied!(Punct);
 
 impl fmt::Display for Punct {
     fn fmt<W: fmt::Write>(&self, f: &mut fmt::Formatter<W>) -> fmt::Result {

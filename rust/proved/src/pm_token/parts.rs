@@ -8,15 +8,15 @@ use crate::pm_token::literals::Literal;
 use crate::pm_token::marks::{Punct, Spacing};
 use crate::pm_span::Span;
 use crate::pm_span::parts::bounds;
-use crate::shim::alloc::{AllocError, Global};
+use crate::shim::alloc::AllocError;
 use crate::shim::fmt;
 
 /// The identifier of this name, which has no `r#` even if it is raw. Fails where memory runs out.
 // Inlined, as it is what most pieces of a text become.
 #[inline(always)]
-pub fn ident(alloc: Global, name: &str, raw: bool, span: Span) -> Result<Ident, AllocError>
+pub fn ident(name: &str, raw: bool, span: Span) -> Result<Ident, AllocError>
 {
-    Ident::from_parts(alloc, name, raw, span)
+    Ident::from_parts(name, raw, span)
 }
 
 /// The name of the identifier, without `r#` even if it is raw. It is lent, and nothing is copied.
@@ -40,9 +40,9 @@ pub fn punct(mark: char, spacing: Spacing, span: Span) -> Punct
 }
 
 /// The literal of this text, by the rule `literal-token`. Fails where memory runs out.
-pub fn literal(alloc: Global, text: &str, span: Span) -> Result<Literal, AllocError>
+pub fn literal(text: &str, span: Span) -> Result<Literal, AllocError>
 {
-    Literal::from_parts(alloc, text, span)
+    Literal::from_parts(text, span)
 }
 
 /// The `-` of a negative literal, Alone, and the rest, both with the literal's span. Of any other
@@ -53,9 +53,9 @@ pub fn split_minus(literal: Literal) -> (Option<Punct>, Literal)
 }
 
 /// The string literal of the text. Fails where memory runs out.
-pub fn string_literal(alloc: Global, text: &str, span: Span) -> Result<Literal, AllocError>
+pub fn string_literal(text: &str, span: Span) -> Result<Literal, AllocError>
 {
-    Literal::string_at(alloc, text, span)
+    Literal::string_at(text, span)
 }
 
 /// The fault that stands at this span.

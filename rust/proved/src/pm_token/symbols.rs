@@ -1,7 +1,7 @@
 // Made from crates/pm_token/src/symbols.rt by rust/erase: change that file, not this one.
 //! The text of a token, kept once.
 
-use crate::shim::prelude::{Box, Clone, String};
+use crate::shim::prelude::{Box, Grow, GrowText, TryClone};
 
 mod names;
 mod shared;
@@ -10,7 +10,7 @@ mod short;
 pub use names::Name;
 use shared::{Shared, Unsigned};
 use short::{ROOM, Short};
-use crate::shim::alloc::{AllocError, Global};
+use crate::shim::alloc::AllocError;
 use crate::shim::fmt;
 
 /// A short text, in place, or a long one, behind a pointer. One that begins with `-` has a block of its own, so that
@@ -23,57 +23,59 @@ enum Text {
 
 impl Text {
     /// A copy of a long text. Fails where memory runs out.
-    fn long(alloc: Global, text: &str) -> Result<Text, AllocError>
+    fn long(text: &str) -> Result<Text, AllocError>
     {
         if is_negative(text) {
-            return Ok(Text::Negative(Box::new(alloc, String::from_str(alloc, text)?)?));
+            return Ok(Text::Negative(Box::new(String::from_str_fallibly(text)?)?));
         }
-        Ok(Text::Long(Unsigned::new(Shared::new(alloc, text)?)))
+        Ok(Text::Long(Unsigned::new(Shared::new(text)?)))
     }
 
     /// The long text itself. Fails where memory runs out.
-    fn long_from_string(alloc: Global, text: String) -> Result<Text, AllocError>
+    fn long_from_string(text: String) -> Result<Text, AllocError>
     {
         if is_negative(text.as_str()) {
-            return Ok(Text::Negative(Box::new(alloc, text)?));
+            return Ok(Text::Negative(Box::new(text)?));
         }
         Ok(Text::Long(Unsigned::new(Shared::from_string(text)?)))
     }
 
     /// A copy of the text. Fails where memory runs out.
     #[inline(always)]
-    fn new(alloc: Global, text: &str) -> Result<Text, AllocError>
+    fn new(text: &str) -> Result<Text, AllocError>
     {
         if text.len() <= ROOM {
             Ok(Text::Short(Short::new(text)))
         } else {
-            Ok(Text::long(alloc, text)?)
+            Ok(Text::long(text)?)
         }
     }
 
     /// The text itself if it is long, and a copy if it is short. Fails where memory runs out, which a
     /// short text doesn't take.
-    fn from_string(alloc: Global, text: String) -> Result<Text, AllocError>
+    fn from_string(text: String) -> Result<Text, AllocError>
     {
         if text.len() <= ROOM {
             Ok(Text::Short(Short::new(text.as_str())))
         } else {
-            Ok(Text::long_from_string(alloc, text)?)
+            Ok(Text::long_from_string(text)?)
         }
     }
 }
 
 /// The same text, which a long one shares. It fails as the copy of a literal does.
-impl Clone for Text {
+impl TryClone for Text {
     #[inline(always)]
-    fn clone(&self) -> Result<Text, AllocError> {
+    fn try_clone(&self) -> Result<Text, AllocError> {
         match self {
             Text::Short(text) => Ok(Text::Short(text.copy())),
             Text::Long(text) => Ok(Text::Long(text.share()?)),
-            Text::Negative(text) => Text::new(*text.allocator(), text.as_str()),
+            Text::Negative(text) => Text::new(text.as_str()),
         }
     }
 }
+
+crate::shim::copied!(Text);
 
 /// Whether the text begins with `-`.
 fn is_negative(text: &str) -> bool
@@ -104,18 +106,18 @@ pub struct Symbol {
 impl Symbol {
     /// Keeps a copy of the text. Fails where memory runs out.
     #[inline(always)]
-    pub fn new(alloc: Global, text: &str) -> Result<Symbol, AllocError>
+    pub fn new(text: &str) -> Result<Symbol, AllocError>
     {
         Ok(Symbol {
-            text: Text::new(alloc, text)?,
+            text: Text::new(text)?,
         })
     }
 
     /// Keeps the text. Fails where memory runs out.
-    pub fn from_string(alloc: Global, text: String) -> Result<Symbol, AllocError>
+    pub fn from_string(text: String) -> Result<Symbol, AllocError>
     {
         Ok(Symbol {
-            text: Text::from_string(alloc, text)?,
+            text: Text::from_string(text)?,
         })
     }
 
@@ -143,21 +145,21 @@ impl Symbol {
 
     /// Both texts, one after the other. Fails where memory runs out, which texts that are short together don't take.
     #[inline(always)]
-    pub fn concat(alloc: Global, front: &str, back: &str) -> Result<Symbol, AllocError>
+    pub fn concat(front: &str, back: &str) -> Result<Symbol, AllocError>
     {
         match Symbol::joined(front, back) {
             Some(text) => Ok(text),
-            None => Symbol::long_concat(alloc, front, back),
+            None => Symbol::long_concat(front, back),
         }
     }
 
     /// The same of texts that are long together.
-    fn long_concat(alloc: Global, front: &str, back: &str) -> Result<Symbol, AllocError>
+    fn long_concat(front: &str, back: &str) -> Result<Symbol, AllocError>
     {
-        let mut text = String::with_capacity(alloc, front.len() + back.len())?;
-        text.push_str(front)?;
-        text.push_str(back)?;
-        Symbol::from_string(alloc, text)
+        let mut text = String::with_capacity_fallibly(front.len() + back.len())?;
+        text.push_str_fallibly(front)?;
+        text.push_str_fallibly(back)?;
+        Symbol::from_string(text)
     }
 
     /// Takes away the `-` that the text begins with, and answers whether there was one.
@@ -184,14 +186,16 @@ impl Symbol {
 }
 
 /// The same text, which a long one shares. It fails as the copy of a literal does.
-impl Clone for Symbol {
+impl TryClone for Symbol {
     #[inline(always)]
-    fn clone(&self) -> Result<Symbol, AllocError> {
+    fn try_clone(&self) -> Result<Symbol, AllocError> {
         Ok(Symbol {
-            text: self.text.clone()?,
+            text: self.text.try_clone()?,
         })
     }
 }
+
+crate::shim::copied!(Symbol);
 
 impl fmt::Display for Symbol {
     fn fmt<W: fmt::Write>(&self, f: &mut fmt::Formatter<W>) -> fmt::Result {

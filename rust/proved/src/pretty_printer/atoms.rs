@@ -1,7 +1,7 @@
 // Made from crates/pretty_printer/src/atoms.rt by rust/erase: change that file, not this one.
 //! What lines are made of: words, operators and groups, list after list.
 
-use crate::shim::prelude::{String, Vec};
+use crate::shim::prelude::Grow;
 
 use crate::pm_token::parts::{is_raw, name_of};
 use crate::proc_macro2::{Delimiter, Ident, Punct, Spacing, TokenTree};
@@ -339,7 +339,7 @@ pub fn push_list<'a>(
         let atom = match tree {
             TokenTree::Group(group) => {
                 let inside = group.stream_ref().trees();
-                groups.push(Unread {
+                groups.push_fallibly(Unread {
                     index: atoms.len(),
                     trees: inside,
                 })?;
@@ -364,7 +364,7 @@ pub fn push_list<'a>(
             TokenTree::Punct(punct) => mark_atom(punct, trees, index),
         };
         passed = atom.tokens.saturating_sub(1);
-        atoms.push(atom)?;
+        atoms.push_fallibly(atom)?;
     }
     Ok(())
 }

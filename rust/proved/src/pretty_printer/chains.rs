@@ -1,11 +1,11 @@
 // Made from crates/pretty_printer/src/chains.rt by rust/erase: change that file, not this one.
 //! Chains of calls: how far each goes, and before which of its dots lines are broken.
 
-use crate::shim::prelude::Vec;
+use crate::shim::prelude::Grow;
 
 use crate::pretty_printer::atoms::{Atom, NOTHING, Role};
 use crate::pretty_printer::lists::{atom, before};
-use crate::shim::alloc::{AllocError, Global};
+use crate::shim::alloc::AllocError;
 
 /// No index.
 pub const NOWHERE: usize = usize::MAX;
@@ -156,11 +156,11 @@ pub struct Chains {
 
 impl Chains {
     /// Of no lists.
-    pub fn new(alloc: Global) -> Chains {
+    pub fn new() -> Chains {
         Chains {
-            linked: Vec::new(alloc),
-            links: Vec::new(alloc),
-            broken: Vec::new(alloc),
+            linked: Vec::new(),
+            links: Vec::new(),
+            broken: Vec::new(),
         }
     }
 
@@ -213,14 +213,14 @@ impl Chains {
         let at = self.links.len();
         let mut link = NO_LINK;
         for index in from..until {
-            self.links.push(link)?;
+            self.links.push_fallibly(link)?;
             if atom(atoms, index).role == Role::Dot {
                 link.last = index;
             }
         }
         link.end = until;
-        self.links.push(link)?;
-        self.linked.push(Linked {
+        self.links.push_fallibly(link)?;
+        self.linked.push_fallibly(Linked {
             list,
             from,
             until,
@@ -243,7 +243,7 @@ impl Chains {
                     }
                 }
             } else if own.role == Role::Greater {
-                opens.push(index)?;
+                opens.push_fallibly(index)?;
             } else if own.role == Role::Less {
                 next.end = match opens.pop() {
                     Some(closing) => self.link_at(closing.saturating_add(1)).end,
@@ -322,7 +322,7 @@ impl Chains {
         column: usize,
     ) -> Result<(), AllocError> {
         self.pass(list, index);
-        self.broken.push(Broken {
+        self.broken.push_fallibly(Broken {
             list,
             from,
             until,

@@ -1,8 +1,6 @@
 // Made from crates/pretty_printer/src/lists.rt by rust/erase: change that file, not this one.
 //! Looks at atoms by index. What is past the ends of a list is no atom.
 
-use crate::shim::prelude::Vec;
-
 use crate::pretty_printer::atoms::{Atom, NOTHING, Role};
 
 /// The atom of this index.

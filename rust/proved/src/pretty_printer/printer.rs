@@ -1,7 +1,7 @@
 // Made from crates/pretty_printer/src/printer.rt by rust/erase: change that file, not this one.
 //! Chooses the gaps: where lines break, and how far in they begin.
 
-use crate::shim::prelude::Vec;
+use crate::shim::prelude::Grow;
 
 use crate::pretty_printer::atoms::{Atom, NO_LINE, Role, Unread, Word, push_list};
 use crate::pretty_printer::chains::{Chain, Chains, NOWHERE, chain_at};
@@ -10,7 +10,7 @@ use crate::pretty_printer::roles::assign_roles;
 use crate::pretty_printer::widths::{find_parts, measure, measure_group};
 use crate::layout::Gap;
 use crate::proc_macro2::TokenStream;
-use crate::shim::alloc::{AllocError, Global};
+use crate::shim::alloc::AllocError;
 
 /// How many columns a line has.
 const WIDTH: usize = 100;
@@ -137,10 +137,10 @@ fn unwritten(group: usize, first: usize, end: usize, style: Style) -> Frame {
 
 impl<'a> Printer<'a> {
     /// Chooses the gaps of this stream.
-    pub fn new(alloc: Global, stream: &'a TokenStream) -> Result<Printer<'a>, AllocError> {
-        let mut atoms = Vec::new(alloc);
-        let mut groups = Vec::new(alloc);
-        let mut opens = Vec::new(alloc);
+    pub fn new(stream: &'a TokenStream) -> Result<Printer<'a>, AllocError> {
+        let mut atoms = Vec::new();
+        let mut groups = Vec::new();
+        let mut opens = Vec::new();
         push_list(&mut atoms, &mut groups, stream.trees())?;
         let top = atoms.len();
         let top_groups = groups.len();
@@ -154,8 +154,8 @@ impl<'a> Printer<'a> {
             next_group: 0,
             opens,
             list: unwritten(NO_GROUP, 0, top, Style::Lines),
-            outer: Vec::new(alloc),
-            chains: Chains::new(alloc),
+            outer: Vec::new(),
+            chains: Chains::new(),
             column: 0,
             indent: 0,
             joined: 0,
@@ -386,7 +386,7 @@ impl<'a> Printer<'a> {
         }
         self.column = self.column.saturating_add(1);
         let outer = self.list;
-        self.outer.push(outer)?;
+        self.outer.push_fallibly(outer)?;
         self.list = inner;
         Ok(())
     }

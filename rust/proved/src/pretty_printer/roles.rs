@@ -1,7 +1,7 @@
 // Made from crates/pretty_printer/src/roles.rt by rust/erase: change that file, not this one.
 //! What operators and groups mean where they stand.
 
-use crate::shim::prelude::{String, Vec};
+use crate::shim::prelude::Grow;
 
 use crate::pretty_printer::atoms::{Atom, Kind, Role, Sign, Word};
 use crate::pretty_printer::lists::{after, atom, before, set_role};
@@ -41,11 +41,11 @@ fn pair_angles(
     end: usize,
 ) -> Result<(), AllocError> {
     opens.clear();
-    opens.push(index)?;
+    opens.push_fallibly(index)?;
     for later in index.saturating_add(1)..end {
         let next = atom(atoms.as_slice(), later);
         if next.is_mark('<') {
-            opens.push(later)?;
+            opens.push_fallibly(later)?;
         } else if next.is_mark('>') {
             if let Some(matched) = opens.pop() {
                 set_role(atoms, matched, Role::Less);

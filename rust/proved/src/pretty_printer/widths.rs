@@ -1,8 +1,6 @@
 // Made from crates/pretty_printer/src/widths.rt by rust/erase: change that file, not this one.
 //! The parts of lists, and how wide all is on one line.
 
-use crate::shim::prelude::Vec;
-
 use crate::pretty_printer::atoms::{Atom, Role, Word};
 use crate::pretty_printer::lists::{after, atom, before, is_tall, width};
 

@@ -16,8 +16,8 @@ pub use crate::literal_escaper::laws::equal_errors_modes_and_units;
 pub use crate::pm_span::laws::ordered_line_columns;
 pub use crate::pm_stream::laws::printed_by_the_rule;
 pub use crate::pm_token::laws::{
-    cooked_values, equal_delimiters_spacings_and_errors, made_literals, raw_values, single_values,
-    values_come_back,
+    cooked_values, equal_delimiters_spacings_and_errors, equal_errors, made_literals, raw_values,
+    single_values, values_come_back,
 };
 
 /// A source has at most one cover by pieces, and parses to at most one stream. It parses or has a fault,

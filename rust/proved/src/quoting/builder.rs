@@ -1,11 +1,11 @@
 // Made from crates/quoting/src/builder.rt by rust/erase: change that file, not this one.
 //! Streams that are put together.
 
-use crate::shim::prelude::{Clone, Vec};
+use crate::shim::prelude::{Grow, GrowList, TryClone};
 
 use crate::pm_stream::parts;
 use crate::proc_macro2::{TokenStream, TokenTree};
-use crate::shim::alloc::{AllocError, Global};
+use crate::shim::alloc::AllocError;
 
 /// For how many trees a list has room at most before they come: those of most templates.
 const MOST_ROOM: usize = 64;
@@ -18,7 +18,6 @@ const FEW_TREES: usize = 8;
 
 /// A stream that is put together. It is seen as the trees that were put in, in order.
 pub(crate) struct StreamBuilder {
-    alloc: Global,
     trees: Trees,
 }
 
@@ -32,12 +31,28 @@ pub(crate) enum Trees {
 
 impl StreamBuilder {
     /// No trees. It takes no memory.
-    pub(crate) fn new(alloc: Global) -> StreamBuilder
+    pub(crate) fn new() -> StreamBuilder
     {
         StreamBuilder {
-            alloc,
-            trees: Trees::Shared(TokenStream::new(alloc)),
+            trees: Trees::Shared(TokenStream::new()),
         }
+    }
+
+    /// The first so many trees of the list, and the others. With none, what is put in first may still be shared.
+    pub(crate) fn of_first(
+        list: Vec<TokenTree>,
+        count: usize,
+    ) -> Result<(StreamBuilder, Vec<TokenTree>), AllocError>
+    {
+        if count == 0 {
+            return Ok((StreamBuilder::new(), list));
+        }
+        let mut first = list;
+        let rest = first.split_off_fallibly(count)?;
+        let builder = StreamBuilder {
+            trees: Trees::Listed(first),
+        };
+        Ok((builder, rest))
     }
 
     /// Puts the tree at the end. So many more are expected.
@@ -47,8 +62,23 @@ impl StreamBuilder {
         match &mut self.trees {
             Trees::Listed(list) => push(list, tree)?,
             Trees::Shared(stream) => {
-                let mut list = listed(self.alloc, stream, more.saturating_add(1))?;
+                let mut list = listed(stream, more.saturating_add(1))?;
                 push(&mut list, tree)?;
+                self.trees = Trees::Listed(list);
+            }
+        }
+        Ok(())
+    }
+
+    /// Puts a copy of the tree at the end. So many more are expected.
+    #[inline(always)]
+    pub(crate) fn put_copy(&mut self, tree: &TokenTree, more: usize) -> Result<(), AllocError>
+    {
+        match &mut self.trees {
+            Trees::Listed(list) => copy_onto(list, tree)?,
+            Trees::Shared(stream) => {
+                let mut list = listed(stream, more.saturating_add(1))?;
+                copy_onto(&mut list, tree)?;
                 self.trees = Trees::Listed(list);
             }
         }
@@ -60,9 +90,13 @@ impl StreamBuilder {
     fn copy(&mut self, trees: &[TokenTree], more: usize) -> Result<(), AllocError>
     {
         match &mut self.trees {
-            Trees::Listed(list) => push_copies(list, trees)?,
+            Trees::Listed(list) => {
+                // Room for what is expected too, so that the list grows once.
+                list.reserve_fallibly(trees.len().saturating_add(more.min(MOST_ROOM)))?;
+                push_copies(list, trees)?;
+            }
             Trees::Shared(stream) => {
-                let mut list = listed(self.alloc, stream, more.saturating_add(trees.len()))?;
+                let mut list = listed(stream, more.saturating_add(trees.len()))?;
                 push_copies(&mut list, trees)?;
                 self.trees = Trees::Listed(list);
             }
@@ -75,7 +109,7 @@ impl StreamBuilder {
     {
         if let Trees::Shared(first) = &self.trees {
             if first.is_empty() {
-                self.trees = Trees::Shared(stream.clone()?);
+                self.trees = Trees::Shared(stream.try_clone()?);
                 return Ok(());
             }
         }
@@ -85,7 +119,7 @@ impl StreamBuilder {
     /// The stream.
     pub(crate) fn finish(self) -> Result<TokenStream, AllocError>
     {
-        let StreamBuilder { alloc, trees } = self;
+        let StreamBuilder { trees } = self;
         match trees {
             Trees::Shared(stream) => Ok(stream),
             Trees::Listed(mut list) => {
@@ -93,7 +127,7 @@ impl StreamBuilder {
                 if list.capacity() > FEW_TREES && list.len() <= list.capacity() / 2 {
                     list.shrink_to_fit();
                 }
-                parts::stream(alloc, list)
+                parts::stream(list)
             }
         }
     }
@@ -101,11 +135,11 @@ impl StreamBuilder {
 
 // A list of copies of the stream's trees, with room for so many more.
 #[inline(never)]
-fn listed(alloc: Global, stream: &TokenStream, more: usize) -> Result<Vec<TokenTree>, AllocError>
+fn listed(stream: &TokenStream, more: usize) -> Result<Vec<TokenTree>, AllocError>
 {
     let trees = stream.trees();
     let room = trees.len().saturating_add(more).min(MOST_ROOM);
-    let mut list = Vec::with_capacity(alloc, room.max(LEAST_ROOM))?;
+    let mut list = Vec::with_capacity_fallibly(room.max(LEAST_ROOM))?;
     push_copies(&mut list, trees)?;
     Ok(list)
 }
@@ -116,7 +150,17 @@ fn push(list: &mut Vec<TokenTree>, tree: TokenTree) -> Result<(), AllocError>
 {
     // It computes nothing: proofs learn what is true of every tree.
     tree.span();
-    list.push(tree)?;
+    list.push_fallibly(tree)?;
+    Ok(())
+}
+
+// Puts a copy of the tree at the end of the list.
+#[inline(always)]
+fn copy_onto(list: &mut Vec<TokenTree>, tree: &TokenTree) -> Result<(), AllocError>
+{
+    // It computes nothing: proofs learn what is true of every tree.
+    tree.span();
+    push_copy(list, tree)?;
     Ok(())
 }
 
@@ -124,7 +168,7 @@ fn push(list: &mut Vec<TokenTree>, tree: TokenTree) -> Result<(), AllocError>
 #[inline(always)]
 fn push_copies(list: &mut Vec<TokenTree>, trees: &[TokenTree]) -> Result<(), AllocError>
 {
-    list.reserve(trees.len())?;
+    list.reserve_fallibly(trees.len())?;
     for tree in trees {
         push_copy(list, tree)?;
     }
@@ -136,10 +180,10 @@ fn push_copies(list: &mut Vec<TokenTree>, trees: &[TokenTree]) -> Result<(), All
 fn push_copy(list: &mut Vec<TokenTree>, tree: &TokenTree) -> Result<(), AllocError>
 {
     match tree {
-        TokenTree::Group(group) => list.push(TokenTree::Group(group.clone()?))?,
-        TokenTree::Ident(ident) => list.push(TokenTree::Ident(ident.clone()?))?,
-        TokenTree::Punct(mark) => list.push(TokenTree::Punct(mark.clone()?))?,
-        TokenTree::Literal(literal) => list.push(TokenTree::Literal(literal.clone()?))?,
+        TokenTree::Group(group) => list.push_fallibly(TokenTree::Group(group.try_clone()?))?,
+        TokenTree::Ident(ident) => list.push_fallibly(TokenTree::Ident(ident.try_clone()?))?,
+        TokenTree::Punct(mark) => list.push_fallibly(TokenTree::Punct(mark.try_clone()?))?,
+        TokenTree::Literal(literal) => list.push_fallibly(TokenTree::Literal(literal.try_clone()?))?,
     }
     Ok(())
 }

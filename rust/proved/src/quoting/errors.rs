@@ -3,12 +3,12 @@
 
 use crate::proc_macro2::{ParseError, Span};
 use crate::shim::alloc::AllocError;
-use crate::shim::error::Error;
 use crate::shim::fmt;
 
 /// Why a quote gives no stream: the first fault in reading order, a group coming before its contents, or
 /// that memory ran out.
-#[derive(Debug)]
+#[derive(Debug, PartialEq, Eq)]
+#[non_exhaustive]
 pub enum QuoteError {
     /// A group has no delimiters, so that its printed text does not show it.
     NoneGroup,
@@ -31,8 +31,6 @@ impl fmt::Display for QuoteError {
 
 crate::shim::display!(QuoteError);
 
-impl Error for QuoteError {}
-
 impl From<AllocError> for QuoteError {
     fn from(error: AllocError) -> QuoteError {
         QuoteError::Memory(error)
@@ -46,6 +44,7 @@ impl From<AllocError> for QuoteError {
 /// `NoList` at the parentheses, and `NoHole` at `missing` only where a list is named beside it. Of the faults at one
 /// pair of parentheses `Nested` comes first, then `TooDeep`, then `NoList`.
 #[derive(Debug)]
+#[non_exhaustive]
 pub enum TemplateError {
     /// No hole has the name that stands here, after a `#`.
     NoHole(Span),
@@ -66,6 +65,41 @@ pub enum TemplateError {
     Memory(AllocError),
 }
 
+impl TemplateError {
+    /// Where the fault stands in the template: its span, or that of the text's fault as [`ParseError::span`] has it.
+    /// `None` if the map has no room or memory ran out.
+    pub fn span(&self) -> Option<Span>
+    {
+        match self {
+            TemplateError::NoHole(span)
+            | TemplateError::LoneList(span)
+            | TemplateError::NoList(span)
+            | TemplateError::UnequalLists(span)
+            | TemplateError::Nested(span)
+            | TemplateError::TooDeep(span) => Some(*span),
+            TemplateError::Parse(error) => error.span(),
+            TemplateError::Memory(_) => None,
+        }
+    }
+}
+
+impl PartialEq for TemplateError {
+    /// Whether both are of one kind, and have the same span or none.
+    fn eq(&self, other: &TemplateError) -> bool {
+        match (self, other) {
+            (TemplateError::NoHole(span), TemplateError::NoHole(other))
+            | (TemplateError::LoneList(span), TemplateError::LoneList(other))
+            | (TemplateError::NoList(span), TemplateError::NoList(other))
+            | (TemplateError::UnequalLists(span), TemplateError::UnequalLists(other))
+            | (TemplateError::Nested(span), TemplateError::Nested(other))
+            | (TemplateError::TooDeep(span), TemplateError::TooDeep(other)) => span.eq(other),
+            (TemplateError::Parse(error), TemplateError::Parse(other)) => error == other,
+            (TemplateError::Memory(_), TemplateError::Memory(_)) => true,
+            _ => false,
+        }
+    }
+}
+
 impl fmt::Display for TemplateError {
     fn fmt<W: fmt::Write>(&self, f: &mut fmt::Formatter<W>) -> fmt::Result {
         match self {
@@ -82,8 +116,6 @@ impl fmt::Display for TemplateError {
 }
 
 crate::shim::display!(TemplateError);
-
-impl Error for TemplateError {}
 
 impl From<AllocError> for TemplateError {
     fn from(error: AllocError) -> TemplateError {

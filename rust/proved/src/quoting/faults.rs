@@ -4,15 +4,14 @@
 use crate::quoting::errors::QuoteError;
 use crate::proc_macro2::token_stream::{Step, Steps, may_be_joint};
 use crate::proc_macro2::{Delimiter, Group, Punct, Spacing, TokenTree};
-use crate::shim::alloc::Global;
 
 /// Whether the trees are well spaced as they are. Fails with their first fault in reading order, a group coming before
 /// its contents, and where memory runs out.
-pub(crate) fn are_well_spaced(alloc: Global, trees: &[TokenTree]) -> Result<bool, QuoteError>
+pub(crate) fn are_well_spaced(trees: &[TokenTree]) -> Result<bool, QuoteError>
 {
-    let mut steps = Steps::new(alloc, trees);
+    let mut steps = Steps::new(trees);
     let mut spaced = true;
-    while let Some(step) = steps.next()? {
+    while let Some(step) = steps.try_next()? {
         // What fits as it is has no fault.
         if !step_fits(step) {
             if let Some(fault) = step_fault(step) {

@@ -3,7 +3,7 @@
 //!
 //! Groups nest no deeper in a template than a limit, so that the functions may call themselves for them.
 
-use crate::shim::prelude::Clone;
+use crate::shim::prelude::TryClone;
 
 use crate::quoting::builder::StreamBuilder;
 use crate::quoting::errors::TemplateError;
@@ -12,12 +12,11 @@ use crate::quoting::interpolation::{FoundInterpolation, Repetition, interpolatio
 use crate::quoting::respace::{regrouped, spaced};
 use crate::quoting::turns::{checked, turns_of};
 use crate::proc_macro2::{Group, Punct, Spacing, TokenStream, TokenTree};
-use crate::shim::alloc::{AllocError, Global};
+use crate::shim::alloc::AllocError;
 
 // The trees with the holes filled, where groups may nest so deep. In a turn of a repetition the turn's stream of each
 // list comes.
 pub(crate) fn filled(
-    alloc: Global,
     template: &TokenStream,
     holes: &[Hole<'_>],
     turn: Option<usize>,
@@ -25,14 +24,13 @@ pub(crate) fn filled(
 ) -> Result<TokenStream, TemplateError>
 {
     let trees = template.trees();
-    let mut out = StreamBuilder::new(alloc);
-    fill_onto(alloc, &mut out, trees, holes, turn, depth)?;
+    let mut out = StreamBuilder::new();
+    fill_onto(&mut out, trees, holes, turn, depth)?;
     Ok(out.finish()?)
 }
 
 // Puts the trees with the holes filled after those of the stream, as `filled` does.
 fn fill_onto(
-    alloc: Global,
     out: &mut StreamBuilder,
     template: &[TokenTree],
     holes: &[Hole<'_>],
@@ -45,7 +43,7 @@ fn fill_onto(
         match interpolation_at(tree, after) {
             None => {
                 if let TokenTree::Group(group) = tree {
-                    let inside = filled_inside(alloc, group, holes, turn, depth)?;
+                    let inside = filled_inside(group, holes, turn, depth)?;
                     out.put(TokenTree::Group(regrouped(group, inside)), after.len())?;
                 } else {
                     out.put(apart_before(tree, after)?, after.len())?;
@@ -57,7 +55,7 @@ fn fill_onto(
                 left = rest;
             }
             Some(FoundInterpolation::Repeats(repetition, rest)) => {
-                repeat_onto(alloc, out, &repetition, holes, turn, depth)?;
+                repeat_onto(out, &repetition, holes, turn, depth)?;
                 left = rest;
             }
         }
@@ -73,12 +71,12 @@ fn apart_before(tree: &TokenTree, after: &[TokenTree]) -> Result<TokenTree, Allo
             mark,
             Spacing::Alone,
         ))),
-        _ => tree.clone(),
+        _ => tree.try_clone(),
     }
 }
 
-// Whether what comes first has a meaning.
-fn has_meaning(trees: &[TokenTree]) -> bool
+/// Whether what comes first has a meaning.
+pub(crate) fn has_meaning(trees: &[TokenTree]) -> bool
 {
     match trees.split_first() {
         Some((first, after)) => interpolation_at(first, after).is_some(),
@@ -88,7 +86,6 @@ fn has_meaning(trees: &[TokenTree]) -> bool
 
 // The trees of the group with the holes filled, where it stands inside of such trees.
 fn filled_inside(
-    alloc: Global,
     group: &Group,
     holes: &[Hole<'_>],
     turn: Option<usize>,
@@ -101,13 +98,13 @@ fn filled_inside(
     let template = group.stream_ref();
     // Where nothing is to be filled the trees are shared.
     if are_fixed(template.trees()) {
-        return Ok(template.clone()?);
+        return Ok(template.try_clone()?);
     }
-    filled(alloc, template, holes, turn, inner)
+    filled(template, holes, turn, inner)
 }
 
-// Whether the trees are neither groups nor `#`, and so come out as they are.
-fn are_fixed(trees: &[TokenTree]) -> bool
+/// Whether the trees are neither groups nor `#`, and so come out as they are.
+pub(crate) fn are_fixed(trees: &[TokenTree]) -> bool
 {
     for tree in trees {
         if !is_fixed(tree) {
@@ -127,10 +124,9 @@ fn is_fixed(tree: &TokenTree) -> bool
     }
 }
 
-// Puts the turns of a repetition after the trees of the stream, with the separator between them. That it names no list
-// comes before what is wrong inside.
-fn repeat_onto(
-    alloc: Global,
+/// Puts the turns of a repetition after the trees of the stream, with the separator between them. That it names no list
+/// comes before what is wrong inside.
+pub(crate) fn repeat_onto(
     out: &mut StreamBuilder,
     repetition: &Repetition<'_>,
     holes: &[Hole<'_>],
@@ -146,13 +142,13 @@ fn repeat_onto(
         return Err(TemplateError::TooDeep(body.span()));
     };
     let trees = body.stream_ref().trees();
-    let Some(turns) = turns_of(alloc, trees, holes)? else {
+    let Some(turns) = turns_of(trees, holes)? else {
         return Err(TemplateError::NoList(body.span()));
     };
     checked(trees, holes, inner, turns)?;
     for turn in 0..turns {
         separate(out, repetition.separator, turn, trees.len())?;
-        fill_onto(alloc, out, trees, holes, Some(turn), inner)?;
+        fill_onto(out, trees, holes, Some(turn), inner)?;
     }
     Ok(())
 }

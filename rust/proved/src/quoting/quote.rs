@@ -1,34 +1,27 @@
 // Made from crates/quoting/src/quote.rt by rust/erase: change that file, not this one.
 //! The builder.
 
-use crate::shim::prelude::Clone;
+use crate::shim::prelude::TryClone;
 
 use crate::quoting::errors::QuoteError;
 use crate::quoting::faults::are_well_spaced;
 use crate::quoting::laws;
 use crate::quoting::respace::respaced;
 use crate::proc_macro2::{TokenStream, TokenTree};
-use crate::shim::alloc::{AllocError, Global};
+use crate::shim::alloc::AllocError;
 
 /// Trees that are to become a stream. It is seen as the trees that were pushed, in order.
 pub struct Quote {
-    alloc: Global,
     pushed: TokenStream,
 }
 
 impl Quote {
     /// A quote to which nothing was pushed. It takes no memory.
-    pub fn new(alloc: Global) -> Quote
+    pub fn new() -> Quote
     {
         Quote {
-            alloc,
-            pushed: TokenStream::new(alloc),
+            pushed: TokenStream::new(),
         }
-    }
-
-    /// Where its memory comes from.
-    pub(crate) fn alloc(&self) -> Global {
-        self.alloc
     }
 
     /// Puts the tree after the others, by the rule `split`. Fails where memory runs out; then nothing is changed, and
@@ -63,9 +56,9 @@ impl Quote {
     {
         laws::respacing();
         // What is well spaced comes out unchanged, so its trees are shared.
-        if are_well_spaced(self.alloc, self.pushed.trees())? {
-            return Ok(self.pushed.clone()?);
+        if are_well_spaced(self.pushed.trees())? {
+            return Ok(self.pushed.try_clone()?);
         }
-        Ok(respaced(self.alloc, &self.pushed)?)
+        Ok(respaced(&self.pushed)?)
     }
 }

@@ -4,31 +4,31 @@
 //! Groups may nest as deep as memory reaches, so the lists that groups stand in are kept in a list and not on the
 //! stack. A list in which nothing changes is not copied: it stays shared with the stream that it comes from.
 
-use crate::shim::prelude::{Clone, Vec};
+use crate::shim::prelude::{Grow, TryClone};
 
 use crate::proc_macro2::token_stream::may_be_joint;
 use crate::proc_macro2::{Group, Punct, Spacing, TokenStream, TokenTree, laws};
-use crate::shim::alloc::{AllocError, Global};
+use crate::shim::alloc::AllocError;
 
 /// The stream with its marks respaced, at any depth. Fails where memory runs out.
-pub(crate) fn respaced(alloc: Global, stream: &TokenStream) -> Result<TokenStream, AllocError>
+pub(crate) fn respaced(stream: &TokenStream) -> Result<TokenStream, AllocError>
 {
-    let mut outer: Vec<RespacedList<'_>> = Vec::new(alloc);
+    let mut outer: Vec<RespacedList<'_>> = Vec::new();
     let mut here = RespacedList::new(stream);
     loop {
         let Some((tree, after)) = here.next() else {
             let Some(mut around) = outer.pop() else {
                 return here.finish();
             };
-            around.close(alloc, here)?;
+            around.close(here)?;
             here = around;
             continue;
         };
         if let TokenTree::Group(group) = tree {
-            outer.push(here)?;
+            outer.push_fallibly(here)?;
             here = RespacedList::new(group.stream_ref());
         } else {
-            here.step(alloc, tree, after)?;
+            here.step(tree, after)?;
         }
     }
 }
@@ -65,7 +65,6 @@ impl<'a> RespacedList<'a> {
     // Respaces the first tree that is left, which is no group.
     fn step(
         &mut self,
-        alloc: Global,
         tree: &TokenTree,
         after: &[TokenTree],
     ) -> Result<(), AllocError>
@@ -73,14 +72,14 @@ impl<'a> RespacedList<'a> {
         if let TokenTree::Punct(mark) = tree {
             let spacing = kept_spacing(mark, after);
             if spacing != mark.spacing() {
-                return self.replace(alloc, TokenTree::Punct(spaced(mark, spacing)));
+                return self.replace(TokenTree::Punct(spaced(mark, spacing)));
             }
         }
         self.keep(tree)
     }
 
     // Puts the group of this list, all of which is done, in the place of the group that the list comes from.
-    fn close(&mut self, alloc: Global, inner: RespacedList<'_>) -> Result<(), AllocError>
+    fn close(&mut self, inner: RespacedList<'_>) -> Result<(), AllocError>
     {
         let Some((tree, _)) = self.next() else {
             return Ok(());
@@ -91,7 +90,7 @@ impl<'a> RespacedList<'a> {
         let RespacedList { changed, .. } = inner;
         match changed {
             None => self.keep(tree),
-            Some(changed) => { self.replace(alloc, TokenTree::Group(regrouped(group, changed))) }
+            Some(changed) => { self.replace(TokenTree::Group(regrouped(group, changed))) }
         }
     }
 
@@ -99,18 +98,18 @@ impl<'a> RespacedList<'a> {
     fn keep(&mut self, tree: &TokenTree) -> Result<(), AllocError>
     {
         if let Some(changed) = &mut self.changed {
-            put(changed, tree.clone()?)?;
+            put(changed, tree.try_clone()?)?;
         }
         self.done += 1;
         Ok(())
     }
 
     // Puts this tree in the place of the first one that is left. What was done is copied at the first such call.
-    fn replace(&mut self, alloc: Global, tree: TokenTree) -> Result<(), AllocError>
+    fn replace(&mut self, tree: TokenTree) -> Result<(), AllocError>
     {
         let mut changed = match self.changed.take() {
             Some(changed) => changed,
-            None => copied(alloc, &self.trees[..self.done])?,
+            None => copied(&self.trees[..self.done])?,
         };
         put(&mut changed, tree)?;
         self.changed = Some(changed);
@@ -128,17 +127,17 @@ impl<'a> RespacedList<'a> {
         } = self;
         match changed {
             Some(changed) => Ok(changed),
-            None => stream.clone(),
+            None => stream.try_clone(),
         }
     }
 }
 
 // The stream of copies of these trees. Groups share what is inside them.
-fn copied(alloc: Global, trees: &[TokenTree]) -> Result<TokenStream, AllocError>
+fn copied(trees: &[TokenTree]) -> Result<TokenStream, AllocError>
 {
-    let mut stream = TokenStream::new(alloc);
+    let mut stream = TokenStream::new();
     for tree in trees {
-        put(&mut stream, tree.clone()?)?;
+        put(&mut stream, tree.try_clone()?)?;
     }
     Ok(stream)
 }

@@ -4,6 +4,7 @@
 use crate::quoting::errors::TemplateError;
 use crate::quoting::fill::filled;
 use crate::quoting::holes::Hole;
+use crate::quoting::owned::filled_in_place;
 use crate::quoting::quote::Quote;
 use crate::proc_macro2::{ParseError, SourceMap, TokenStream};
 
@@ -25,7 +26,7 @@ impl Quote {
     /// `y`, and with neither `NoList` at the parentheses.
     pub fn fill(&mut self, template: &TokenStream, holes: &[Hole<'_>]) -> Result<(), TemplateError>
     {
-        let stream = filled(self.alloc(), template, holes, None, DEPTH_LIMIT)?;
+        let stream = filled(template, holes, None, DEPTH_LIMIT)?;
         self.push_stream(stream)?;
         Ok(())
     }
@@ -47,6 +48,8 @@ impl Quote {
     ) -> Result<(), TemplateError>
     {
         let template = TokenStream::from_str(template, map)?;
-        self.fill(&template, holes)
+        let stream = filled_in_place(template, holes, DEPTH_LIMIT)?;
+        self.push_stream(stream)?;
+        Ok(())
     }
 }

@@ -6,18 +6,17 @@ use crate::quoting::holes::{Filling, Hole, HoleName};
 use crate::quoting::interpolation::{FoundInterpolation, interpolation_at};
 use crate::proc_macro2::TokenTree;
 use crate::proc_macro2::token_stream::{Step, Steps};
-use crate::shim::alloc::{AllocError, Global};
+use crate::shim::alloc::AllocError;
 
 /// How many turns a repetition of these trees has: as many as the first list that is named in them has streams. `None`
 /// where they name no list at any depth. Fails where memory runs out.
 pub(crate) fn turns_of(
-    alloc: Global,
     trees: &[TokenTree],
     holes: &[Hole<'_>],
 ) -> Result<Option<usize>, AllocError>
 {
-    let mut steps = Steps::new(alloc, trees);
-    while let Some(step) = steps.next()? {
+    let mut steps = Steps::new(trees);
+    while let Some(step) = steps.try_next()? {
         if let Some(turns) = step_turns(step, holes) {
             return Ok(Some(turns));
         }

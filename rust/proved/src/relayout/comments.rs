@@ -1,8 +1,6 @@
 // Made from crates/relayout/src/comments.rt by rust/erase: change that file, not this one.
 //! Doc attributes of a text, as doc comments.
 
-use crate::shim::prelude::String;
-
 use crate::relayout::errors::RelayoutError;
 use crate::relayout::literals::{escaped_text, plain_front, strip};
 use crate::lexical::parts::{Cursor, before, begins, skip_to_either};
@@ -10,7 +8,7 @@ use crate::lexical::{PieceKind, literal_at, past_white, piece_at};
 use crate::pm_token::parts::{TextBuilder, string_literal};
 use crate::pm_token::{ConversionErrorKind, Literal};
 use crate::proc_macro2::Span;
-use crate::shim::alloc::{AllocError, Global};
+use crate::shim::alloc::AllocError;
 
 /// The text with doc comments in the place of doc attributes.
 ///
@@ -23,9 +21,9 @@ use crate::shim::alloc::{AllocError, Global};
 /// proportional to the length of the text.
 ///
 /// Of `#[doc = " a"]`, LF and `fn f() {}` it is `/// a`, LF and `fn f() {}`.
-pub fn with_doc_comments(alloc: Global, text: &str) -> Result<String, RelayoutError>
+pub fn with_doc_comments(text: &str) -> Result<String, RelayoutError>
 {
-    let mut out = TextBuilder::with_room(alloc, text.len())?;
+    let mut out = TextBuilder::with_room(text.len())?;
     // What isn't written yet, and the end of it that is still to be read. What is kept is written as a whole.
     let mut kept = text;
     let mut rest = text;
@@ -40,7 +38,7 @@ pub fn with_doc_comments(alloc: Global, text: &str) -> Result<String, RelayoutEr
             first = false;
             continue;
         }
-        if let Some(after) = push_comment(alloc, &mut out, kept, rest, free)? {
+        if let Some(after) = push_comment(&mut out, kept, rest, free)? {
             kept = after;
             rest = after;
             first = false;
@@ -76,7 +74,6 @@ fn ends_line(white: &str) -> bool
 // line; `None`, and nothing is written, where no attribute is to become a comment.
 #[inline(always)]
 fn push_comment<'a>(
-    alloc: Global,
     out: &mut TextBuilder,
     kept: &str,
     text: &'a str,
@@ -89,13 +86,12 @@ fn push_comment<'a>(
     if !begins(text, "#") {
         return Ok(None);
     }
-    push_attribute(alloc, out, kept, text)
+    push_attribute(out, kept, text)
 }
 
 // The same, where nothing but white space stands before the text on its line.
 #[inline(never)]
 fn push_attribute<'a>(
-    alloc: Global,
     out: &mut TextBuilder,
     kept: &str,
     text: &'a str,
@@ -109,14 +105,14 @@ fn push_attribute<'a>(
         if let Some(rest) = strip(more, "\"]\n") {
             return push_doc(out, kept, text, inner, front, rest);
         }
-        if let Some((said, rest)) = escaped_text(alloc, front, more)? {
+        if let Some((said, rest)) = escaped_text(front, more)? {
             return push_doc(out, kept, text, inner, said.as_str(), rest);
         }
     }
     let Some((literal, rest)) = split_literal(after) else {
         return Ok(None);
     };
-    let Some(said) = text_of(alloc, literal)? else {
+    let Some(said) = text_of(literal)? else {
         return Ok(None);
     };
     push_doc(out, kept, text, inner, said.as_str(), rest)
@@ -194,13 +190,13 @@ fn split_literal(text: &str) -> Option<(&str, &str)>
 }
 
 // The text of which this is the string literal, as `Literal::string` writes it.
-fn text_of(alloc: Global, literal: &str) -> Result<Option<String>, AllocError>
+fn text_of(literal: &str) -> Result<Option<String>, AllocError>
 {
     if !Literal::is_whole(literal) {
         return Ok(None);
     }
-    match Literal::from_str_unchecked(alloc, literal)?.str_value(alloc) {
-        Ok(text) => same_literal(alloc, literal, text),
+    match Literal::from_str_unchecked(literal)?.str_value() {
+        Ok(text) => same_literal(literal, text),
         Err(ConversionErrorKind::Memory(error)) => Err(error),
         Err(ConversionErrorKind::InvalidLiteralKind) => Ok(None),
         Err(ConversionErrorKind::FailedToUnescape(_)) => Ok(None),
@@ -208,9 +204,9 @@ fn text_of(alloc: Global, literal: &str) -> Result<Option<String>, AllocError>
 }
 
 // The text, if this is its string literal.
-fn same_literal(alloc: Global, literal: &str, text: String) -> Result<Option<String>, AllocError>
+fn same_literal(literal: &str, text: String) -> Result<Option<String>, AllocError>
 {
-    let again = string_literal(alloc, text.as_str(), Span::call_site())?;
+    let again = string_literal(text.as_str(), Span::call_site())?;
     if is_same(again.text(), literal) {
         Ok(Some(text))
     } else {

@@ -2,15 +2,28 @@
 //! Why no other white space is written.
 
 use crate::shim::alloc::AllocError;
+use crate::shim::fmt;
 
 /// Why no other white space is written.
-#[derive(Debug)]
+#[derive(Debug, PartialEq, Eq)]
+#[non_exhaustive]
 pub enum RelayoutError {
     /// Somewhere in the text no piece stands.
     NoPiece,
     /// Memory ran out.
     Memory(AllocError),
 }
+
+impl fmt::Display for RelayoutError {
+    fn fmt<W: fmt::Write>(&self, f: &mut fmt::Formatter<W>) -> fmt::Result {
+        match self {
+            RelayoutError::NoPiece => f.write_str("cannot split the text into tokens"),
+            RelayoutError::Memory(_) => f.write_str("no memory"),
+        }
+    }
+}
+
+crate::shim::display!(RelayoutError);
 
 impl From<AllocError> for RelayoutError {
     fn from(error: AllocError) -> RelayoutError {

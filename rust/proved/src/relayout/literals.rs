@@ -1,10 +1,8 @@
 // Made from crates/relayout/src/literals.rt by rust/erase: change that file, not this one.
 //! Texts of string literals, as `Literal::string` writes them.
 
-use crate::shim::prelude::String;
-
 use crate::pm_token::parts::{TextBuilder, is_bare};
-use crate::shim::alloc::{AllocError, Global};
+use crate::shim::alloc::AllocError;
 
 // The characters of ASCII at the front of a literal's content that stand for themselves, and what follows them. `None`
 // where no quote begins the text.
@@ -19,7 +17,6 @@ pub(crate) fn plain_front(text: &str) -> Option<(&str, &str)>
 // nothing: characters past ASCII may stand for themselves too, and an escape is a backslash and a letter. It takes
 // memory only where such a literal stands.
 pub(crate) fn escaped_text<'a>(
-    alloc: Global,
     front: &str,
     after: &'a str,
 ) -> Result<Option<(String, &'a str)>, AllocError>
@@ -29,7 +26,7 @@ pub(crate) fn escaped_text<'a>(
         return Ok(None);
     }
     // No text is longer than the content of its literal.
-    let mut said = TextBuilder::with_room(alloc, front.len() + size)?;
+    let mut said = TextBuilder::with_room(front.len() + size)?;
     said.push_text(front)?;
     let mut rest = after;
     while !rest.is_empty() {

@@ -1,14 +1,12 @@
 // Made from crates/relayout/src/relaying.rt by rust/erase: change that file, not this one.
 //! Writes a text with other white space.
 
-use crate::shim::prelude::String;
-
 use crate::relayout::errors::RelayoutError;
 use crate::relayout::white::{White, push_white};
 use crate::lexical::parts::{before, begins, pass_white};
 use crate::lexical::{PieceKind, PlacedPiece, pieces};
 use crate::pm_token::parts::TextBuilder;
-use crate::shim::alloc::{AllocError, Global};
+use crate::shim::alloc::AllocError;
 
 /// The text with other white space between its tokens and comments, which stay as they are.
 ///
@@ -21,9 +19,9 @@ use crate::shim::alloc::{AllocError, Global};
 /// proportional to the length of the text and of what is written.
 ///
 /// Of `a  +\n// b\n c` with `Space`, `Lines` with 4 spaces and `Space` it is `a +\n    // b\nc`.
-pub fn relayout(alloc: Global, text: &str, choices: &[White]) -> Result<String, RelayoutError>
+pub fn relayout(text: &str, choices: &[White]) -> Result<String, RelayoutError>
 {
-    let mut out = TextBuilder::with_room(alloc, text.len())?;
+    let mut out = TextBuilder::with_room(text.len())?;
     let mut left = choices;
     let mut line = false;
     // The text from `kept` up to `from` stays, and isn't written yet. It is copied at once, before the next run of

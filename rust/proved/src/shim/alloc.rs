@@ -1,22 +1,10 @@
-//! Where memory comes from.
+//! Errors of memory. Rattle's allocator has one value and no size, so the erased text does without it.
 
 use core::convert::Infallible;
+use core::error::Error;
+use core::fmt;
 
-/// The allocator of the program: Rust's.
-#[derive(Clone, Copy, Debug)]
-pub struct Global;
-
-/// Memory ran out: never met, as Rust's allocator ends the process then.
-#[derive(Clone, Copy, Debug, PartialEq, Eq)]
-pub enum AllocError {}
-
-impl AllocError {
-    /// Contract: the error. Here the process ends in its place, as where Rust's allocator meets it.
-    #[cold]
-    pub fn met() -> AllocError {
-        std::alloc::handle_alloc_error(std::alloc::Layout::new::<u8>())
-    }
-}
+pub use crate::alloc_error::AllocError;
 
 /// Memory ran out for a value, which is handed back: never met, like [`AllocError`].
 pub struct AllocFailed<T> {
@@ -25,6 +13,27 @@ pub struct AllocFailed<T> {
     never: Infallible,
 }
 
+impl<T> fmt::Debug for AllocFailed<T> {
+    fn fmt(&self, _: &mut fmt::Formatter<'_>) -> fmt::Result {
+        match self.never {}
+    }
+}
+
+impl<T> fmt::Display for AllocFailed<T> {
+    fn fmt(&self, _: &mut fmt::Formatter<'_>) -> fmt::Result {
+        match self.never {}
+    }
+}
+
+impl<T> PartialEq for AllocFailed<T> {
+    fn eq(&self, _: &AllocFailed<T>) -> bool {
+        match self.never {}
+    }
+}
+
+impl<T> Error for AllocFailed<T> {}
+
+#[doc(hidden)]
 impl<T> From<AllocFailed<T>> for AllocError {
     #[inline(always)]
     fn from(error: AllocFailed<T>) -> AllocError {

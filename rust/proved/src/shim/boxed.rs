@@ -1,6 +1,6 @@
 //! A value behind a pointer.
 
-use super::alloc::{AllocError, Global};
+use super::alloc::AllocError;
 use core::ops::{Deref, DerefMut};
 
 /// A value behind a pointer of its own. Contract: it is seen as the value.
@@ -9,14 +9,8 @@ pub struct Box<T>(std::boxed::Box<T>);
 impl<T> Box<T> {
     /// Contract: the box has the value.
     #[inline(always)]
-    pub fn new(_: Global, value: T) -> Result<Box<T>, AllocError> {
+    pub fn new(value: T) -> Result<Box<T>, AllocError> {
         Ok(Box(std::boxed::Box::new(value)))
-    }
-
-    /// Contract: what its memory was taken from.
-    #[inline(always)]
-    pub fn allocator(&self) -> &Global {
-        &Global
     }
 
     /// Contract: the value.
@@ -48,7 +42,7 @@ mod tests {
 
     #[test]
     fn a_box_has_its_value() -> Result<(), AllocError> {
-        let mut boxed = Box::new(Global, 1)?;
+        let mut boxed = Box::new(1)?;
         *boxed += 1;
         assert_eq!(*boxed, 2);
         assert_eq!(Box::into_inner(boxed), 2);

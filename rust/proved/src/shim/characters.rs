@@ -47,8 +47,7 @@ pub mod ucd_script {
 /// Normal forms.
 pub mod unicode_normalization {
     use super::{number_in, CANONICAL, CLASS_RUNS, COMPATIBLE};
-    use crate::shim::alloc::{AllocError, Global};
-    use crate::shim::string::String;
+    use crate::shim::alloc::AllocError;
 
     // Hangul syllables and their parts, of which there are so many second and third ones.
     const SYLLABLES: u32 = 0xAC00;
@@ -60,15 +59,15 @@ pub mod unicode_normalization {
     const THIRD: u32 = 28;
 
     /// Contract: whether the text is its own form NFC.
-    pub fn is_nfc(_: Global, text: &str) -> Result<bool, AllocError> {
+    pub fn is_nfc(text: &str) -> Result<bool, AllocError> {
         let own = text.chars().map(u32::from);
         Ok(text.is_ascii() || composed(&decomposed(text, parts)) == own.collect::<Vec<_>>())
     }
 
     /// Contract: the text's form NFKC.
-    pub fn to_nfkc(_: Global, text: &str) -> Result<String, AllocError> {
+    pub fn to_nfkc(text: &str) -> Result<String, AllocError> {
         let codes = composed(&decomposed(text, wide_parts));
-        Ok(String::from_rust(codes.into_iter().filter_map(char::from_u32).collect()))
+        Ok(codes.into_iter().filter_map(char::from_u32).collect())
     }
 
     fn class(code: u32) -> u8 {
@@ -207,7 +206,6 @@ mod tests {
     use super::unicode_normalization::{is_nfc, to_nfkc};
     use super::unicode_width::UnicodeWidthChar;
     use super::{has, CANONICAL, CLASS_RUNS, COMPATIBLE, PROPERTY_RUNS, SCRIPT_RUNS, WIDTH_RUNS};
-    use crate::shim::alloc::Global;
 
     #[test]
     fn the_tables_are_in_order() {
@@ -222,7 +220,7 @@ mod tests {
     #[test]
     fn texts_are_in_the_form_nfc_or_not() {
         for text in ["", "a", "\u{e9}", "\u{1eb9}\u{30c}", "\u{1100}", "\u{ac01}", "\u{301}", "\u{1161}\u{11a8}"] {
-            assert_eq!(is_nfc(Global, text).ok(), Some(true), "{text:?}");
+            assert_eq!(is_nfc(text).ok(), Some(true), "{text:?}");
         }
         for text in [
             "e\u{301}",
@@ -234,7 +232,7 @@ mod tests {
             "\u{340}",
             "\u{958}x",
         ] {
-            assert_eq!(is_nfc(Global, text).ok(), Some(false), "{text:?}");
+            assert_eq!(is_nfc(text).ok(), Some(false), "{text:?}");
         }
     }
 
@@ -253,7 +251,7 @@ mod tests {
             ("\u{1e9b}\u{323}", "\u{1e69}"),
             ("\u{fdfb}", "\u{62c}\u{644} \u{62c}\u{644}\u{627}\u{644}\u{647}"),
         ] {
-            assert_eq!(to_nfkc(Global, text).ok().map(|it| it.into_rust()), Some(form.to_string()), "{text:?}");
+            assert_eq!(to_nfkc(text).ok(), Some(form.to_string()), "{text:?}");
         }
     }
 

@@ -1,8 +1,7 @@
 //! Maps and queues.
 
-use super::alloc::{AllocError, AllocFailed, Global};
-use super::clone::Clone;
-use super::vec::Vec;
+use super::alloc::{AllocError, AllocFailed};
+use super::clone::TryClone;
 use core::borrow::Borrow;
 use core::fmt;
 use core::hash::Hash;
@@ -14,7 +13,7 @@ pub struct BTreeMap<K, V>(std::collections::BTreeMap<K, V>);
 
 impl<K: Ord, V> BTreeMap<K, V> {
     /// Contract: no entry, and no memory taken.
-    pub fn new(_: Global) -> BTreeMap<K, V> {
+    pub fn new() -> BTreeMap<K, V> {
         BTreeMap(std::collections::BTreeMap::new())
     }
 
@@ -40,7 +39,7 @@ pub struct HashMap<K, V>(std::collections::HashMap<K, V>);
 
 impl<K: Eq + Hash, V> HashMap<K, V> {
     /// Contract: no entry, and no memory taken.
-    pub fn new(_: Global) -> HashMap<K, V> {
+    pub fn new() -> HashMap<K, V> {
         HashMap(std::collections::HashMap::new())
     }
 
@@ -83,11 +82,11 @@ impl<T> VecDeque<T> {
 }
 
 /// Contract: copies of the items, in order.
-impl<T: Clone> Clone for VecDeque<T> {
-    fn clone(&self) -> Result<VecDeque<T>, AllocError> {
+impl<T: TryClone> TryClone for VecDeque<T> {
+    fn try_clone(&self) -> Result<VecDeque<T>, AllocError> {
         let mut copies = std::vec::Vec::with_capacity(self.0.len());
         for item in self.0.as_slice() {
-            copies.push(item.clone()?);
+            copies.push(item.try_clone()?);
         }
         Ok(VecDeque(copies.into_iter()))
     }
@@ -105,7 +104,7 @@ mod tests {
 
     #[test]
     fn a_map_has_the_last_value_of_each_key_in_order() {
-        let mut map = BTreeMap::new(Global);
+        let mut map = BTreeMap::new();
         for (key, value) in [(3, 'c'), (1, 'a'), (3, 'd')] {
             let _ = map.insert(key, value);
         }
@@ -117,14 +116,10 @@ mod tests {
     }
 
     #[test]
-    fn a_queue_gives_its_items_from_the_front() -> Result<(), AllocError> {
-        let mut items = Vec::new(Global);
-        items.push(1)?;
-        items.push(2)?;
-        let mut queue = VecDeque::from_vec(items);
+    fn a_queue_gives_its_items_from_the_front() {
+        let mut queue = VecDeque::from_vec(vec![1, 2]);
         assert_eq!(format!("{queue:?}"), "[1, 2]");
         assert_eq!((queue.pop_front(), queue.len()), (Some(1), 1));
         assert_eq!((queue.pop_front(), queue.pop_front()), (Some(2), None));
-        Ok(())
     }
 }

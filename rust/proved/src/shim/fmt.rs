@@ -60,11 +60,11 @@ pub fn print_to<T: Display, W: Write>(value: &T, out: W) -> core::result::Result
     Ok(f.out)
 }
 
-/// As many bytes are gathered before Rust's formatter is called, whose writer is behind a pointer.
+/// How many bytes are gathered between two calls of Rust's formatter, each of which goes through a pointer.
 const CHUNK: usize = 128;
 
-/// A writer that gathers what is written, so that Rust's formatter is called once for many tokens. No empty text is
-/// written to it.
+/// A writer that gathers what is written, so that Rust's formatter is called once for many tokens. It never passes on
+/// an empty text.
 struct Chunks<'a, 'b> {
     out: &'a mut core::fmt::Formatter<'b>,
     bytes: &'a mut [u8; CHUNK],
@@ -80,7 +80,8 @@ impl Chunks<'_, '_> {
         self.out.write_str(core::str::from_utf8(&self.bytes[..used]).expect("whole texts were put in"))
     }
 
-    /// Writes a text for which there is no room behind the others.
+    /// Writes a text for which too little room is left. What was gathered is written first. Then the text is gathered
+    /// or, if it is longer than a chunk, written at once.
     #[cold]
     #[inline(never)]
     fn write_past_room(&mut self, text: &str) -> Result {

@@ -1,26 +1,17 @@
 //! Reading and writing.
 
-use super::alloc::{AllocError, Global};
-use super::string::String;
-use super::vec::Vec;
 pub use std::io::{Error, ErrorKind, Result, Write};
-
-impl From<AllocError> for std::io::Error {
-    fn from(error: AllocError) -> std::io::Error {
-        match error {}
-    }
-}
 
 /// A reader whose lines are read.
 pub trait BufRead {
     /// Contract: the lines, each without the LF or CR LF at its end, and an error where one is no UTF-8 or reading
     /// fails.
-    fn lines(self, alloc: Global) -> impl Iterator<Item = Result<String>>;
+    fn lines(self) -> impl Iterator<Item = Result<String>>;
 }
 
 impl<R: std::io::BufRead> BufRead for R {
-    fn lines(self, _: Global) -> impl Iterator<Item = Result<String>> {
-        std::io::BufRead::lines(self).map(|line| line.map(String::from_rust))
+    fn lines(self) -> impl Iterator<Item = Result<String>> {
+        std::io::BufRead::lines(self)
     }
 }
 
@@ -40,7 +31,7 @@ impl<R: std::io::Read> Read for R {
     }
 
     fn read_to_end(&mut self, bytes: &mut Vec<u8>) -> Result<usize> {
-        std::io::Read::read_to_end(self, bytes.as_rust_mut())
+        std::io::Read::read_to_end(self, bytes)
     }
 }
 
@@ -50,7 +41,7 @@ mod tests {
 
     #[test]
     fn a_reader_is_read_to_its_end() -> Result<()> {
-        let (mut rest, mut buffer, mut bytes) = (&b"abc"[..], [0; 2], Vec::new(Global));
+        let (mut rest, mut buffer, mut bytes) = (&b"abc"[..], [0; 2], Vec::new());
         assert_eq!((Read::read(&mut rest, &mut buffer)?, buffer), (2, *b"ab"));
         assert_eq!((Read::read_to_end(&mut rest, &mut bytes)?, bytes.as_slice()), (1, &b"c"[..]));
         assert_eq!(Read::read(&mut rest, &mut buffer)?, 0);
@@ -59,8 +50,8 @@ mod tests {
 
     #[test]
     fn lines_end_at_line_feeds() {
-        let lines: std::vec::Vec<_> = BufRead::lines(&b"a\r\n\nb"[..], Global).flatten().collect();
+        let lines: std::vec::Vec<_> = BufRead::lines(&b"a\r\n\nb"[..]).flatten().collect();
         assert_eq!(lines.iter().map(|line| line.as_str()).collect::<std::vec::Vec<_>>(), ["a", "", "b"]);
-        assert!(BufRead::lines(&b"\xFF"[..], Global).all(|line| line.is_err()));
+        assert!(BufRead::lines(&b"\xFF"[..]).all(|line| line.is_err()));
     }
 }

@@ -1,18 +1,15 @@
-//! What a program is given: its words, its streams, and files.
+//! What a program is given. Its words, streams and files come with the feature `programs`: they take long to compile.
 
-use super::alloc::Global;
+#[cfg(feature = "programs")]
 use std::io::{Read, Result, Write};
+#[cfg(feature = "programs")]
 pub use std::process::ExitCode;
 
 /// What Rattle gives to `main`.
 pub struct HostRuntime;
 
+#[cfg(feature = "programs")]
 impl HostRuntime {
-    /// Contract: where memory comes from.
-    pub fn alloc(&self) -> Global {
-        Global
-    }
-
     /// Contract: standard input. A read of it is one of the system's.
     pub fn stdin(&self) -> impl Read {
         system::stdin()
@@ -30,10 +27,9 @@ impl HostRuntime {
 }
 
 /// The words that a program is given.
+#[cfg(feature = "programs")]
 pub mod env {
-    use super::super::alloc::{AllocError, Global};
-    use super::super::string::String;
-    use super::super::vec::Vec;
+    use super::super::alloc::AllocError;
     use super::HostRuntime;
     use std::ffi::OsString;
     use std::io::{ErrorKind, Result};
@@ -59,30 +55,74 @@ pub mod env {
         }
 
         /// Contract: the words, in order.
-        pub fn collect(self, _: Global) -> std::result::Result<Vec<String>, AllocError> {
-            Ok(Vec::from_rust(self.0.map(String::from_rust).collect()))
+        pub fn collect(self) -> std::result::Result<Vec<String>, AllocError> {
+            Ok(self.0.collect())
         }
     }
 }
 
 /// Files.
+#[cfg(feature = "programs")]
 pub mod fs {
     use super::HostRuntime;
+    use std::ffi::{OsStr, OsString};
+    use std::io::{Error, ErrorKind, Read, Result, Seek};
+    use std::sync::OnceLock;
+
+    // Names that are no texts, each after the text that stands for it.
+    static NAMES: OnceLock<Vec<(String, OsString)>> = OnceLock::new();
+
+    /// From here on each text is the path of the file of the name after it. Only the first call does something.
+    pub fn stand_for(names: Vec<(String, OsString)>) {
+        NAMES.get_or_init(|| names);
+    }
+
+    fn name_of(path: &str) -> &OsStr {
+        let stands = NAMES.get().and_then(|names| names.iter().find(|(text, _)| text == path));
+        stands.map_or(OsStr::new(path), |(_, name)| name)
+    }
 
     /// A file that can be opened.
     pub struct File;
 
     impl File {
         /// Contract: the file at the path, to be read, or why the system doesn't open it.
-        pub fn open(_: &HostRuntime, path: &str) -> super::Result<std::fs::File> {
-            std::fs::File::open(path)
+        ///
+        /// A text that no map has room for isn't opened, so that no memory is taken for it.
+        pub fn open(_: &HostRuntime, path: &str) -> Result<std::fs::File> {
+            let mut file = std::fs::File::open(name_of(path))?;
+            if has_more_chars(&mut file, u32::MAX.into())? {
+                return Err(Error::new(ErrorKind::InvalidData, "the text is too long"));
+            }
+            Ok(file)
         }
+    }
+
+    // Whether the file, not read yet, has more characters than so many. Each takes one byte to four, of which the first
+    // alone isn't 10xxxxxx. What isn't a file on a disk, as a pipe, isn't looked at.
+    pub(super) fn has_more_chars(file: &mut std::fs::File, most: u64) -> Result<bool> {
+        let about = file.metadata()?;
+        if !about.is_file() || about.len() <= most {
+            return Ok(false);
+        }
+        if about.len() / 4 > most {
+            return Ok(true);
+        }
+        let (mut buffer, mut chars) = (vec![0; 1 << 16], 0);
+        while chars <= most {
+            match file.read(&mut buffer)? {
+                0 => break,
+                count => chars += buffer[..count].iter().filter(|byte| **byte & 0xC0 != 0x80).count() as u64,
+            }
+        }
+        file.rewind()?;
+        Ok(chars > most)
     }
 }
 
 /// The standard streams where a system numbers them. Rust's own hold bytes back, and pass over a stream that is open
 /// for the other direction; these do neither.
-#[cfg(unix)]
+#[cfg(all(unix, feature = "programs"))]
 mod system {
     use super::*;
     use std::fs::File;
@@ -132,12 +172,12 @@ mod system {
 }
 
 /// The standard streams elsewhere: Rust's.
-#[cfg(not(unix))]
+#[cfg(all(not(unix), feature = "programs"))]
 mod system {
     pub use std::io::{stderr, stdin, stdout};
 }
 
-#[cfg(test)]
+#[cfg(all(test, feature = "programs"))]
 mod tests {
     use super::*;
     use std::ffi::OsString;
@@ -145,8 +185,8 @@ mod tests {
     #[test]
     fn words_come_in_order_without_the_first() -> Result<()> {
         let words = ["name", "é", ""].map(OsString::from);
-        let Ok(rest) = env::texts(words.into_iter())?.skip(1).collect(Global);
-        assert_eq!(rest.iter().map(|word| word.as_str()).collect::<Vec<_>>(), ["é", ""]);
+        let Ok(rest) = env::texts(words.into_iter())?.skip(1).collect();
+        assert_eq!(rest, ["é", ""]);
         assert!(env::args(&HostRuntime).is_ok());
         Ok(())
     }
@@ -167,6 +207,22 @@ mod tests {
         assert!(text.starts_with("[package]"));
         let error = fs::File::open(&HostRuntime, "").err().map(|error| error.kind());
         assert_eq!(error, Some(std::io::ErrorKind::NotFound));
+        Ok(())
+    }
+
+    #[test]
+    fn a_file_has_as_many_characters_as_its_text() -> Result<()> {
+        let path = concat!(env!("CARGO_MANIFEST_DIR"), "/src/shim/process.rs");
+        let text = std::fs::read_to_string(path)?;
+        let chars = text.chars().count() as u64;
+        assert!(chars < text.len() as u64, "é");
+        for (most, wanted) in [(chars / 8, true), (chars - 1, true), (chars, false), (text.len() as u64, false)] {
+            let mut file = std::fs::File::open(path)?;
+            assert_eq!(fs::has_more_chars(&mut file, most)?, wanted);
+            let mut rest = String::new();
+            file.read_to_string(&mut rest)?;
+            assert!(wanted || rest == text);
+        }
         Ok(())
     }
 

@@ -1,8 +1,7 @@
 //! A value with several owners.
 
-use super::alloc::{AllocError, Global};
-use super::clone::Clone;
-use super::string::String;
+use super::alloc::AllocError;
+use super::clone::TryClone;
 use core::ops::Deref;
 
 /// A value with several owners, in one thread. Contract: it is seen as the value.
@@ -11,7 +10,7 @@ pub struct Rc<T>(std::rc::Rc<T>);
 impl<T> Rc<T> {
     /// Contract: the value, with one owner.
     #[inline(always)]
-    pub fn new(_: Global, value: T) -> Result<Rc<T>, AllocError> {
+    pub fn new(value: T) -> Result<Rc<T>, AllocError> {
         Ok(Rc(std::rc::Rc::new(value)))
     }
 
@@ -22,7 +21,7 @@ impl<T> Rc<T> {
     }
 }
 
-impl<T: Clone> Rc<T> {
+impl<T: TryClone> Rc<T> {
     /// Contract: the value, to be changed. Where there are other owners it is a copy, which this one owns from then on.
     #[inline(always)]
     pub fn make_mut(this: &mut Rc<T>) -> Result<&mut T, AllocError> {
@@ -38,7 +37,7 @@ impl<T: Clone> Rc<T> {
     /// A copy in place of the value, with no other owner.
     #[cold]
     fn unshare(&mut self) -> Result<(), AllocError> {
-        self.0 = std::rc::Rc::new(self.0.as_ref().clone()?);
+        self.0 = std::rc::Rc::new(self.0.as_ref().try_clone()?);
         Ok(())
     }
 
@@ -47,15 +46,15 @@ impl<T: Clone> Rc<T> {
     pub fn unwrap_or_clone(this: Rc<T>) -> Result<T, AllocError> {
         match std::rc::Rc::try_unwrap(this.0) {
             Ok(value) => Ok(value),
-            Err(shared) => shared.as_ref().clone(),
+            Err(shared) => shared.as_ref().try_clone(),
         }
     }
 }
 
 /// Contract: one more owner of the same value.
-impl<T> Clone for Rc<T> {
+impl<T> TryClone for Rc<T> {
     #[inline(always)]
-    fn clone(&self) -> Result<Rc<T>, AllocError> {
+    fn try_clone(&self) -> Result<Rc<T>, AllocError> {
         Ok(Rc(std::rc::Rc::clone(&self.0)))
     }
 }
@@ -75,14 +74,14 @@ pub struct RcStr(std::rc::Rc<str>);
 impl RcStr {
     /// Contract: the same text, with one owner.
     #[inline(always)]
-    pub fn from_str(_: Global, text: &str) -> Result<RcStr, AllocError> {
+    pub fn from_str(text: &str) -> Result<RcStr, AllocError> {
         Ok(RcStr(text.into()))
     }
 
     /// Contract: the same text, with one owner.
     #[inline(always)]
     pub fn from_string(text: String) -> Result<RcStr, AllocError> {
-        Ok(RcStr(text.into_rust().into()))
+        Ok(RcStr(text.into()))
     }
 
     /// Contract: the text.
@@ -93,9 +92,9 @@ impl RcStr {
 }
 
 /// Contract: one more owner of the same text.
-impl Clone for RcStr {
+impl TryClone for RcStr {
     #[inline(always)]
-    fn clone(&self) -> Result<RcStr, AllocError> {
+    fn try_clone(&self) -> Result<RcStr, AllocError> {
         Ok(RcStr(std::rc::Rc::clone(&self.0)))
     }
 }
@@ -107,11 +106,11 @@ mod tests {
 
     #[test]
     fn owners_share_until_one_changes_the_value() -> Result<(), AllocError> {
-        let mut one = Rc::new(Global, Vec::new(Global))?;
-        Rc::make_mut(&mut one)?.push(Rc::new(Global, 1)?)?;
-        let mut other = one.clone()?;
+        let mut one = Rc::new(Vec::new())?;
+        Rc::make_mut(&mut one)?.push(Rc::new(1)?);
+        let mut other = one.try_clone()?;
         assert!(Rc::get_mut(&mut other).is_none());
-        Rc::make_mut(&mut other)?.push(Rc::new(Global, 2)?)?;
+        Rc::make_mut(&mut other)?.push(Rc::new(2)?);
         assert_eq!((one.len(), other.len()), (1, 2));
         assert!(Rc::get_mut(&mut one).is_some());
         Ok(())
@@ -119,20 +118,21 @@ mod tests {
 
     #[test]
     fn the_last_owner_gets_the_value_itself() -> Result<(), AllocError> {
-        let one = Rc::new(Global, Vec::<Rc<u8>>::with_capacity(Global, 1)?)?;
-        let other = one.clone()?;
+        let one = Rc::new(Vec::<Rc<u8>>::with_capacity(1))?;
+        let other = one.try_clone()?;
         let place = other.as_ptr();
-        assert_ne!(Rc::unwrap_or_clone(one)?.as_ptr(), place);
-        assert_eq!(Rc::unwrap_or_clone(other)?.as_ptr(), place);
+        let (copy, own) = (Rc::unwrap_or_clone(one)?, Rc::unwrap_or_clone(other)?);
+        assert_ne!(copy.as_ptr(), place);
+        assert_eq!(own.as_ptr(), place);
         Ok(())
     }
 
     #[test]
     fn owners_of_a_text_share_it() -> Result<(), AllocError> {
-        let text = RcStr::from_str(Global, "aé")?;
-        let copy = text.clone()?;
+        let text = RcStr::from_str("aé")?;
+        let copy = text.try_clone()?;
         assert_eq!((copy.as_str(), copy.as_str().as_ptr()), ("aé", text.as_str().as_ptr()));
-        assert_eq!(RcStr::from_string(String::from_str(Global, "aé")?)?.as_str(), "aé");
+        assert_eq!(RcStr::from_string(String::from("aé"))?.as_str(), "aé");
         Ok(())
     }
 }

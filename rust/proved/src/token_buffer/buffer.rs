@@ -1,8 +1,6 @@
 // Made from crates/token_buffer/src/buffer.rt by rust/erase: change that file, not this one.
 //! A text's tokens, one after another.
 
-use crate::shim::prelude::Vec;
-
 use crate::token_buffer::cursor::Cursor;
 use crate::token_buffer::entry::Entry;
 use crate::token_buffer::errors::BufferError;
@@ -10,7 +8,6 @@ use crate::token_buffer::filling::Filling;
 use crate::lexical::{past_white, piece_at};
 use crate::pm_span::parts::fits_new;
 use crate::pm_token::ParseError;
-use crate::shim::alloc::Global;
 
 /// The tokens of a text, for [`Cursor`](crate::token_buffer::Cursor)s to read.
 ///
@@ -30,7 +27,7 @@ impl<'a> TokenBuffer<'a> {
     /// (`fits`).
     ///
     /// `a += (b)` has the identifier `a`, the marks `+` and `=`, and the group of `b`.
-    pub fn new(alloc: Global, text: &'a str) -> Result<TokenBuffer<'a>, BufferError>
+    pub fn new(text: &'a str) -> Result<TokenBuffer<'a>, BufferError>
     {
         if text.len() > u32::MAX as usize {
             return Err(BufferError::TooLong);
@@ -38,7 +35,7 @@ impl<'a> TokenBuffer<'a> {
         let Some(lo) = fits_new(text) else {
             return Err(BufferError::Parse(ParseError::MapFull));
         };
-        buffer_at(alloc, lo, text)
+        buffer_at(lo, text)
     }
 
     /// A cursor over all its trees.
@@ -49,9 +46,9 @@ impl<'a> TokenBuffer<'a> {
 }
 
 /// The tokens of a text that begins at the position `base`.
-fn buffer_at(alloc: Global, base: u32, text: &str) -> Result<TokenBuffer<'_>, BufferError>
+fn buffer_at(base: u32, text: &str) -> Result<TokenBuffer<'_>, BufferError>
 {
-    let mut filling = Filling::with_room(alloc, text.len())?;
+    let mut filling = Filling::with_room(text.len())?;
     let mut rest = text;
     let mut at = base;
     let mut first = true;

@@ -1,18 +1,30 @@
 // Made from crates/token_buffer/src/errors.rt by rust/erase: change that file, not this one.
 //! Why a buffer isn't made.
 
+use crate::pm_span::Span;
 use crate::pm_token::ParseError;
 use crate::shim::alloc::{AllocError, AllocFailed};
-use crate::shim::error::Error;
 use crate::shim::fmt;
 
 /// Why a buffer was not made.
-#[derive(Debug)]
+#[derive(Debug, PartialEq)]
+#[non_exhaustive]
 pub enum BufferError {
     /// The text wasn't read.
     Parse(ParseError),
     /// The text has more than 4294967295 bytes, or more tokens.
     TooLong,
+}
+
+impl BufferError {
+    /// Where the fault of the text stands, as [`ParseError::span`] has it; `None` if the text has no fault.
+    pub fn span(&self) -> Option<Span>
+    {
+        match self {
+            BufferError::Parse(error) => error.span(),
+            BufferError::TooLong => None,
+        }
+    }
 }
 
 impl fmt::Display for BufferError {
@@ -25,8 +37,6 @@ impl fmt::Display for BufferError {
 }
 
 crate::shim::display!(BufferError);
-
-impl Error for BufferError {}
 
 impl From<ParseError> for BufferError {
     fn from(error: ParseError) -> BufferError {

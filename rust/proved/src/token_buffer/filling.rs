@@ -1,7 +1,7 @@
 // Made from crates/token_buffer/src/filling.rt by rust/erase: change that file, not this one.
 //! From the pieces of a text to the entries of its buffer.
 
-use crate::shim::prelude::Vec;
+use crate::shim::prelude::Grow;
 
 use crate::token_buffer::entry::Entry;
 use crate::token_buffer::errors::BufferError;
@@ -9,7 +9,7 @@ use crate::lexical::{Piece, PieceKind};
 use crate::pm_span::parts::span_of;
 use crate::pm_token::parts::fault;
 use crate::pm_token::{Delimiter, ParseError};
-use crate::shim::alloc::{AllocError, Global};
+use crate::shim::alloc::AllocError;
 
 /// What was put into a buffer so far.
 pub struct Filling {
@@ -31,12 +31,12 @@ pub struct OpenGroup {
 
 impl Filling {
     /// Nothing was put in. There is room for most texts of so many bytes.
-    pub fn with_room(alloc: Global, bytes: usize) -> Result<Filling, AllocError>
+    pub fn with_room(bytes: usize) -> Result<Filling, AllocError>
     {
         Ok(Filling {
-            groups: Vec::new(alloc),
+            groups: Vec::new(),
             // A token of code has some four bytes, with the white characters after it.
-            entries: Vec::with_capacity(alloc, bytes / 4)?,
+            entries: Vec::with_capacity_fallibly(bytes / 4)?,
         })
     }
 
@@ -75,7 +75,7 @@ impl Filling {
     /// Puts in an entry.
     fn push(&mut self, entry: Entry) -> Result<(), AllocError>
     {
-        self.entries.push(entry)?;
+        self.entries.push_fallibly(entry)?;
         Ok(())
     }
 
@@ -123,7 +123,7 @@ impl Filling {
     fn open(&mut self, delimiter: Delimiter, lo: u32) -> Result<(), AllocError>
     {
         let index = self.entries.len();
-        self.groups.push(OpenGroup {
+        self.groups.push_fallibly(OpenGroup {
             delimiter,
             lo,
             index,

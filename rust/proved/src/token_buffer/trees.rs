@@ -1,7 +1,7 @@
 // Made from crates/token_buffer/src/trees.rt by rust/erase: change that file, not this one.
 //! From what a cursor has left to a stream of trees.
 
-use crate::shim::prelude::Vec;
+use crate::shim::prelude::Grow;
 
 use crate::token_buffer::cursor::{Cursor, LiteralText, TokenText};
 use crate::pm_span::Span;
@@ -9,7 +9,7 @@ use crate::pm_stream::parts::{group, stream};
 use crate::pm_stream::{TokenStream, TokenTree};
 use crate::pm_token::parts::{ident, literal, punct, string_literal};
 use crate::pm_token::{Delimiter, Literal};
-use crate::shim::alloc::{AllocError, Global};
+use crate::shim::alloc::AllocError;
 
 /// A group whose trees are being made.
 struct OpenTrees<'a> {
@@ -41,14 +41,14 @@ impl<'a> Cursor<'a> {
     /// time and memory in proportion to what is left, and little stack however deep groups nest.
     ///
     /// Of `a (b) c` after `a` it is the stream of `(b) c`.
-    pub fn to_stream(self, alloc: Global) -> Result<TokenStream, AllocError>
+    pub fn to_stream(self) -> Result<TokenStream, AllocError>
     {
-        let mut groups = Vec::new(alloc);
-        let mut trees = Vec::new(alloc);
+        let mut groups = Vec::new();
+        let mut trees = Vec::new();
         let mut here = self;
         loop {
             let Some(first) = here.first() else {
-                let inside = stream(alloc, trees)?;
+                let inside = stream(trees)?;
                 let Some(
                     OpenTrees {
                         before,
@@ -61,37 +61,57 @@ impl<'a> Cursor<'a> {
                     return Ok(inside);
                 };
                 trees = before;
-                trees.push(TokenTree::Group(group(delimiter, inside, span)))?;
+                trees.push_fallibly(TokenTree::Group(group(delimiter, inside, span)))?;
                 here = after;
                 continue;
             };
             match first.text {
                 TokenText::Group(delimiter, inside) => {
-                    groups.push(OpenTrees {
+                    groups.push_fallibly(OpenTrees {
                         before: trees,
                         delimiter,
                         span: first.span,
                         after: first.after,
                     })?;
-                    trees = Vec::new(alloc);
+                    trees = Vec::new();
                     here = inside;
                 }
                 TokenText::Ident(name) => {
-                    let name = ident(alloc, name.text, name.raw, first.span)?;
-                    trees.push(TokenTree::Ident(name))?;
+                    let name = ident(name.text, name.raw, first.span)?;
+                    trees.push_fallibly(TokenTree::Ident(name))?;
                     here = first.after;
                 }
                 TokenText::Punct(mark, spacing) => {
-                    trees.push(TokenTree::Punct(punct(mark, spacing, first.span)))?;
+                    trees.push_fallibly(TokenTree::Punct(punct(mark, spacing, first.span)))?;
                     here = first.after;
                 }
                 TokenText::Literal(text) => {
-                    let literal = literal_at(alloc, text, first.span)?;
-                    trees.push(TokenTree::Literal(literal))?;
+                    let literal = literal_at(text, first.span)?;
+                    trees.push_fallibly(TokenTree::Literal(literal))?;
                     here = first.after;
                 }
             }
         }
+    }
+
+    /// The trees that are left, with almost all groups empty: who reads items doesn't need what is inside. Fails where
+    /// memory runs out.
+    ///
+    /// Groups in braces and in brackets have no trees. A group in parentheses keeps its trees if they are one
+    /// identifier or begin with `in`, which all that restrict `pub` do, and else has none. A group without delimiters
+    /// keeps its trees. Spans are those of [`to_stream`](Cursor::to_stream). It takes time and memory in proportion to
+    /// the trees that it answers, whatever is left out.
+    ///
+    /// Of `pub(crate) fn f(a: u8) {}` they are `pub`, the group of `crate`, `fn`, `f` and two empty groups.
+    pub fn outer_trees(self) -> Result<Vec<TokenTree>, AllocError>
+    {
+        let mut trees = Vec::new();
+        let mut here = self;
+        while let Some(first) = here.first() {
+            trees.push_fallibly(outer_tree(first.text, first.span)?)?;
+            here = first.after;
+        }
+        Ok(trees)
     }
 
     /// The first tree, where it stands, and the trees after it. None at the end.
@@ -103,11 +123,53 @@ impl<'a> Cursor<'a> {
     }
 }
 
-/// The literal of this text.
-fn literal_at(alloc: Global, text: LiteralText<'_>, span: Span) -> Result<Literal, AllocError>
+/// The tree of this text at this span. A group keeps few of its trees.
+fn outer_tree(text: TokenText<'_>, span: Span) -> Result<TokenTree, AllocError>
 {
     match text {
-        LiteralText::Source(text) => literal(alloc, text, span),
-        LiteralText::Doc(text) => string_literal(alloc, text, span),
+        TokenText::Ident(name) => Ok(TokenTree::Ident(ident(name.text, name.raw, span)?)),
+        TokenText::Punct(mark, spacing) => Ok(TokenTree::Punct(punct(mark, spacing, span))),
+        TokenText::Literal(text) => Ok(TokenTree::Literal(literal_at(text, span)?)),
+        TokenText::Group(delimiter, inside) => {
+            let stream = outer_stream(delimiter, inside)?;
+            Ok(TokenTree::Group(group(delimiter, stream, span)))
+        }
+    }
+}
+
+/// What a group keeps of its trees.
+fn outer_stream(
+    delimiter: Delimiter,
+    inside: Cursor<'_>,
+) -> Result<TokenStream, AllocError>
+{
+    match delimiter {
+        Delimiter::Parenthesis if !may_restrict(inside) => Ok(TokenStream::new()),
+        Delimiter::Bracket | Delimiter::Brace => Ok(TokenStream::new()),
+        Delimiter::Parenthesis | Delimiter::None => inside.to_stream(),
+    }
+}
+
+/// Whether the trees are one identifier, or begin with `in`.
+fn may_restrict(inside: Cursor<'_>) -> bool
+{
+    match inside.ident() {
+        Some((name, rest)) => rest.eof() || is_text(name.text, "in"),
+        None => false,
+    }
+}
+
+/// Whether both are the same.
+fn is_text(text: &str, other: &str) -> bool
+{
+    text == other
+}
+
+/// The literal of this text.
+fn literal_at(text: LiteralText<'_>, span: Span) -> Result<Literal, AllocError>
+{
+    match text {
+        LiteralText::Source(text) => literal(text, span),
+        LiteralText::Doc(text) => string_literal(text, span),
     }
 }

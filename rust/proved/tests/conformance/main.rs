@@ -2,8 +2,6 @@
 
 #[allow(clippy::complexity, clippy::style, unreachable_code, unused_imports)]
 mod conformance;
-
-use proved::shim::alloc::Global;
 use std::fs;
 use std::path::Path;
 
@@ -13,7 +11,7 @@ const SAID: &str = "../../crates/conformance/stdout";
 /// What the program writes for these lines.
 fn written(lines: &[u8]) -> String {
     let mut out = Vec::new();
-    let tally = conformance::compare_lines(Global, lines, &mut out).expect("lines of a text are read");
+    let tally = conformance::compare_lines(lines, &mut out).expect("lines of a text are read");
     let reports = String::from_utf8(out).expect("a report is a text");
     format!("{reports}{} answers, {} differences\n", tally.answers, tally.differences)
 }

@@ -3,7 +3,7 @@ pub use proved::shim::*;
 
 pub mod prelude {
     pub use super::alloc::AllocGlobal;
-    pub use super::lists::{Collect, Repeat, Sort};
+    pub use super::lists::{Collect, Repeat};
     pub(crate) use super::lists::vec_by_shim as vec;
     pub use proved::shim::prelude::*;
 }
@@ -11,16 +11,10 @@ pub mod prelude {
 pub mod alloc {
     pub use proved::shim::alloc::*;
 
-    /// What hands out the allocator.
-    pub trait AllocGlobal {
-        fn alloc(&self) -> Global;
-    }
+    /// What hands out the allocator in Rattle, and nothing here.
+    pub trait AllocGlobal {}
 
-    impl AllocGlobal for proved::shim::process::HostRuntime {
-        fn alloc(&self) -> Global {
-            Global
-        }
-    }
+    impl AllocGlobal for proved::shim::process::HostRuntime {}
 }
 
 pub mod process {
@@ -68,14 +62,14 @@ pub mod test {
 }
 
 pub mod collections {
-    use super::alloc::{AllocFailed, Global};
+    use super::alloc::AllocFailed;
     use std::hash::Hash;
 
     /// A map by hashes.
     pub struct HashMap<K, V>(std::collections::HashMap<K, V>);
 
     impl<K: Hash + Eq, V> HashMap<K, V> {
-        pub fn new(_: Global) -> HashMap<K, V> {
+        pub fn new() -> HashMap<K, V> {
             HashMap(std::collections::HashMap::new())
         }
 
@@ -96,7 +90,7 @@ pub mod collections {
     pub struct BTreeMap<K, V>(std::collections::BTreeMap<K, V>);
 
     impl<K: Ord, V> BTreeMap<K, V> {
-        pub fn new(_: Global) -> BTreeMap<K, V> {
+        pub fn new() -> BTreeMap<K, V> {
             BTreeMap(std::collections::BTreeMap::new())
         }
 
@@ -119,49 +113,33 @@ pub mod ops {
 }
 
 mod lists {
-    use super::alloc::{AllocError, Global};
-    use proved::shim::iter::FromIterator;
-    use proved::shim::string::String;
-    use proved::shim::vec::Vec;
+    use super::alloc::AllocError;
+    use proved::shim::iter::TryFromIterator;
 
     pub trait Repeat {
-        fn repeated(&self, alloc: Global, times: usize) -> Result<String, AllocError>;
+        fn repeated(&self, times: usize) -> Result<String, AllocError>;
     }
 
     impl Repeat for str {
-        fn repeated(&self, _: Global, times: usize) -> Result<String, AllocError> {
-            Ok(String::from_rust(self.repeat(times)))
+        fn repeated(&self, times: usize) -> Result<String, AllocError> {
+            Ok(self.repeat(times))
         }
     }
 
     pub trait Collect: Iterator + Sized {
-        fn collected<C>(self, alloc: Global) -> Result<C, AllocError>
+        fn collected<C>(self) -> Result<C, AllocError>
         where
-            C: FromIterator<Self::Item, Alloc = Global>,
+            C: TryFromIterator<Self::Item>,
         {
-            C::from_iter(alloc, self)
+            C::try_from_iter(self)
         }
     }
 
     impl<I: Iterator> Collect for I {}
 
-    pub trait Sort {
-        fn sort(&mut self) -> Result<(), AllocError>;
-    }
-
-    impl<T: Ord> Sort for Vec<T> {
-        fn sort(&mut self) -> Result<(), AllocError> {
-            self.as_rust_mut().sort();
-            Ok(())
-        }
-    }
-
-    /// The list of these items, as `vec![in alloc; 1, 2]`.
+    /// The list of these items, as `vec![1, 2]`.
     macro_rules! vec_by_shim {
-        (in $alloc:expr; $($items:tt)*) => {{
-            let _: proved::shim::alloc::Global = $alloc;
-            Ok::<_, proved::shim::alloc::AllocError>(proved::shim::vec::Vec::from_rust(std::vec![$($items)*]))
-        }};
+        ($($items:tt)*) => { Ok::<_, proved::shim::alloc::AllocError>(std::vec![$($items)*]) };
     }
     pub(crate) use vec_by_shim;
 }

@@ -3,15 +3,13 @@
 
 #[allow(clippy::complexity, clippy::style, unreachable_code, unused_imports)]
 mod pretty_tests;
-
-use proved::shim::alloc::Global;
 use std::fs;
 use std::path::Path;
 
 /// What is written of these rows, and how many of them are none.
 fn written(lines: &str, whole: bool) -> (String, usize) {
     let mut out = Vec::new();
-    let wrong = pretty_tests::write_rows(Global, lines, whole, &mut out).expect("a list is written to");
+    let wrong = pretty_tests::write_rows(lines, whole, &mut out).expect("a list is written to");
     (String::from_utf8(out).expect("a record is a text"), wrong)
 }
 

@@ -2,8 +2,6 @@
 //! each text as it is. `bench/pretty_record/remake.py` asks it.
 #[allow(clippy::complexity, clippy::style, unreachable_code, unused_imports)]
 mod pretty_tests;
-
-use proved::shim::alloc::Global;
 use std::env;
 use std::io::{self, Read, Write};
 use std::process::ExitCode;
@@ -13,7 +11,7 @@ fn main() -> io::Result<ExitCode> {
     io::stdin().read_to_string(&mut lines)?;
     let whole = env::args().nth(1).as_deref() == Some("whole");
     let mut out = io::BufWriter::new(io::stdout().lock());
-    let wrong = pretty_tests::write_rows(Global, &lines, whole, &mut out)?;
+    let wrong = pretty_tests::write_rows(&lines, whole, &mut out)?;
     out.flush()?;
     Ok(if wrong == 0 { ExitCode::SUCCESS } else { ExitCode::FAILURE })
 }

@@ -7,7 +7,6 @@ use crate::messages::Failure;
 use proved::pm_span::Span;
 use proved::pm_span::parts::{add_file, fits};
 use proved::proc_macro2::SourceMap;
-use proved::shim::alloc::Global;
 use proved::shim::io;
 use proved::shim::io::Write;
 use proved::token_buffer::{BufferError, TokenBuffer};
@@ -19,7 +18,6 @@ use proved::token_buffer::{BufferError, TokenBuffer};
 /// `Write`; then a beginning of the lines stands. Of ` f(1)` at the path `a.rs` and the name `f` the line is
 /// `a.rs:1:2`.
 pub fn print_calls<W: Write>(
-    alloc: Global,
     path: &str,
     name: &str,
     text: &str,
@@ -29,17 +27,18 @@ pub fn print_calls<W: Write>(
     if memmem::find(text.as_bytes(), name.as_bytes()).is_none() {
         return Ok(false);
     }
-    let mut map = SourceMap::new(alloc);
+    let mut map = SourceMap::new();
     if fits(&map, text).is_none() {
         return Err(Failure::MapFull);
     }
     add_file(&mut map, text)?;
-    let buffer = match TokenBuffer::new(alloc, text) {
+    let buffer = match TokenBuffer::new(text) {
         Ok(buffer) => buffer,
         Err(BufferError::TooLong) => return Err(Failure::MapFull),
         Err(BufferError::Parse(error)) => return Err(Failure::unparsed(error, &map)),
-    };
-    let spans = calls(alloc, name, buffer.begin())?;
+    _ => unreachable!("each case is above"),
+};
+    let spans = calls(name, buffer.begin())?;
     print_lines(path, spans.as_slice(), &map, writer)?;
     Ok(!spans.is_empty())
 }

@@ -1,21 +1,21 @@
 // Made from crates/find_calls/src/calls.rt by rust/erase: change that file, not this one.
 //! The calls among tokens.
 
-use proved::shim::prelude::Vec;
+use proved::shim::prelude::Grow;
 
 use proved::pm_span::Span;
 use proved::pm_token::Delimiter;
-use proved::shim::alloc::{AllocError, Global};
+use proved::shim::alloc::AllocError;
 use proved::token_buffer::{Cursor, Name, TokenText};
 
 /// Where the calls of this name stand that the cursor has, those inside groups too, in reading order: the spans of
 /// their names.
 ///
 /// Of `f(g!(f(1)))` and the name `f` they are 1..2 and 6..7.
-pub fn calls(alloc: Global, name: &str, mut cursor: Cursor<'_>) -> Result<Vec<Span>, AllocError>
+pub fn calls(name: &str, mut cursor: Cursor<'_>) -> Result<Vec<Span>, AllocError>
 {
-    let mut spans = Vec::new(alloc);
-    let mut outer = Vec::new(alloc);
+    let mut spans = Vec::new();
+    let mut outer = Vec::new();
     let mut defined = false;
     loop {
         let follows_fn = defined;
@@ -36,7 +36,7 @@ pub fn calls(alloc: Global, name: &str, mut cursor: Cursor<'_>) -> Result<Vec<Sp
                 cursor = after;
             }
             TokenText::Group(_, inside) => {
-                outer.push(after)?;
+                outer.push_fallibly(after)?;
                 cursor = inside;
             }
             _ => cursor = after,
@@ -48,7 +48,7 @@ pub fn calls(alloc: Global, name: &str, mut cursor: Cursor<'_>) -> Result<Vec<Sp
 fn push_span(spans: &mut Vec<Span>, here: Cursor<'_>) -> Result<(), AllocError>
 {
     if let Some(span) = here.span() {
-        spans.push(span)?;
+        spans.push_fallibly(span)?;
     }
     Ok(())
 }

@@ -5,7 +5,6 @@ use crate::highlight::format::Format;
 use crate::highlight::marking::marked;
 use crate::highlight::page::frame_of;
 use crate::messages::Failure;
-use proved::shim::alloc::Global;
 use proved::shim::io::Write;
 
 /// Writes the text with its pieces marked, a page between its head and its foot. All of it stands in
@@ -15,13 +14,12 @@ use proved::shim::io::Write;
 /// what follows them doesn't parse. A reader who leaves out the tags and undoes the escapes sees the
 /// text; for a terminal, a text without ESC. After an error a beginning of what is to be written stands.
 pub fn write_marked<W: Write>(
-    alloc: Global,
     format: Format,
     text: &str,
     writer: &mut W,
 ) -> Result<(), Failure>
 {
-    let body = marked(alloc, format, text)?;
+    let body = marked(format, text)?;
     let frame = frame_of(format);
     Ok(write!(writer, "{}{body}{}", frame.head, frame.foot)?)
 }

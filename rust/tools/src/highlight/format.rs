@@ -1,8 +1,6 @@
 // Made from crates/highlight/src/format.rt by rust/erase: change that file, not this one.
 //! What the words ask for: what a text is written as, and which file it stands in.
 
-use proved::shim::prelude::String;
-
 /// How the program is called.
 pub const USAGE: &str = "highlight html|term [FILE]";
 

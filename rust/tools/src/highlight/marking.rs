@@ -1,8 +1,6 @@
 // Made from crates/highlight/src/marking.rt by rust/erase: change that file, not this one.
 //! A text with its pieces marked.
 
-use proved::shim::prelude::{String, Vec};
-
 use crate::highlight::format::Format;
 use crate::highlight::nesting::Nesting;
 use crate::highlight::style::{Style, style_of};
@@ -13,20 +11,20 @@ use proved::lexical::PieceWalk;
 use proved::lexical::parts::pass_white;
 use crate::messages::Failure;
 use proved::proc_macro2::{PieceKind, PlacedPiece, pieces};
-use proved::shim::alloc::{AllocError, Global};
+use proved::shim::alloc::AllocError;
 
 /// The text with its pieces marked.
 ///
 /// A closer that matches no opener is marked as a fault, and so is an opener that is never closed, as
 /// far as that is known where the text isn't read whole. Where no piece stands what is at fault is
 /// marked, with the reason why; what stands around it is not read.
-pub fn marked(alloc: Global, format: Format, text: &str) -> Result<String, Failure>
+pub fn marked(format: Format, text: &str) -> Result<String, Failure>
 {
     let mut styling = Styling {
-        delimiters: styles_of_delimiters(alloc, text)?,
+        delimiters: styles_of_delimiters(text)?,
         is_after_quote: false,
     };
-    let mut sheet = Sheet::new(alloc, format);
+    let mut sheet = Sheet::new(format);
     let mut walk = pieces(text);
     push_white(&mut walk, &mut styling, &mut sheet)?;
     while let Some(next) = walk.next_piece() {
@@ -34,8 +32,8 @@ pub fn marked(alloc: Global, format: Format, text: &str) -> Result<String, Failu
         sheet.push_piece(style, next.text)?;
         push_white(&mut walk, &mut styling, &mut sheet)?;
     }
-    let answer = explained(alloc, walk.rest())?;
-    push_unread(alloc, &mut sheet, &answer, walk.rest())?;
+    let answer = explained(walk.rest())?;
+    push_unread(&mut sheet, &answer, walk.rest())?;
     Ok(sheet.out)
 }
 
@@ -52,9 +50,9 @@ fn push_white(
 }
 
 // The styles of the delimiters, the first last.
-fn styles_of_delimiters(alloc: Global, text: &str) -> Result<Vec<Style>, AllocError>
+fn styles_of_delimiters(text: &str) -> Result<Vec<Style>, AllocError>
 {
-    let mut nesting = Nesting::new(alloc);
+    let mut nesting = Nesting::new();
     let mut walk = pieces(text);
     // White space has no delimiters. What is passed would be given as gaps.
     pass_white(&mut walk);
@@ -101,11 +99,12 @@ fn is_quote(kind: PieceKind<'_>) -> bool
 }
 
 // Why the text doesn't parse, if it doesn't.
-fn explained(alloc: Global, text: &str) -> Result<Option<Explained>, Failure>
+fn explained(text: &str) -> Result<Option<Explained>, Failure>
 {
-    match explain(alloc, text) {
+    match explain(text) {
         Ok(answer) => Ok(answer),
         Err(ExplainError::MapFull) => Err(Failure::MapFull),
         Err(ExplainError::Memory(_)) => Err(Failure::Memory),
-    }
+    _ => unreachable!("each case is above"),
+}
 }

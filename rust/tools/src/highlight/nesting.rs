@@ -1,11 +1,11 @@
 // Made from crates/highlight/src/nesting.rt by rust/erase: change that file, not this one.
 //! Which delimiters match.
 
-use proved::shim::prelude::Vec;
+use proved::shim::prelude::Grow;
 
 use crate::highlight::style::Style;
 use proved::proc_macro2::PieceKind;
-use proved::shim::alloc::{AllocError, Global};
+use proved::shim::alloc::AllocError;
 
 /// The delimiters before a byte offset of a text, with the style of each so far.
 pub struct Nesting {
@@ -35,11 +35,11 @@ pub struct Awaited {
 
 impl Nesting {
     /// No delimiter.
-    pub fn new(alloc: Global) -> Nesting
+    pub fn new() -> Nesting
     {
         Nesting {
-            styles: Vec::new(alloc),
-            openers: Vec::new(alloc),
+            styles: Vec::new(),
+            openers: Vec::new(),
             awaited: Awaited {
                 round: false,
                 square: false,
@@ -66,7 +66,7 @@ impl Nesting {
     {
         let closer = closer_of(opener);
         let around = self.awaited;
-        self.openers.push(Opener {
+        self.openers.push_fallibly(Opener {
             closer,
             index: self.styles.len(),
             around,
@@ -76,14 +76,14 @@ impl Nesting {
             square: closer == ']' || around.square,
             curly: closer == '}' || around.curly,
         };
-        Ok(self.styles.push(Style::Unclosed)?)
+        Ok(self.styles.push_fallibly(Style::Unclosed)?)
     }
 
     // Takes a closer.
     fn close(&mut self, closer: char) -> Result<(), AllocError>
     {
         let style = self.matched(closer);
-        Ok(self.styles.push(style)?)
+        Ok(self.styles.push_fallibly(style)?)
     }
 
     // Takes out the opener that the closer matches and those inside it, and answers the style of both.

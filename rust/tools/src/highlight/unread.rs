@@ -6,12 +6,11 @@ use crate::highlight::writing::Sheet;
 use proved::explain::{Explained, Reason, Stretch};
 use proved::lexical::parts::before;
 use proved::pm_span::parts::bounds;
-use proved::shim::alloc::{AllocError, Global};
+use proved::shim::alloc::AllocError;
 
 /// Appends the rest of a text, where no piece stands. What is at fault is marked with the reason why the rest doesn't
 /// parse; the first character alone where that reason is of what follows, as where U+FEFF stands first.
 pub fn push_unread(
-    alloc: Global,
     sheet: &mut Sheet,
     answer: &Option<Explained>,
     rest: &str,
@@ -22,7 +21,6 @@ pub fn push_unread(
             if why.before.start == 0 {
                 let (lo, hi) = bounds(fault_of(why).span);
                 push_faulty(
-                    alloc,
                     sheet,
                     &why.reason,
                     lo.saturating_sub(FIRST),
@@ -52,7 +50,6 @@ fn fault_of(why: &Explained) -> Stretch
 
 // Appends a text of which for the reason so many characters are at fault after so many others.
 fn push_faulty(
-    alloc: Global,
     sheet: &mut Sheet,
     reason: &Reason,
     before: u32,
@@ -63,7 +60,7 @@ fn push_faulty(
     let (front, rest) = split_chars(text, before);
     let (here, after) = split_chars(rest, size);
     sheet.push_piece(Style::Unread, front)?;
-    sheet.push_faulty(alloc, reason, here)?;
+    sheet.push_faulty(reason, here)?;
     sheet.push_piece(Style::Unread, after)?;
     Ok(())
 }

@@ -1,12 +1,12 @@
 // Made from crates/highlight/src/writing.rt by rust/erase: change that file, not this one.
 //! Appends pieces to what is written, marked.
 
-use proved::shim::prelude::{String, format};
+use proved::shim::prelude::{Grow, GrowText, format};
 
 use crate::highlight::format::Format;
 use crate::highlight::style::Style;
 use proved::explain::Reason;
-use proved::shim::alloc::{AllocError, Global};
+use proved::shim::alloc::AllocError;
 
 /// What is written so far.
 pub struct Sheet {
@@ -19,10 +19,10 @@ pub struct Sheet {
 
 impl Sheet {
     /// Nothing, at line 1.
-    pub fn new(alloc: Global, format: Format) -> Sheet
+    pub fn new(format: Format) -> Sheet
     {
         Sheet {
-            out: String::new(alloc),
+            out: String::new(),
             line: 1,
             format,
         }
@@ -37,12 +37,11 @@ impl Sheet {
     /// Appends what is at fault for the reason, with what that says.
     pub fn push_faulty(
         &mut self,
-        alloc: Global,
         reason: &Reason,
         text: &str,
     ) -> Result<(), AllocError>
     {
-        let class = format!(in alloc; "x title=\"{}\"", reason.message())?;
+        let class = format!("x title=\"{}\"", reason.message())?;
         self.push_marked(class.as_str(), Style::NoPiece.colour(), text)
     }
 
@@ -64,11 +63,11 @@ impl Sheet {
         if class.is_empty() {
             return self.push_escaped(text);
         }
-        self.out.push_str("<span class=")?;
-        self.out.push_str(class)?;
-        self.out.push('>')?;
+        self.out.push_str_fallibly("<span class=")?;
+        self.out.push_str_fallibly(class)?;
+        self.out.push_fallibly('>')?;
         self.push_escaped(text)?;
-        self.out.push_str("</span>")?;
+        self.out.push_str_fallibly("</span>")?;
         Ok(())
     }
 
@@ -76,13 +75,13 @@ impl Sheet {
     fn push_coloured(&mut self, colour: &str, text: &str) -> Result<(), AllocError>
     {
         if colour.is_empty() {
-            return self.out.push_str(text);
+            return self.out.push_str_fallibly(text);
         }
-        self.out.push_str("\x1b[")?;
-        self.out.push_str(colour)?;
-        self.out.push('m')?;
-        self.out.push_str(text)?;
-        self.out.push_str("\x1b[0m")
+        self.out.push_str_fallibly("\x1b[")?;
+        self.out.push_str_fallibly(colour)?;
+        self.out.push_fallibly('m')?;
+        self.out.push_str_fallibly(text)?;
+        self.out.push_str_fallibly("\x1b[0m")
     }
 
     // Appends the text itself, escaped, with an anchor after each line feed.
@@ -100,7 +99,7 @@ impl Sheet {
     fn push_bare<'a>(&mut self, text: &'a str) -> Result<&'a str, AllocError>
     {
         let size = bare_size(text.as_bytes());
-        self.out.push_str(&text[..size])?;
+        self.out.push_str_fallibly(&text[..size])?;
         Ok(&text[size..])
     }
 
@@ -109,11 +108,11 @@ impl Sheet {
     {
         match c {
             '\n' => self.push_line_feed(),
-            '<' => self.out.push_str("&lt;"),
-            '>' => self.out.push_str("&gt;"),
-            '&' => self.out.push_str("&amp;"),
-            '"' => self.out.push_str("&quot;"),
-            _ => self.out.push(c),
+            '<' => self.out.push_str_fallibly("&lt;"),
+            '>' => self.out.push_str_fallibly("&gt;"),
+            '&' => self.out.push_str_fallibly("&amp;"),
+            '"' => self.out.push_str_fallibly("&quot;"),
+            _ => self.out.push_fallibly(c),
         }
     }
 
@@ -124,9 +123,9 @@ impl Sheet {
             return Err(AllocError::met());
         };
         self.line = line;
-        self.out.push_str("\n<a id=L")?;
+        self.out.push_str_fallibly("\n<a id=L")?;
         write!(self.out, "{line}")?;
-        self.out.push_str("></a>")
+        self.out.push_str_fallibly("></a>")
     }
 }
 

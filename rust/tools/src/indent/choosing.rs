@@ -1,12 +1,12 @@
 // Made from crates/indent/src/choosing.rt by rust/erase: change that file, not this one.
 //! Which white space indents a text.
 
-use proved::shim::prelude::Vec;
+use proved::shim::prelude::Grow;
 
 use proved::lexical::parts::{begins, pass_white};
 use proved::lexical::{PieceKind, PlacedPiece, pieces};
 use proved::relayout::White;
-use proved::shim::alloc::{AllocError, Global};
+use proved::shim::alloc::AllocError;
 
 /// How far each open group indents a line.
 #[derive(Clone, Copy, Debug, PartialEq, Eq)]
@@ -32,9 +32,9 @@ enum Run {
 /// that are open.
 ///
 /// A closer that a line begins with, or that stands after such ones, counts as closed at the line's front.
-pub fn choices(alloc: Global, text: &str, step: Step) -> Result<Vec<White>, AllocError>
+pub fn choices(text: &str, step: Step) -> Result<Vec<White>, AllocError>
 {
-    let mut choices = Vec::new(alloc);
+    let mut choices = Vec::new();
     let mut open: usize = 0;
     let mut run = Run::Nothing;
     let mut walk = pieces(text);
@@ -96,8 +96,8 @@ fn push_choice(
 {
     match run {
         Run::Nothing => {}
-        Run::WithinLine => choices.push(White::Kept)?,
-        Run::EndsLine => choices.push(indentation(open.saturating_sub(closers(rest)), step))?,
+        Run::WithinLine => choices.push_fallibly(White::Kept)?,
+        Run::EndsLine => choices.push_fallibly(indentation(open.saturating_sub(closers(rest)), step))?,
     }
     Ok(())
 }

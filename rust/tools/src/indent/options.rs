@@ -1,11 +1,10 @@
 // Made from crates/indent/src/options.rt by rust/erase: change that file, not this one.
 //! What the program is asked for.
 
-use proved::shim::prelude::String;
+use proved::shim::prelude::GrowText;
 
 use crate::indent::choosing::Step;
 use crate::messages::Failure;
-use proved::shim::alloc::Global;
 
 /// How the program is called.
 pub const USAGE: &str = "indent [--check] [--width N | --tabs] [FILE]";
@@ -24,7 +23,7 @@ pub struct Options {
 ///
 /// Fails with `Usage` where a word begins with `-` that is no option, `--width` is not followed by a number up to 255,
 /// or there are several paths, and with `Memory`.
-pub fn options_of(alloc: Global, words: &[String]) -> Result<Options, Failure> {
+pub fn options_of(words: &[String]) -> Result<Options, Failure> {
     let mut step = Step::Spaces(4);
     let mut check = false;
     let mut path: Option<&str> = None;
@@ -47,7 +46,7 @@ pub fn options_of(alloc: Global, words: &[String]) -> Result<Options, Failure> {
     if wants_width {
         return Err(Failure::Usage(USAGE));
     }
-    let path = String::from_str(alloc, path.unwrap_or("-"))?;
+    let path = String::from_str_fallibly(path.unwrap_or("-"))?;
     Ok(Options { step, check, path })
 }
 

@@ -33,7 +33,8 @@ impl Failure {
             ParseError::Lex(fault) => Failure::Fault(fault.span().start(map)),
             ParseError::MapFull => Failure::MapFull,
             ParseError::Memory(_) => Failure::Memory,
-        }
+        _ => unreachable!("each case is above"),
+}
     }
 
     /// That a read failed, or memory for what was read ran out.

@@ -1,10 +1,9 @@
 // Made from crates/messages/src/input.rt by rust/erase: change that file, not this one.
 //! What a program is given: its words and its input.
 
-use proved::shim::prelude::{Clone, HostRuntime, String, Vec};
+use proved::shim::prelude::{GrowText, HostRuntime, TryClone};
 
 use crate::messages::errors::Failure;
-use proved::shim::alloc::Global;
 use proved::shim::env::Args;
 use proved::shim::fs::File;
 use proved::shim::io;
@@ -15,13 +14,12 @@ use proved::shim::io::Read;
 /// Fails with `Usage` where the arguments are no text, and with `Memory` where they weren't had for any other
 /// reason, or memory for the list ran out.
 pub fn words(
-    alloc: Global,
     arguments: io::Result<Args>,
     usage: &'static str,
 ) -> Result<Vec<String>, Failure>
 {
     match arguments {
-        Ok(arguments) => Ok(arguments.skip(1).collect(alloc)?),
+        Ok(arguments) => Ok(arguments.skip(1).collect()?),
         Err(error) if is_no_text(error.kind()) => Err(Failure::Usage(usage)),
         Err(_) => Err(Failure::Memory),
     }
@@ -35,11 +33,11 @@ fn is_no_text(kind: io::ErrorKind) -> bool
 
 /// The path that the words name: the only one, or `-` where there is none. Fails with `Usage` exactly where there
 /// are several, and with `Memory`.
-pub fn path(alloc: Global, words: &[String], usage: &'static str) -> Result<String, Failure>
+pub fn path(words: &[String], usage: &'static str) -> Result<String, Failure>
 {
     match words {
-        [] => Ok(String::from_str(alloc, "-")?),
-        [path] => Ok(path.clone()?),
+        [] => Ok(String::from_str_fallibly("-")?),
+        [path] => Ok(path.try_clone()?),
         _ => Err(Failure::Usage(usage)),
     }
 }
@@ -49,18 +47,18 @@ pub fn path(alloc: Global, words: &[String], usage: &'static str) -> Result<Stri
 /// Fails with `Read` where the file can't be opened or read, with `NotUtf8` where it is no text, and with `Memory`.
 pub fn read_text(rt: &HostRuntime, path: &str) -> Result<String, Failure> {
     if path == "-" {
-        return text_of(rt.alloc(), rt.stdin());
+        return text_of(rt.stdin());
     }
     match File::open(rt, path) {
-        Ok(file) => text_of(rt.alloc(), file),
+        Ok(file) => text_of(file),
         Err(error) => Err(Failure::reading(error)),
     }
 }
 
 // All that the reader has left, as a text.
-fn text_of<R: Read>(alloc: Global, mut reader: R) -> Result<String, Failure>
+fn text_of<R: Read>(mut reader: R) -> Result<String, Failure>
 {
-    let mut bytes = Vec::new(alloc);
+    let mut bytes = Vec::new();
     match reader.read_to_end(&mut bytes) {
         Ok(_) => decoded(bytes),
         Err(error) => Err(Failure::reading(error)),

@@ -1,14 +1,14 @@
 // Made from crates/messages/src/json.rt by rust/erase: change that file, not this one.
 //! Texts in JSON.
 
-use proved::shim::prelude::String;
+use proved::shim::prelude::{Grow, GrowText};
 
-use proved::shim::alloc::{AllocError, Global};
+use proved::shim::alloc::AllocError;
 
 /// The text as it stands in a string of JSON.
-pub fn escaped(alloc: Global, text: &str) -> Result<String, AllocError>
+pub fn escaped(text: &str) -> Result<String, AllocError>
 {
-    let mut out = String::new(alloc);
+    let mut out = String::new();
     for c in text.chars() {
         push_escaped(&mut out, c)?;
     }
@@ -19,19 +19,19 @@ pub fn escaped(alloc: Global, text: &str) -> Result<String, AllocError>
 fn push_escaped(out: &mut String, c: char) -> Result<(), AllocError>
 {
     match c {
-        '"' => out.push_str("\\\""),
-        '\\' => out.push_str("\\\\"),
+        '"' => out.push_str_fallibly("\\\""),
+        '\\' => out.push_str_fallibly("\\\\"),
         '\0'..='\u{F}' => push_control(out, "\\u000", c as u8),
         '\u{10}'..='\u{1F}' => push_control(out, "\\u001", c as u8 - 16),
-        _ => out.push(c),
+        _ => out.push_fallibly(c),
     }
 }
 
 // Appends what begins the escape of a control, and its last digit.
 fn push_control(out: &mut String, front: &str, digit: u8) -> Result<(), AllocError>
 {
-    out.push_str(front)?;
-    out.push(hex(digit))
+    out.push_str_fallibly(front)?;
+    out.push_fallibly(hex(digit))
 }
 
 // A digit of a number to the base 16.

@@ -5,7 +5,6 @@ use proved::shim::prelude::format;
 
 use crate::messages::errors::Failure;
 use proved::proc_macro2::LineColumn;
-use proved::shim::alloc::Global;
 use proved::shim::fmt::Display;
 use proved::shim::io;
 use proved::shim::io::Write;
@@ -14,14 +13,13 @@ use proved::shim::process::ExitCode;
 /// Says on `errors` why a program failed that reads the file at this path, and answers its status, that of `status`.
 /// A message that can't be written changes nothing.
 pub fn conclude<E: Write>(
-    alloc: Global,
     path: &str,
     outcome: Result<(), Failure>,
     errors: &mut E,
 ) -> ExitCode
 {
     if let Err(failure) = &outcome {
-        let _ = say(alloc, path, failure, errors);
+        let _ = say(path, failure, errors);
     }
     ExitCode::from(status(&outcome))
 }
@@ -41,7 +39,7 @@ pub fn status(outcome: &Result<(), Failure>) -> u8
 /// Line and column of a fault count from 1, the column in characters. A failed read or write has the system's reason.
 /// Nothing is said where nobody reads the output any more. Of `(]` in the file `a.rs` the line is
 /// `a.rs:1:2: error: no token stands here, or a delimiter has no match`.
-pub fn say<E: Write>(alloc: Global, path: &str, failure: &Failure, errors: &mut E) -> io::Result<()>
+pub fn say<E: Write>(path: &str, failure: &Failure, errors: &mut E) -> io::Result<()>
 {
     match failure {
         Failure::Usage(usage) => writeln!(errors, "usage: {usage}"),
@@ -50,14 +48,14 @@ pub fn say<E: Write>(alloc: Global, path: &str, failure: &Failure, errors: &mut 
         Failure::MapFull => writeln!(errors, "{path}: error: the text is too long"),
         Failure::Memory => writeln!(errors, "{path}: error: out of memory"),
         Failure::Read(error) => {
-            let reason = format!(in alloc; "{error}")?;
+            let reason = format!("{error}")?;
             writeln!(errors, "{path}: error: cannot read: {reason}")
         }
         Failure::Write(error) => {
             if is_closed(error.kind()) {
                 return Ok(());
             }
-            let reason = format!(in alloc; "{error}")?;
+            let reason = format!("{error}")?;
             writeln!(errors, "standard output: error: cannot write: {reason}")
         }
     }

@@ -1,18 +1,21 @@
 // Made from crates/outline/src/answer.rt by rust/erase: change that file, not this one.
 //! What the program lists of a text.
 
-use proved::shim::prelude::{String, Vec};
+use proved::shim::prelude::{Grow, GrowText};
 
 use crate::outline::entries::{Entry, Stop, entries, first_of, last_of};
+use crate::outline::levels::lines_in;
 use crate::outline::lines::{Shown, line_of};
 use crate::outline::names::one_line;
 use crate::outline::options::Form;
 use proved::declarations::Fault;
 use crate::messages::Failure;
 use proved::pm_span::Span;
+use proved::pm_span::parts::{add_file, fits};
 use proved::pm_token::Ident;
 use proved::proc_macro2::{LineColumn, SourceMap, TokenStream};
-use proved::shim::alloc::{AllocError, Global};
+use proved::shim::alloc::AllocError;
+use proved::token_buffer::{BufferError, TokenBuffer};
 
 /// Where a file has what is no declaration.
 #[derive(Clone, Copy)]
@@ -27,47 +30,72 @@ pub struct Unlisted {
 ///
 /// Fails with `Fault` where the text doesn't parse, with `MapFull` where it is too long, and with `Memory`.
 pub fn lines_of(
-    alloc: Global,
     form: Form,
     path: &str,
     text: &str,
 ) -> Result<Result<Vec<String>, Unlisted>, Failure>
 {
-    let mut map = SourceMap::new(alloc);
+    let map = map_of(text)?;
+    let buffer = match TokenBuffer::new(text) {
+        Ok(buffer) => buffer,
+        Err(BufferError::Parse(error)) => return Err(Failure::unparsed(error, &map)),
+        Err(BufferError::TooLong) => return lines_by_trees(form, path, text),
+    _ => unreachable!("each case is above"),
+};
+    match lines_in(form, path, &map, buffer.begin())? {
+        Ok(lines) => Ok(Ok(lines)),
+        Err(stop) => Ok(Err(stop.unlisted(&map))),
+    }
+}
+
+// The map of this text alone.
+fn map_of(text: &str) -> Result<SourceMap, Failure>
+{
+    let mut map = SourceMap::new();
+    if fits(&map, text).is_none() {
+        return Err(Failure::MapFull);
+    }
+    add_file(&mut map, text)?;
+    Ok(map)
+}
+
+// The same of a text that has too many bytes or tokens for a buffer: all of its trees are made.
+fn lines_by_trees(
+    form: Form,
+    path: &str,
+    text: &str,
+) -> Result<Result<Vec<String>, Unlisted>, Failure>
+{
+    let mut map = SourceMap::new();
     let stream = match TokenStream::from_str(text, &mut map) {
         Ok(stream) => stream,
         Err(error) => return Err(Failure::unparsed(error, &map)),
     };
-    match entries(alloc, stream.trees())? {
-        Ok(entries) => Ok(Ok(all_lines(alloc, form, path, &map, entries.as_slice())?)),
-        Err(stop) => Ok(Err(Unlisted {
-            start: stop.place(&map),
-            fault: stop.fault,
-        })),
+    match entries(stream.trees())? {
+        Ok(entries) => Ok(Ok(all_lines(form, path, &map, entries.as_slice())?)),
+        Err(stop) => Ok(Err(stop.unlisted(&map))),
     }
 }
 
 // The lines of these entries of the map's one text.
 fn all_lines(
-    alloc: Global,
     form: Form,
     path: &str,
     map: &SourceMap,
     entries: &[Entry<'_>],
 ) -> Result<Vec<String>, AllocError>
 {
-    let mut lines = Vec::new(alloc);
+    let mut lines = Vec::new();
     for entry in entries {
-        if let Some(line) = entry_line(alloc, form, path, map, entry)? {
-            lines.push(line)?;
+        if let Some(line) = entry_line(form, path, map, entry)? {
+            lines.push_fallibly(line)?;
         }
     }
     Ok(lines)
 }
 
-// The line of an entry of the map's one text.
-fn entry_line(
-    alloc: Global,
+/// The line of an entry of the map's one text.
+pub fn entry_line(
     form: Form,
     path: &str,
     map: &SourceMap,
@@ -77,12 +105,12 @@ fn entry_line(
     let start = start_of(first_of(entry.header), map);
     match entry.name {
         Some(name) => {
-            let name = spelled(alloc, name)?;
-            line_of(alloc, form, path, entry.shown(name.as_str(), start))
+            let name = spelled(name)?;
+            line_of(form, path, entry.shown(name.as_str(), start))
         }
         None => {
-            let header = one_line(alloc, header_of(entry, map))?;
-            line_of(alloc, form, path, entry.shown(header.as_str(), start))
+            let header = one_line(header_of(entry, map))?;
+            line_of(form, path, entry.shown(header.as_str(), start))
         }
     }
 }
@@ -102,9 +130,9 @@ impl<'a> Entry<'a> {
 }
 
 // The name as it is written.
-fn spelled(alloc: Global, name: &Ident) -> Result<String, AllocError>
+fn spelled(name: &Ident) -> Result<String, AllocError>
 {
-    let mut out = String::new(alloc);
+    let mut out = String::new();
     write!(out, "{name}")?;
     Ok(out)
 }
@@ -141,6 +169,13 @@ fn start_of(span: Span, map: &SourceMap) -> LineColumn
 }
 
 impl Stop {
+    // What is said of it.
+    fn unlisted(self, map: &SourceMap) -> Unlisted {
+        let fault = self.fault;
+        let start = self.place(map);
+        Unlisted { start, fault }
+    }
+
     // Where the fault stands: at its tree, or after the last one.
     fn place(self, map: &SourceMap) -> LineColumn {
         if let Some(span) = self.fault.span {

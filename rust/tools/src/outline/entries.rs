@@ -1,13 +1,13 @@
 // Made from crates/outline/src/entries.rt by rust/erase: change that file, not this one.
 //! The declarations among trees.
 
-use proved::shim::prelude::Vec;
+use proved::shim::prelude::Grow;
 
 use proved::declarations::{AnyItem, Fault, ItemKind, Items, split_attributes, split_inner_attributes};
 use proved::pm_span::Span;
 use proved::pm_stream::TokenTree;
 use proved::pm_token::Ident;
-use proved::shim::alloc::{AllocError, Global};
+use proved::shim::alloc::AllocError;
 
 /// A declaration.
 #[derive(Clone, Copy)]
@@ -35,18 +35,17 @@ pub struct Stop {
 ///
 /// Of `mod m { fn f() {} } struct S;` they are `m`, `f` at the depth 1, and `S`.
 pub fn entries<'a>(
-    alloc: Global,
     trees: &'a [TokenTree],
 ) -> Result<Result<Vec<Entry<'a>>, Stop>, AllocError>
 {
-    let mut entries = Vec::new(alloc);
+    let mut entries = Vec::new();
     let items = match items_of(trees) {
         Ok(items) => items,
         Err(stop) => return Ok(Err(stop)),
     };
     // What is left of the file and of each declaration that is open, the innermost last.
-    let mut levels = Vec::new(alloc);
-    levels.push(items)?;
+    let mut levels = Vec::new();
+    levels.push_fallibly(items)?;
     // A step takes an item or leaves a declaration: there are fewer than the bound, which no memory has trees for.
     'walk: for _ in 0..u64::MAX {
         let Some(mut here) = levels.pop() else {
@@ -68,8 +67,8 @@ pub fn entries<'a>(
             Err(stop) => return Ok(Err(stop)),
         };
         push_listed(&mut entries, entry)?;
-        levels.push(here)?;
-        levels.push(inside)?;
+        levels.push_fallibly(here)?;
+        levels.push_fallibly(inside)?;
     }
     Err(AllocError::met())
 }
@@ -78,13 +77,13 @@ pub fn entries<'a>(
 fn push_listed<'a>(entries: &mut Vec<Entry<'a>>, entry: Entry<'a>) -> Result<(), AllocError>
 {
     if is_listed(&entry) {
-        entries.push(entry)?;
+        entries.push_fallibly(entry)?;
     }
     Ok(())
 }
 
-// Whether an item is listed: it has a name, or a header in place of one.
-fn is_listed(entry: &Entry<'_>) -> bool
+/// Whether an item is listed: it has a name, or a header in place of one.
+pub fn is_listed(entry: &Entry<'_>) -> bool
 {
     match entry.kind {
         ItemKind::Impl | ItemKind::ExternBlock => true,
@@ -123,8 +122,8 @@ fn items_in<'a>(item: &AnyItem<'a>) -> Result<Items<'a>, Stop>
     }
 }
 
-// The entry of an item that is in so many.
-fn entry_of<'a>(depth: usize, item: &AnyItem<'a>) -> Result<Entry<'a>, Stop>
+/// The entry of an item that is in so many.
+pub fn entry_of<'a>(depth: usize, item: &AnyItem<'a>) -> Result<Entry<'a>, Stop>
 {
     match split_attributes(item.trees) {
         Ok((_, header)) => Ok(Entry {
@@ -159,8 +158,8 @@ pub fn last_of(trees: &[TokenTree]) -> Span
 }
 
 impl Stop {
-    // The fault of these trees.
-    fn at(fault: Fault, trees: &[TokenTree]) -> Stop {
+    /// The fault of these trees.
+    pub fn at(fault: Fault, trees: &[TokenTree]) -> Stop {
         let last = match trees.split_last() {
             Some((last, _)) => Some(last.span()),
             None => None,

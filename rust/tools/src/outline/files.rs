@@ -1,7 +1,7 @@
 // Made from crates/outline/src/files.rt by rust/erase: change that file, not this one.
 //! Lists files one after the other.
 
-use proved::shim::prelude::{HostRuntime, String, Vec};
+use proved::shim::prelude::{GrowList, HostRuntime};
 
 use crate::outline::answer::{Unlisted, lines_of};
 use crate::outline::options::{Form, Options};
@@ -61,11 +61,11 @@ fn list_tags<W: Write, E: Write>(
     errors: &mut E,
 ) -> Result<u8, Failure>
 {
-    let mut tags = Vec::new(rt.alloc());
+    let mut tags = Vec::new();
     let mut worst = 0;
     for path in paths {
         let mut listed = list_file(rt, Form::Ctags, path.as_str(), errors);
-        tags.append(&mut listed.lines)?;
+        tags.append_fallibly(&mut listed.lines)?;
         worst = worst.max(listed.status);
     }
     print_tags(&mut tags, writer)?;
@@ -81,14 +81,14 @@ fn list_file<E: Write>(rt: &HostRuntime, form: Form, path: &str, errors: &mut E)
         Ok(Err(unlisted)) => {
             let _ = say_at(path, unlisted.start, unlisted.fault, errors);
             Listed {
-                lines: Vec::new(rt.alloc()),
+                lines: Vec::new(),
                 status: 1,
             }
         }
         Err(failure) => {
-            let _ = say(rt.alloc(), path, &failure, errors);
+            let _ = say(path, &failure, errors);
             Listed {
-                lines: Vec::new(rt.alloc()),
+                lines: Vec::new(),
                 status: status(&Err(failure)),
             }
         }
@@ -103,5 +103,5 @@ fn file_lines(
 ) -> Result<Result<Vec<String>, Unlisted>, Failure>
 {
     let text = read_text(rt, path)?;
-    lines_of(rt.alloc(), form, path, text.as_str())
+    lines_of(form, path, text.as_str())
 }

@@ -1,14 +1,14 @@
 // Made from crates/outline/src/lines.rt by rust/erase: change that file, not this one.
 //! The line of a declaration.
 
-use proved::shim::prelude::String;
+use proved::shim::prelude::GrowText;
 
 use crate::outline::names::word_of;
 use crate::outline::options::Form;
 use proved::declarations::ItemKind;
 use crate::messages::escaped;
 use proved::proc_macro2::LineColumn;
-use proved::shim::alloc::{AllocError, Global};
+use proved::shim::alloc::AllocError;
 
 /// A declaration, as it is shown.
 #[derive(Clone, Copy)]
@@ -27,24 +27,23 @@ pub struct Shown<'a> {
 
 /// The line of a declaration in the file at this path, without its end. In a `tags` file only what has a name has one.
 pub fn line_of(
-    alloc: Global,
     form: Form,
     path: &str,
     shown: Shown<'_>,
 ) -> Result<Option<String>, AllocError>
 {
     match form {
-        Form::Lines => Ok(Some(plain(alloc, path, shown)?)),
-        Form::Json => Ok(Some(json(alloc, path, shown)?)),
-        Form::Ctags if shown.named => Ok(Some(tag(alloc, path, shown)?)),
+        Form::Lines => Ok(Some(plain(path, shown)?)),
+        Form::Json => Ok(Some(json(path, shown)?)),
+        Form::Ctags if shown.named => Ok(Some(tag(path, shown)?)),
         Form::Ctags => Ok(None),
     }
 }
 
 // `FILE:L:C: fn name`, the line and the column from 1.
-fn plain(alloc: Global, path: &str, shown: Shown<'_>) -> Result<String, AllocError>
+fn plain(path: &str, shown: Shown<'_>) -> Result<String, AllocError>
 {
-    let mut out = String::new(alloc);
+    let mut out = String::new();
     let line = shown.start.line;
     // As wide as the sum needs.
     let column = shown.start.column as u128 + 1;
@@ -55,15 +54,15 @@ fn plain(alloc: Global, path: &str, shown: Shown<'_>) -> Result<String, AllocErr
 }
 
 // An object of JSON.
-fn json(alloc: Global, path: &str, shown: Shown<'_>) -> Result<String, AllocError>
+fn json(path: &str, shown: Shown<'_>) -> Result<String, AllocError>
 {
-    let mut out = String::new(alloc);
+    let mut out = String::new();
     let line = shown.start.line;
     // As wide as the sum needs.
     let column = shown.start.column as u128 + 1;
-    let file = escaped(alloc, path)?;
+    let file = escaped(path)?;
     let word = word_of(shown.kind);
-    let name = escaped(alloc, shown.name)?;
+    let name = escaped(shown.name)?;
     let depth = shown.depth;
     write!(
         out,
@@ -74,9 +73,9 @@ fn json(alloc: Global, path: &str, shown: Shown<'_>) -> Result<String, AllocErro
 }
 
 // A line of a `tags` file.
-fn tag(alloc: Global, path: &str, shown: Shown<'_>) -> Result<String, AllocError>
+fn tag(path: &str, shown: Shown<'_>) -> Result<String, AllocError>
 {
-    let mut out = String::new(alloc);
+    let mut out = String::new();
     let name = shown.name;
     let line = shown.start.line;
     let word = word_of(shown.kind);
@@ -88,7 +87,7 @@ fn tag(alloc: Global, path: &str, shown: Shown<'_>) -> Result<String, AllocError
 fn push_indent(out: &mut String, depth: usize) -> Result<(), AllocError>
 {
     for _ in 0..depth.min(32) {
-        out.push_str("  ")?;
+        out.push_str_fallibly("  ")?;
     }
     Ok(())
 }
@@ -98,7 +97,7 @@ fn push_title(out: &mut String, shown: Shown<'_>) -> Result<(), AllocError>
 {
     let name = shown.name;
     if !shown.named {
-        return out.push_str(name);
+        return out.push_str_fallibly(name);
     }
     let word = word_of(shown.kind);
     write!(out, "{word} {name}")

@@ -1,10 +1,10 @@
 // Made from crates/outline/src/names.rt by rust/erase: change that file, not this one.
 //! What declarations are called.
 
-use proved::shim::prelude::String;
+use proved::shim::prelude::Grow;
 
 use proved::declarations::ItemKind;
-use proved::shim::alloc::{AllocError, Global};
+use proved::shim::alloc::AllocError;
 
 /// The word for a kind of declaration.
 pub fn word_of(kind: ItemKind) -> &'static str
@@ -29,9 +29,9 @@ pub fn word_of(kind: ItemKind) -> &'static str
 }
 
 /// The text on one line: a space for each run of spaces and controls.
-pub fn one_line(alloc: Global, text: &str) -> Result<String, AllocError>
+pub fn one_line(text: &str) -> Result<String, AllocError>
 {
-    let mut out = String::new(alloc);
+    let mut out = String::new();
     let mut gap = false;
     for c in text.chars() {
         push_in_line(&mut out, gap, c)?;
@@ -47,7 +47,7 @@ fn push_in_line(out: &mut String, gap: bool, c: char) -> Result<(), AllocError>
         return Ok(());
     }
     if gap {
-        out.push(' ')?;
+        out.push_fallibly(' ')?;
     }
-    out.push(c)
+    out.push_fallibly(c)
 }

@@ -1,10 +1,10 @@
 // Made from crates/outline/src/options.rt by rust/erase: change that file, not this one.
 //! What the words after the program's name ask for.
 
-use proved::shim::prelude::{String, Vec};
+use proved::shim::prelude::{Grow, GrowText};
 
 use crate::messages::Failure;
-use proved::shim::alloc::{AllocError, Global};
+use proved::shim::alloc::AllocError;
 
 /// How the program is called.
 pub const USAGE: &str = "outline [--json|--ctags] [FILE..]";
@@ -41,16 +41,16 @@ enum Word {
 /// there is no other.
 ///
 /// Fails with `Usage` where a word begins with `-` that is no option, and with `Memory`.
-pub fn options_of(alloc: Global, words: &[String]) -> Result<Options, Failure>
+pub fn options_of(words: &[String]) -> Result<Options, Failure>
 {
-    let mut options = Options::new(alloc);
+    let mut options = Options::new();
     for word in words {
         match word_of(word.as_str()) {
             Word::Unknown => return Err(Failure::Usage(USAGE)),
-            known => options.take(alloc, known, word.as_str())?,
+            known => options.take(known, word.as_str())?,
         }
     }
-    options.read_input_at_least(alloc)?;
+    options.read_input_at_least()?;
     Ok(options)
 }
 
@@ -76,39 +76,39 @@ fn other_word(word: &str) -> Word
 
 impl Options {
     // What is asked for before any word.
-    fn new(alloc: Global) -> Options
+    fn new() -> Options
     {
         Options {
             form: Form::Lines,
-            paths: Vec::new(alloc),
+            paths: Vec::new(),
         }
     }
 
     // Takes a word.
-    fn take(&mut self, alloc: Global, known: Word, word: &str) -> Result<(), AllocError>
+    fn take(&mut self, known: Word, word: &str) -> Result<(), AllocError>
     {
         match known {
             Word::Json => self.form = Form::Json,
             Word::Ctags => self.form = Form::Ctags,
-            Word::Path => self.push_path(alloc, word)?,
+            Word::Path => self.push_path(word)?,
             Word::Unknown => {}
         }
         Ok(())
     }
 
     // Standard input is read where no file is named.
-    fn read_input_at_least(&mut self, alloc: Global) -> Result<(), AllocError>
+    fn read_input_at_least(&mut self) -> Result<(), AllocError>
     {
         if self.paths.is_empty() {
-            self.push_path(alloc, "-")?;
+            self.push_path("-")?;
         }
         Ok(())
     }
 
     // Appends a path.
-    fn push_path(&mut self, alloc: Global, path: &str) -> Result<(), AllocError>
+    fn push_path(&mut self, path: &str) -> Result<(), AllocError>
     {
-        self.paths.push(String::from_str(alloc, path)?)?;
+        self.paths.push_fallibly(String::from_str_fallibly(path)?)?;
         Ok(())
     }
 }

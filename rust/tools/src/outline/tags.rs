@@ -1,7 +1,7 @@
 // Made from crates/outline/src/tags.rt by rust/erase: change that file, not this one.
 //! What is written of lines.
 
-use proved::shim::prelude::{String, Vec};
+use proved::shim::prelude::GrowText;
 
 use proved::shim::io;
 use proved::shim::io::Write;

@@ -1,14 +1,11 @@
 // Made from crates/pretty/src/answer.rt by rust/erase: change that file, not this one.
 //! What the program writes for a text.
 
-use proved::shim::prelude::String;
-
 use crate::messages::Failure;
 use proved::pretty_printer::to_pretty_string;
 use proved::proc_macro2::{SourceMap, TokenStream};
 use proved::quoting::QuoteError;
 use proved::relayout::{RelayoutError, with_doc_comments};
-use proved::shim::alloc::Global;
 use proved::shim::io::Write;
 
 /// Writes the tokens of the text, in a layout that reads back to them, with doc comments in the place of the attributes
@@ -16,38 +13,39 @@ use proved::shim::io::Write;
 ///
 /// Fails with `Fault`, which has line and column, `MapFull` and `Memory` before anything is written, and with `Write`;
 /// then a beginning of the text may stand.
-pub fn print_text<W: Write>(alloc: Global, text: &str, writer: &mut W) -> Result<(), Failure>
+pub fn print_text<W: Write>(text: &str, writer: &mut W) -> Result<(), Failure>
 {
-    let mut map = SourceMap::new(alloc);
+    let mut map = SourceMap::new();
     match TokenStream::from_str(text, &mut map) {
-        Ok(stream) => print_stream(alloc, &stream, writer),
+        Ok(stream) => print_stream(&stream, writer),
         Err(error) => Err(Failure::unparsed(error, &map)),
     }
 }
 
 // Writes a stream that is well spaced.
 fn print_stream<W: Write>(
-    alloc: Global,
     stream: &TokenStream,
     writer: &mut W,
 ) -> Result<(), Failure>
 {
-    let pretty = pretty_text(alloc, stream)?;
+    let pretty = pretty_text(stream)?;
     writer.write_all(pretty.as_str().as_bytes())?;
     Ok(())
 }
 
 // The pretty text of a stream that is well spaced. Only memory can fail.
-fn pretty_text(alloc: Global, stream: &TokenStream) -> Result<String, Failure>
+fn pretty_text(stream: &TokenStream) -> Result<String, Failure>
 {
-    let pretty = match to_pretty_string(alloc, stream) {
+    let pretty = match to_pretty_string(stream) {
         Ok(pretty) => pretty,
         Err(QuoteError::Memory(_)) => return Err(Failure::Memory),
         Err(QuoteError::NoneGroup | QuoteError::LoneQuote) => unreachable!(),
-    };
-    match with_doc_comments(alloc, pretty.as_str()) {
+    _ => unreachable!("each case is above"),
+};
+    match with_doc_comments(pretty.as_str()) {
         Ok(text) => Ok(text),
         Err(RelayoutError::Memory(_)) => Err(Failure::Memory),
         Err(RelayoutError::NoPiece) => unreachable!(),
-    }
+    _ => unreachable!("each case is above"),
+}
 }

@@ -11,14 +11,12 @@ use proved::explain::{ExplainError, Explained, Hint, Reason, Stretch, advice, ex
 use crate::messages::Failure;
 use proved::pm_span::Span;
 use proved::pm_span::parts::{bounds, char_count};
-use proved::shim::alloc::Global;
 use proved::shim::io;
 use proved::shim::io::Write;
 
 /// Writes why the text of the file at this path doesn't parse, and then where its hidden characters stand, if `hidden`
 /// asks for them, and answers whether something was found.
 pub fn check_all<W: Write>(
-    alloc: Global,
     form: Form,
     hidden: bool,
     path: &str,
@@ -26,34 +24,34 @@ pub fn check_all<W: Write>(
     writer: &mut W,
 ) -> Result<bool, Failure>
 {
-    let faulty = check_text(alloc, form, path, text, writer)?;
+    let faulty = check_text(form, path, text, writer)?;
     if !hidden {
         return Ok(faulty);
     }
-    let told = tell_hidden(alloc, form, path, text, writer)?;
+    let told = tell_hidden(form, path, text, writer)?;
     Ok(faulty || told)
 }
 
 // Writes why the text of the file at this path doesn't parse, and answers whether it has a fault. Nothing is written
 // for a text that parses.
 fn check_text<W: Write>(
-    alloc: Global,
     form: Form,
     path: &str,
     text: &str,
     writer: &mut W,
 ) -> Result<bool, Failure>
 {
-    match explain(alloc, text) {
+    match explain(text) {
         Ok(None) => Ok(false),
         Ok(Some(explained)) => {
-            let hint = advice(alloc, text, &explained)?;
-            write_fault(alloc, form, path, text, &explained, &hint, writer)?;
+            let hint = advice(text, &explained)?;
+            write_fault(form, path, text, &explained, &hint, writer)?;
             Ok(true)
         }
         Err(ExplainError::MapFull) => Err(Failure::MapFull),
         Err(ExplainError::Memory(_)) => Err(Failure::Memory),
-    }
+    _ => unreachable!("each case is above"),
+}
 }
 
 // The fault of the text.
@@ -65,7 +63,6 @@ fn fault<'a>(text: &'a str, explained: &Explained) -> Finding<'a>
 
 // Writes what is said of the fault, and what helps besides.
 fn write_fault<W: Write>(
-    alloc: Global,
     form: Form,
     path: &str,
     text: &str,
@@ -74,13 +71,12 @@ fn write_fault<W: Write>(
     writer: &mut W,
 ) -> io::Result<()>
 {
-    write_message(alloc, form, path, &fault(text, explained), writer)?;
-    write_note(alloc, form, path, text, explained, hint, writer)
+    write_message(form, path, &fault(text, explained), writer)?;
+    write_note(form, path, text, explained, hint, writer)
 }
 
 // Writes what is said below the fault.
 fn write_note<W: Write>(
-    alloc: Global,
     form: Form,
     path: &str,
     text: &str,
@@ -90,9 +86,8 @@ fn write_note<W: Write>(
 ) -> io::Result<()>
 {
     match form {
-        Form::Long => write_notes(alloc, Colours::none(), path, text, explained, hint, writer),
+        Form::Long => write_notes(Colours::none(), path, text, explained, hint, writer),
         Form::Coloured => write_notes(
-            alloc,
             Colours::terminal(),
             path,
             text,
@@ -106,7 +101,6 @@ fn write_note<W: Write>(
 
 // Writes the same in these colours.
 fn write_notes<W: Write>(
-    alloc: Global,
     colours: Colours,
     path: &str,
     text: &str,
@@ -115,13 +109,12 @@ fn write_notes<W: Write>(
     writer: &mut W,
 ) -> io::Result<()>
 {
-    write_waiting(alloc, colours, path, text, explained, writer)?;
-    write_hint(alloc, colours, path, text, hint, writer)
+    write_waiting(colours, path, text, explained, writer)?;
+    write_hint(colours, path, text, hint, writer)
 }
 
 // Writes of a closer that doesn't match where the opener stands that waits for another.
 fn write_waiting<W: Write>(
-    alloc: Global,
     colours: Colours,
     path: &str,
     text: &str,
@@ -131,7 +124,6 @@ fn write_waiting<W: Write>(
 {
     match (&explained.reason, &explained.innermost) {
         (Reason::MismatchedCloser, Some(opener)) => write_place(
-            alloc,
             colours,
             path,
             "this opener waits",
@@ -145,7 +137,6 @@ fn write_waiting<W: Write>(
 
 // Writes what helps besides.
 fn write_hint<W: Write>(
-    alloc: Global,
     colours: Colours,
     path: &str,
     text: &str,
@@ -155,10 +146,9 @@ fn write_hint<W: Write>(
 {
     match hint {
         Some(Hint::Comments { depth, closed }) => write_comments(
-            alloc, colours, path, text, *depth, *closed, writer,
+            colours, path, text, *depth, *closed, writer,
         ),
         Some(Hint::Quote(at)) => write_place(
-            alloc,
             colours,
             path,
             "the quote that came nearest to ending it",
@@ -172,7 +162,6 @@ fn write_hint<W: Write>(
 
 // Writes how many comments are open, and which ended last.
 fn write_comments<W: Write>(
-    alloc: Global,
     colours: Colours,
     path: &str,
     text: &str,
@@ -182,7 +171,7 @@ fn write_comments<W: Write>(
 ) -> io::Result<()>
 {
     write_depth(colours, depth, writer)?;
-    write_closed(alloc, colours, path, text, closed, writer)
+    write_closed(colours, path, text, closed, writer)
 }
 
 // Writes how many comments are open, if that is more than one.
@@ -200,7 +189,6 @@ fn write_depth<W: Write>(colours: Colours, depth: usize, writer: &mut W) -> io::
 
 // Writes which comment ended last, if one did.
 fn write_closed<W: Write>(
-    alloc: Global,
     colours: Colours,
     path: &str,
     text: &str,
@@ -210,7 +198,6 @@ fn write_closed<W: Write>(
 {
     match closed {
         Some(at) => write_place(
-            alloc,
             colours,
             path,
             "the comment in it that ended last",
@@ -224,7 +211,6 @@ fn write_closed<W: Write>(
 
 // Writes what stands at this place.
 fn write_place<W: Write>(
-    alloc: Global,
     colours: Colours,
     path: &str,
     says: &str,
@@ -236,7 +222,7 @@ fn write_place<W: Write>(
     let Colours { strong, off, .. } = colours;
     writeln!(writer, "{strong}note{off}: {says}")?;
     let place = found_at("", "", text, at.span);
-    write_excerpt(alloc, colours, path, &place, writer)
+    write_excerpt(colours, path, &place, writer)
 }
 
 // What is found where the span says.

@@ -4,7 +4,6 @@
 use crate::rust_check::finding::{Finding, Place};
 use crate::rust_check::options::Form;
 use crate::rust_check::writing::write_line;
-use proved::shim::alloc::Global;
 use proved::shim::io;
 use proved::shim::io::Write;
 
@@ -32,7 +31,6 @@ pub struct LineEnds {
 
 /// Writes a line for each CR that no LF follows, and one for the first line end that is unlike those before it.
 pub fn tell_line_ends<W: Write>(
-    alloc: Global,
     form: Form,
     path: &str,
     text: &str,
@@ -48,7 +46,6 @@ pub fn tell_line_ends<W: Write>(
     let mut rest = text.chars();
     while let Some(c) = rest.next() {
         tell_end(
-            alloc,
             form,
             path,
             ends,
@@ -66,7 +63,6 @@ pub fn tell_line_ends<W: Write>(
 
 // Writes a line for the character at this place, if it is odd before what follows it.
 fn tell_end<W: Write>(
-    alloc: Global,
     form: Form,
     path: &str,
     ends: LineEnds,
@@ -88,7 +84,7 @@ fn tell_end<W: Write>(
         _ => return Ok(()),
     };
     *found = true;
-    write_line(alloc, form, path, &finding, writer)
+    write_line(form, path, &finding, writer)
 }
 
 /// What is odd at this place.

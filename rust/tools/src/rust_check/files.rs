@@ -7,7 +7,6 @@ use crate::rust_check::answer::check_all;
 use crate::rust_check::options::Options;
 use crate::rust_check::tally::Tally;
 use crate::messages::{Failure, read_text, say};
-use proved::shim::alloc::Global;
 use proved::shim::io::Write;
 
 /// Checks the files that the options name one after the other, and writes what is found in them. Of a file that can't
@@ -24,7 +23,7 @@ pub fn check_files<W: Write, E: Write>(
     let mut tally = Tally::new();
     for path in options.paths.as_slice() {
         let outcome = unless_writing_failed(check_file(rt, options, path.as_str(), writer))?;
-        say_unread(rt.alloc(), path.as_str(), &outcome, errors);
+        say_unread(path.as_str(), &outcome, errors);
         tally = tally.with(&outcome);
     }
     Ok(tally)
@@ -40,7 +39,6 @@ fn check_file<W: Write>(
 {
     let text = read_text(rt, path)?;
     check_all(
-        rt.alloc(),
         options.shown_form(),
         options.hidden,
         path,
@@ -60,12 +58,11 @@ fn unless_writing_failed(outcome: Result<bool, Failure>) -> Result<Result<bool, 
 
 // Says why the file at this path wasn't read. A message that can't be written changes nothing.
 fn say_unread<E: Write>(
-    alloc: Global,
     path: &str,
     outcome: &Result<bool, Failure>,
     errors: &mut E,
 ) {
     if let Err(failure) = outcome {
-        let _ = say(alloc, path, failure, errors);
+        let _ = say(path, failure, errors);
     }
 }

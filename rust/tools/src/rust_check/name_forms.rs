@@ -1,9 +1,9 @@
 // Made from crates/rust_check/src/name_forms.rt by rust/erase: change that file, not this one.
 //! The names of a text, by their forms NFKC.
 
-use proved::shim::prelude::String;
+use proved::shim::prelude::GrowText;
 
-use proved::shim::alloc::{AllocError, Global};
+use proved::shim::alloc::AllocError;
 use proved::shim::collections::HashMap;
 use proved::shim::unicode_normalization::to_nfkc;
 
@@ -15,21 +15,21 @@ pub struct NameForms {
 
 impl NameForms {
     /// No name.
-    pub fn new(alloc: Global) -> NameForms
+    pub fn new() -> NameForms
     {
         NameForms {
-            first: HashMap::new(alloc),
+            first: HashMap::new(),
         }
     }
 
     /// Takes a name, and answers whether the first one of its form is another.
-    pub fn take(&mut self, alloc: Global, name: &str) -> Result<bool, AllocError>
+    pub fn take(&mut self, name: &str) -> Result<bool, AllocError>
     {
-        let form = to_nfkc(alloc, name)?;
+        let form = to_nfkc(name)?;
         if let Some(first) = self.first.get(form.as_str()) {
             return Ok(first.as_str() != name);
         }
-        let name = String::from_str(alloc, name)?;
+        let name = String::from_str_fallibly(name)?;
         self.first.insert(form, name)?;
         Ok(false)
     }

@@ -1,10 +1,10 @@
 // Made from crates/rust_check/src/options.rt by rust/erase: change that file, not this one.
 //! What the words after the program's name ask for.
 
-use proved::shim::prelude::{String, Vec};
+use proved::shim::prelude::{Grow, GrowText};
 
 use crate::messages::Failure;
-use proved::shim::alloc::{AllocError, Global};
+use proved::shim::alloc::AllocError;
 
 /// How the program is called.
 pub const USAGE: &str = "rust_check [--short|--json] [--hidden] [--color=always|never] [FILE..]";
@@ -60,18 +60,18 @@ enum Word {
 /// What the words ask for: options anywhere, and paths, of which standard input is one where there is no other.
 ///
 /// Fails with `Usage` where a word begins with `-` that is no option, and with `Memory`.
-pub fn request_of(alloc: Global, words: &[String]) -> Result<Request, Failure>
+pub fn request_of(words: &[String]) -> Result<Request, Failure>
 {
-    let mut options = Options::new(alloc);
+    let mut options = Options::new();
     for word in words {
         match word_of(word.as_str()) {
             Word::Help => return Ok(Request::Help),
             Word::Version => return Ok(Request::Version),
             Word::Unknown => return Err(Failure::Usage(USAGE)),
-            known => options.take(alloc, known, word.as_str())?,
+            known => options.take(known, word.as_str())?,
         }
     }
-    options.read_input_at_least(alloc)?;
+    options.read_input_at_least()?;
     Ok(Request::Check(options))
 }
 
@@ -102,43 +102,43 @@ fn other_word(word: &str) -> Word
 
 impl Options {
     // What is asked for before any word.
-    fn new(alloc: Global) -> Options
+    fn new() -> Options
     {
         Options {
             form: Form::Long,
             coloured: false,
             hidden: false,
-            paths: Vec::new(alloc),
+            paths: Vec::new(),
         }
     }
 
     // Takes a word.
-    fn take(&mut self, alloc: Global, known: Word, word: &str) -> Result<(), AllocError>
+    fn take(&mut self, known: Word, word: &str) -> Result<(), AllocError>
     {
         match known {
             Word::Short => self.form = Form::Short,
             Word::Json => self.form = Form::Json,
             Word::Hidden => self.hidden = true,
             Word::Colour(coloured) => self.coloured = coloured,
-            Word::Path => self.push_path(alloc, word)?,
+            Word::Path => self.push_path(word)?,
             _ => {}
         }
         Ok(())
     }
 
     // Standard input is read where no file is named.
-    fn read_input_at_least(&mut self, alloc: Global) -> Result<(), AllocError>
+    fn read_input_at_least(&mut self) -> Result<(), AllocError>
     {
         if self.paths.is_empty() {
-            self.push_path(alloc, "-")?;
+            self.push_path("-")?;
         }
         Ok(())
     }
 
     // Appends a path.
-    fn push_path(&mut self, alloc: Global, path: &str) -> Result<(), AllocError>
+    fn push_path(&mut self, path: &str) -> Result<(), AllocError>
     {
-        self.paths.push(String::from_str(alloc, path)?)?;
+        self.paths.push_fallibly(String::from_str_fallibly(path)?)?;
         Ok(())
     }
 

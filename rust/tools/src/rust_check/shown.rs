@@ -1,38 +1,38 @@
 // Made from crates/rust_check/src/shown.rt by rust/erase: change that file, not this one.
 //! How a line is shown on a terminal, and in which columns.
 
-use proved::shim::prelude::String;
+use proved::shim::prelude::{Grow, GrowText};
 
 use crate::rust_check::hidden::is_hidden;
-use proved::shim::alloc::{AllocError, Global};
+use proved::shim::alloc::AllocError;
 use proved::shim::unicode_width::UnicodeWidthChar;
 
 /// The two parts of a line as they are shown: tab as four spaces, CR and what is hidden as U+FFFD.
-pub fn shown_line(alloc: Global, front: &str, rest: &str) -> Result<String, AllocError>
+pub fn shown_line(front: &str, rest: &str) -> Result<String, AllocError>
 {
-    let mut out = String::new(alloc);
+    let mut out = String::new();
     push_shown(&mut out, front)?;
     push_shown(&mut out, rest)?;
     Ok(out)
 }
 
 /// Carets below the columns of a part of a line, one at least, after the columns of what stands before it.
-pub fn underline(alloc: Global, front: &str, part: &str) -> Result<String, AllocError>
+pub fn underline(front: &str, part: &str) -> Result<String, AllocError>
 {
-    let mut out = String::new(alloc);
+    let mut out = String::new();
     push_filled(&mut out, " ", front)?;
     let bare = out.len();
     push_filled(&mut out, "^", part)?;
     if out.len() == bare {
-        out.push_str("^")?;
+        out.push_str_fallibly("^")?;
     }
     Ok(out)
 }
 
 /// So many spaces.
-pub fn spaces(alloc: Global, count: usize) -> Result<String, AllocError>
+pub fn spaces(count: usize) -> Result<String, AllocError>
 {
-    let mut out = String::new(alloc);
+    let mut out = String::new();
     push_times(&mut out, count, " ")?;
     Ok(out)
 }
@@ -50,10 +50,10 @@ fn push_shown(out: &mut String, text: &str) -> Result<(), AllocError>
 fn push_character(out: &mut String, c: char) -> Result<(), AllocError>
 {
     match c {
-        '\t' => out.push_str("    "),
-        '\r' => out.push('\u{FFFD}'),
-        _ if is_hidden(c) => out.push('\u{FFFD}'),
-        _ => out.push(c),
+        '\t' => out.push_str_fallibly("    "),
+        '\r' => out.push_fallibly('\u{FFFD}'),
+        _ if is_hidden(c) => out.push_fallibly('\u{FFFD}'),
+        _ => out.push_fallibly(c),
     }
 }
 
@@ -70,7 +70,7 @@ fn push_filled(out: &mut String, fill: &str, text: &str) -> Result<(), AllocErro
 fn push_times(out: &mut String, count: usize, text: &str) -> Result<(), AllocError>
 {
     for _ in 0..count {
-        out.push_str(text)?;
+        out.push_str_fallibly(text)?;
     }
     Ok(())
 }

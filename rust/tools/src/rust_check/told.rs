@@ -10,7 +10,7 @@ use crate::rust_check::options::Form;
 use crate::rust_check::turns::is_balanced;
 use crate::rust_check::writing::write_line;
 use proved::proc_macro2::{PieceKind, pieces};
-use proved::shim::alloc::{AllocError, Global};
+use proved::shim::alloc::AllocError;
 use proved::shim::io;
 use proved::shim::io::Write;
 use proved::shim::unicode_normalization::is_nfc;
@@ -18,7 +18,6 @@ use proved::shim::unicode_normalization::is_nfc;
 /// Writes a line for each place of the text where something is hidden, and answers whether there is one: first the
 /// hidden characters, piece by piece, and then what is odd at the ends of lines.
 pub fn tell_hidden<W: Write>(
-    alloc: Global,
     form: Form,
     path: &str,
     text: &str,
@@ -26,14 +25,13 @@ pub fn tell_hidden<W: Write>(
 ) -> io::Result<bool>
 {
     let mut found = false;
-    tell_pieces(alloc, form, path, text, &mut found, writer)?;
-    tell_line_ends(alloc, form, path, text, &mut found, writer)?;
+    tell_pieces(form, path, text, &mut found, writer)?;
+    tell_line_ends(form, path, text, &mut found, writer)?;
     Ok(found)
 }
 
 // Writes a line for each hidden character of the text's pieces, and of what follows them.
 fn tell_pieces<W: Write>(
-    alloc: Global,
     form: Form,
     path: &str,
     text: &str,
@@ -42,11 +40,10 @@ fn tell_pieces<W: Write>(
 ) -> io::Result<()>
 {
     let mut place = Place::front();
-    let mut forms = NameForms::new(alloc);
+    let mut forms = NameForms::new();
     let mut walk = pieces(text);
     while let Some(next) = walk.next_piece() {
         tell_name(
-            alloc,
             form,
             path,
             place,
@@ -57,15 +54,14 @@ fn tell_pieces<W: Write>(
             writer,
         )?;
         let literal = is_literal(next.piece.kind);
-        place = tell_piece(alloc, form, path, literal, place, next.text, found, writer)?;
+        place = tell_piece(form, path, literal, place, next.text, found, writer)?;
     }
-    tell_piece(alloc, form, path, false, place, walk.rest(), found, writer)?;
+    tell_piece(form, path, false, place, walk.rest(), found, writer)?;
     Ok(())
 }
 
 // Writes a line for what is odd about the piece, if it is a name, and takes that into account.
 fn tell_name<W: Write>(
-    alloc: Global,
     form: Form,
     path: &str,
     place: Place,
@@ -79,34 +75,33 @@ fn tell_name<W: Write>(
     let PieceKind::Name { name, .. } = kind else {
         return Ok(());
     };
-    let is_other_form = !is_nfc(alloc, name)?;
+    let is_other_form = !is_nfc(name)?;
     let finding = odd(
         "name-not-in-nfc",
         "a name that is not in the form NFC",
         text,
         place,
     );
-    tell_if(alloc, form, path, is_other_form, &finding, found, writer)?;
+    tell_if(form, path, is_other_form, &finding, found, writer)?;
     let finding = odd(
         "name-of-mixed-scripts",
         "a name of scripts that are not written together",
         text,
         place,
     );
-    tell_if(alloc, form, path, is_mixed(name), &finding, found, writer)?;
-    let is_other = forms.take(alloc, name)?;
+    tell_if(form, path, is_mixed(name), &finding, found, writer)?;
+    let is_other = forms.take(name)?;
     let finding = odd(
         "name-like-another",
         "a name that the form NFKC makes one with a name before it",
         text,
         place,
     );
-    tell_if(alloc, form, path, is_other, &finding, found, writer)
+    tell_if(form, path, is_other, &finding, found, writer)
 }
 
 // Writes a line for a finding, if it is one.
 fn tell_if<W: Write>(
-    alloc: Global,
     form: Form,
     path: &str,
     is: bool,
@@ -119,7 +114,7 @@ fn tell_if<W: Write>(
         return Ok(());
     }
     *found = true;
-    write_line(alloc, form, path, finding, writer)
+    write_line(form, path, finding, writer)
 }
 
 // Whether the piece is a literal.
@@ -130,7 +125,6 @@ fn is_literal(kind: PieceKind<'_>) -> bool
 
 // Writes a line for each hidden character of a piece that begins at this place, and answers the place after it.
 fn tell_piece<W: Write>(
-    alloc: Global,
     form: Form,
     path: &str,
     literal: bool,
@@ -141,21 +135,21 @@ fn tell_piece<W: Write>(
 ) -> io::Result<Place>
 {
     let mut at = place;
-    let mut balanced = is_balanced(alloc, text)?;
+    let mut balanced = is_balanced(text)?;
     let mut rest = text.chars();
     while let Some(c) = rest.next() {
-        tell_character(alloc, form, path, literal, balanced, at, c, found, writer)?;
-        balanced = balanced_after(alloc, balanced, c, rest.as_str())?;
+        tell_character(form, path, literal, balanced, at, c, found, writer)?;
+        balanced = balanced_after(balanced, c, rest.as_str())?;
         at = at.after(c);
     }
     Ok(at)
 }
 
 // Whether the controls of the direction are balanced on the line that goes on after this character.
-fn balanced_after(alloc: Global, balanced: bool, c: char, rest: &str) -> Result<bool, AllocError>
+fn balanced_after(balanced: bool, c: char, rest: &str) -> Result<bool, AllocError>
 {
     if c == '\n' {
-        is_balanced(alloc, rest)
+        is_balanced(rest)
     } else {
         Ok(balanced)
     }
@@ -163,7 +157,6 @@ fn balanced_after(alloc: Global, balanced: bool, c: char, rest: &str) -> Result<
 
 // Writes a line for the character at this place, if it hides something.
 fn tell_character<W: Write>(
-    alloc: Global,
     form: Form,
     path: &str,
     literal: bool,
@@ -183,7 +176,7 @@ fn tell_character<W: Write>(
     let mut bytes = [0; 4];
     let finding = finding(balanced, place, hidden, c, c.encode_utf8(&mut bytes));
     *found = true;
-    write_line(alloc, form, path, &finding, writer)
+    write_line(form, path, &finding, writer)
 }
 
 // Whether nothing is said of it: of white space in a literal, and of U+FEFF at the text's front.

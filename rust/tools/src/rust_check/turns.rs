@@ -1,9 +1,9 @@
 // Made from crates/rust_check/src/turns.rt by rust/erase: change that file, not this one.
 //! Whether the controls of a line's direction are balanced.
 
-use proved::shim::prelude::Vec;
+use proved::shim::prelude::Grow;
 
-use proved::shim::alloc::{AllocError, Global};
+use proved::shim::alloc::AllocError;
 
 /// What a control does to a line's direction.
 #[derive(Clone, Copy, Debug, PartialEq, Eq)]
@@ -18,9 +18,9 @@ pub enum Turn {
 
 /// Whether each control of the direction on the text's first line is closed there, in order, and none is closed that
 /// isn't open.
-pub fn is_balanced(alloc: Global, text: &str) -> Result<bool, AllocError>
+pub fn is_balanced(text: &str) -> Result<bool, AllocError>
 {
-    let mut opened = Vec::new(alloc);
+    let mut opened = Vec::new();
     let mut rest = text.chars();
     while let Some(c) = rest.next() {
         if c == '\n' {
@@ -39,7 +39,7 @@ fn take(opened: &mut Vec<bool>, c: char) -> Result<bool, AllocError>
     match turn_of(c) {
         Turn::Stays => Ok(true),
         Turn::Opens(apart) => {
-            opened.push(apart)?;
+            opened.push_fallibly(apart)?;
             Ok(true)
         }
         Turn::Closes(apart) => match opened.pop() {

@@ -9,13 +9,11 @@ use crate::rust_check::options::Form;
 use crate::rust_check::place::{byte_count, first_line};
 use crate::rust_check::shown::{shown_line, spaces, underline};
 use crate::messages::escaped;
-use proved::shim::alloc::Global;
 use proved::shim::io;
 use proved::shim::io::Write;
 
 /// Writes what is found in the file at this path, in this form.
 pub fn write_message<W: Write>(
-    alloc: Global,
     form: Form,
     path: &str,
     finding: &Finding<'_>,
@@ -24,15 +22,14 @@ pub fn write_message<W: Write>(
 {
     match form {
         Form::Short => write_short(path, finding, writer),
-        Form::Long => write_long(alloc, Colours::none(), path, finding, writer),
-        Form::Coloured => write_long(alloc, Colours::terminal(), path, finding, writer),
-        Form::Json => write_json(alloc, path, finding, writer),
+        Form::Long => write_long(Colours::none(), path, finding, writer),
+        Form::Coloured => write_long(Colours::terminal(), path, finding, writer),
+        Form::Json => write_json(path, finding, writer),
     }
 }
 
 /// Writes what is found in the file at this path on one line, whichever form it has.
 pub fn write_line<W: Write>(
-    alloc: Global,
     form: Form,
     path: &str,
     finding: &Finding<'_>,
@@ -40,7 +37,7 @@ pub fn write_line<W: Write>(
 ) -> io::Result<()>
 {
     match form {
-        Form::Json => write_json(alloc, path, finding, writer),
+        Form::Json => write_json(path, finding, writer),
         _ => write_short(path, finding, writer),
     }
 }
@@ -58,7 +55,6 @@ fn write_short<W: Write>(path: &str, finding: &Finding<'_>, writer: &mut W) -> i
 
 // Writes what is found in the file at this path, with its line of the source and carets below.
 fn write_long<W: Write>(
-    alloc: Global,
     colours: Colours,
     path: &str,
     finding: &Finding<'_>,
@@ -66,7 +62,7 @@ fn write_long<W: Write>(
 ) -> io::Result<()>
 {
     write_headline(colours, finding, writer)?;
-    write_excerpt(alloc, colours, path, finding, writer)
+    write_excerpt(colours, path, finding, writer)
 }
 
 // Writes what is wrong.
@@ -89,7 +85,6 @@ fn write_headline<W: Write>(
 
 /// Writes where it is found in the file at this path, with its line of the source and carets below.
 pub fn write_excerpt<W: Write>(
-    alloc: Global,
     colours: Colours,
     path: &str,
     finding: &Finding<'_>,
@@ -102,12 +97,12 @@ pub fn write_excerpt<W: Write>(
         off,
         ..
     } = colours;
-    let number = format!(in alloc; "{}", finding.place.line)?;
+    let number = format!("{}", finding.place.line)?;
     // As wide as the sum needs.
     let column = finding.place.column as u128 + 1;
-    let gutter = spaces(alloc, number.len())?;
-    let source = shown_line(alloc, finding.front, first_line(finding.rest))?;
-    let carets = underline(alloc, finding.front, first_line(finding.here))?;
+    let gutter = spaces(number.len())?;
+    let source = shown_line(finding.front, first_line(finding.rest))?;
+    let carets = underline(finding.front, first_line(finding.here))?;
     write!(
         writer,
         "{gutter}{line}-->{off} {path}:{number}:{column}\n{line}{gutter} |{off}\n\
@@ -117,27 +112,25 @@ pub fn write_excerpt<W: Write>(
 
 // Writes what is found in the file at this path as an object of JSON on a line.
 fn write_json<W: Write>(
-    alloc: Global,
     path: &str,
     finding: &Finding<'_>,
     writer: &mut W,
 ) -> io::Result<()>
 {
-    write_json_what(alloc, path, finding, writer)?;
+    write_json_what(path, finding, writer)?;
     write_json_where(finding, writer)
 }
 
 // Writes the front of an object of JSON: the file and what is wrong.
 fn write_json_what<W: Write>(
-    alloc: Global,
     path: &str,
     finding: &Finding<'_>,
     writer: &mut W,
 ) -> io::Result<()>
 {
-    let file = escaped(alloc, path)?;
+    let file = escaped(path)?;
     let name = finding.name;
-    let says = escaped(alloc, finding.says)?;
+    let says = escaped(finding.says)?;
     write!(
         writer,
         "{{\"file\":\"{file}\",\"reason\":\"{name}\",\"message\":\"{says}\","

@@ -6,7 +6,6 @@ use crate::same::place::place_at;
 use proved::explain::{ExplainError, explain};
 use crate::messages::Failure;
 use proved::proc_macro2::LineColumn;
-use proved::shim::alloc::Global;
 use proved::shim::io;
 use proved::shim::io::Write;
 
@@ -24,14 +23,13 @@ pub struct Source<'a> {
 ///
 /// Fails with `Memory` and with `Write`.
 pub fn compare<W: Write>(
-    alloc: Global,
     comments: bool,
     first: Source<'_>,
     second: Source<'_>,
     writer: &mut W,
 ) -> Result<bool, Failure>
 {
-    match difference(alloc, comments, first.text, second.text)? {
+    match difference(comments, first.text, second.text)? {
         None => Ok(true),
         Some((one, other)) => {
             let at = place_at(first.text, first.text.len().saturating_sub(one.len()));
@@ -64,11 +62,12 @@ fn write_places<W: Write>(
 
 /// Fails with `Fault` where a text doesn't parse, with the place of what is at fault, with `MapFull` where it is too
 /// long, and with `Memory`.
-pub fn check_text(alloc: Global, text: &str) -> Result<(), Failure> {
-    match explain(alloc, text) {
+pub fn check_text(text: &str) -> Result<(), Failure> {
+    match explain(text) {
         Ok(None) => Ok(()),
         Ok(Some(explained)) => Err(Failure::Fault(place_at(text, explained.at.start))),
         Err(ExplainError::MapFull) => Err(Failure::MapFull),
         Err(ExplainError::Memory(_)) => Err(Failure::Memory),
-    }
+    _ => unreachable!("each case is above"),
+}
 }

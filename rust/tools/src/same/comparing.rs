@@ -4,12 +4,11 @@
 use crate::same::said::Said;
 use crate::same::words::Words;
 use proved::pm_token::parts::TextBuilder;
-use proved::shim::alloc::{AllocError, Global};
+use proved::shim::alloc::AllocError;
 
 /// Where two texts differ first in their tokens, and in their comments too if `comments` says so: what each has from
 /// there on, or nothing where it ends before. None where they are the same.
 pub fn difference<'a>(
-    alloc: Global,
     comments: bool,
     first: &'a str,
     second: &'a str,
@@ -19,7 +18,7 @@ pub fn difference<'a>(
     let mut others = Words::new(second, comments);
     while let Some(one) = ones.next() {
         let other = others.next();
-        if !is_same(alloc, one, other)? {
+        if !is_same(one, other)? {
             return Ok(Some((ones.here, others.here)));
         }
     }
@@ -30,16 +29,16 @@ pub fn difference<'a>(
 }
 
 // Whether the other is the same word.
-fn is_same(alloc: Global, one: Said<'_>, other: Option<Said<'_>>) -> Result<bool, AllocError>
+fn is_same(one: Said<'_>, other: Option<Said<'_>>) -> Result<bool, AllocError>
 {
     match other {
-        Some(other) => is_alike(alloc, one, other),
+        Some(other) => is_alike(one, other),
         None => Ok(false),
     }
 }
 
 // Whether both are the same word.
-fn is_alike(alloc: Global, one: Said<'_>, other: Said<'_>) -> Result<bool, AllocError>
+fn is_alike(one: Said<'_>, other: Said<'_>) -> Result<bool, AllocError>
 {
     Ok(match (one, other) {
         (Said::Name(raw, name), Said::Name(other_raw, other)) => raw == other_raw && name == other,
@@ -48,8 +47,8 @@ fn is_alike(alloc: Global, one: Said<'_>, other: Said<'_>) -> Result<bool, Alloc
         }
         (Said::Literal(text), Said::Literal(other)) => text == other,
         (Said::DocText(text), Said::DocText(other)) => text == other,
-        (Said::DocText(text), Said::Literal(literal)) => is_string_of(alloc, text, literal)?,
-        (Said::Literal(literal), Said::DocText(text)) => is_string_of(alloc, text, literal)?,
+        (Said::DocText(text), Said::Literal(literal)) => is_string_of(text, literal)?,
+        (Said::Literal(literal), Said::DocText(text)) => is_string_of(text, literal)?,
         (Said::Opener(delimiter), Said::Opener(other)) => delimiter == other,
         (Said::Closer(delimiter), Said::Closer(other)) => delimiter == other,
         (Said::Comment(text), Said::Comment(other)) => text == other,
@@ -58,9 +57,9 @@ fn is_alike(alloc: Global, one: Said<'_>, other: Said<'_>) -> Result<bool, Alloc
 }
 
 // Whether the literal is the string literal of the text.
-fn is_string_of(alloc: Global, text: &str, literal: &str) -> Result<bool, AllocError>
+fn is_string_of(text: &str, literal: &str) -> Result<bool, AllocError>
 {
-    let mut string = TextBuilder::with_room(alloc, 0)?;
+    let mut string = TextBuilder::with_room(0)?;
     string.push_string(text)?;
     Ok(string.into_string().as_str() == literal)
 }

@@ -1,9 +1,7 @@
 // Made from crates/tokens/src/arguments.rt by rust/erase: change that file, not this one.
 //! The words that the program was given.
 
-use proved::shim::prelude::{String, Vec};
-
-use proved::shim::alloc::{AllocError, Global};
+use proved::shim::alloc::AllocError;
 use proved::shim::env::Args;
 use proved::shim::io;
 
@@ -11,11 +9,11 @@ use proved::shim::io;
 ///
 /// Arguments that are no text are no words, since they ask for nothing. It fails where they weren't
 /// had for any other reason, which is taken as memory that ran out, and where there is none for the list.
-pub fn words(alloc: Global, arguments: io::Result<Args>) -> Result<Vec<String>, AllocError>
+pub fn words(arguments: io::Result<Args>) -> Result<Vec<String>, AllocError>
 {
     match arguments {
-        Ok(arguments) => arguments.skip(1).collect(alloc),
-        Err(error) if is_no_text(error.kind()) => Ok(Vec::new(alloc)),
+        Ok(arguments) => arguments.skip(1).collect(),
+        Err(error) if is_no_text(error.kind()) => Ok(Vec::new()),
         Err(_) => Err(AllocError::met()),
     }
 }

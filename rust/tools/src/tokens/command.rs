@@ -1,15 +1,13 @@
 // Made from crates/tokens/src/command.rt by rust/erase: change that file, not this one.
 //! The command line: which run the words ask for, what is said of it, and the status.
 
-use proved::shim::prelude::{String, Vec};
-
 use crate::tokens::engine::run;
 use crate::tokens::errors::RunError;
 use crate::tokens::messages::{say, say_usage};
 use crate::tokens::mode::OutputMode;
 use crate::tokens::sinks::ByteSink;
 use crate::tokens::sources::ByteSource;
-use proved::shim::alloc::{AllocError, Global};
+use proved::shim::alloc::AllocError;
 
 /// Does what the words after the program's name ask for, says on `errors` why it can't, and answers
 /// the program's status.
@@ -19,7 +17,6 @@ use proved::shim::alloc::{AllocError, Global};
 /// write failed, the input isn't UTF-8 or too long, or memory was refused; after each of these a
 /// line on `errors` says so. A line that can't be written changes no status.
 pub fn command<R: ByteSource, W: ByteSink, E: ByteSink>(
-    alloc: Global,
     words: &[String],
     reader: &mut R,
     writer: &mut W,
@@ -30,13 +27,12 @@ pub fn command<R: ByteSource, W: ByteSink, E: ByteSink>(
         say_usage(errors);
         return 2;
     };
-    conclude(run(alloc, mode, reader, writer), errors)
+    conclude(run(mode, reader, writer), errors)
 }
 
 /// Does what `command` does for the words, where there was memory for them. Else nothing is read or
 /// written, the line on `errors` says that there was none, and the status is 2.
 pub fn answer<R: ByteSource, W: ByteSink, E: ByteSink>(
-    alloc: Global,
     words: Result<Vec<String>, AllocError>,
     reader: &mut R,
     writer: &mut W,
@@ -44,7 +40,7 @@ pub fn answer<R: ByteSource, W: ByteSink, E: ByteSink>(
 ) -> u8
 {
     match words {
-        Ok(words) => command(alloc, words.as_slice(), reader, writer, errors),
+        Ok(words) => command(words.as_slice(), reader, writer, errors),
         Err(error) => conclude(Err(RunError::Memory(error)), errors),
     }
 }

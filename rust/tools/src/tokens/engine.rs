@@ -1,7 +1,7 @@
 // Made from crates/tokens/src/engine.rt by rust/erase: change that file, not this one.
 //! A run: from the bytes of a source to the bytes of a sink.
 
-use proved::shim::prelude::{String, Vec};
+use proved::shim::prelude::GrowText;
 
 use crate::tokens::errors::RunError;
 use crate::tokens::mode::OutputMode;
@@ -10,7 +10,6 @@ use crate::tokens::reading::read_to_end;
 use crate::tokens::sinks::ByteSink;
 use crate::tokens::sources::ByteSource;
 use proved::proc_macro2::{ParseError, SourceMap, TokenStream, place_trees, reprint};
-use proved::shim::alloc::Global;
 
 /// Reads source text to its end, and writes its tokens as `mode` says.
 ///
@@ -22,48 +21,48 @@ use proved::shim::alloc::Global;
 /// For `Print`, `a+b` gives `a + b` and a line feed, for `Spans` the lines `1:0-1:1 ident`,
 /// `1:1-1:2 punct` and `1:2-1:3 ident`; `(]` is refused with `Lex` at line 1, column 1.
 pub fn run<R: ByteSource, W: ByteSink>(
-    alloc: Global,
     mode: OutputMode,
     reader: &mut R,
     writer: &mut W,
 ) -> Result<(), RunError>
 {
-    let input = read_to_end(alloc, reader)?;
-    let output = output_of(alloc, mode, input)?;
+    let input = read_to_end(reader)?;
+    let output = output_of(mode, input)?;
     write_output(writer, &output)
 }
 
 // What is written for the input.
-fn output_of(alloc: Global, mode: OutputMode, input: Vec<u8>) -> Result<RunOutput, RunError>
+fn output_of(mode: OutputMode, input: Vec<u8>) -> Result<RunOutput, RunError>
 
     // That a growth was refused can't be stated, only which inputs may come so far.
 {
     let Ok(text) = String::from_utf8(input) else {
         return Err(RunError::NotUtf8);
     };
-    match output_of_text(alloc, mode, text.as_str()) {
+    match output_of_text(mode, text.as_str()) {
         Ok(output) => Ok(output),
         // Trees and a map are made only now, for line and column of the fault.
-        Err(ParseError::Lex(_)) => Err(refusal_of(alloc, text.as_str())),
+        Err(ParseError::Lex(_)) => Err(refusal_of(text.as_str())),
         Err(ParseError::MapFull) => Err(RunError::MapFull),
         Err(ParseError::Memory(error)) => Err(RunError::Memory(error)),
-    }
+    _ => unreachable!("each case is above"),
+}
 }
 
 // What is written for the text.
-fn output_of_text(alloc: Global, mode: OutputMode, text: &str) -> Result<RunOutput, ParseError>
+fn output_of_text(mode: OutputMode, text: &str) -> Result<RunOutput, ParseError>
 {
     match mode {
-        OutputMode::Print => printed(alloc, text),
-        OutputMode::Spans => placed(alloc, text),
+        OutputMode::Print => printed(text),
+        OutputMode::Spans => placed(text),
     }
 }
 
 // Why the run is refused of a text that doesn't parse: for its fault, whose line and column are asked of a map, or
 // where the text doesn't fit the map, or memory runs out.
-fn refusal_of(alloc: Global, text: &str) -> RunError
+fn refusal_of(text: &str) -> RunError
 {
-    let mut map = SourceMap::new(alloc);
+    let mut map = SourceMap::new();
     match TokenStream::from_str(text, &mut map) {
         Ok(_) => unreachable!(),
         Err(error) => refusal(error, &map),
@@ -77,19 +76,20 @@ fn refusal(error: ParseError, map: &SourceMap) -> RunError
         ParseError::Lex(error) => RunError::Lex(error.span().start(map)),
         ParseError::MapFull => RunError::MapFull,
         ParseError::Memory(error) => RunError::Memory(error),
-    }
+    _ => unreachable!("each case is above"),
+}
 }
 
 // The printed text and a line feed.
-fn printed(alloc: Global, text: &str) -> Result<RunOutput, ParseError>
+fn printed(text: &str) -> Result<RunOutput, ParseError>
 {
-    let mut printed = reprint(alloc, text)?;
-    printed.push_str("\n")?;
+    let mut printed = reprint(text)?;
+    printed.push_str_fallibly("\n")?;
     Ok(RunOutput::Text(printed))
 }
 
 // A line for each tree.
-fn placed(alloc: Global, text: &str) -> Result<RunOutput, ParseError>
+fn placed(text: &str) -> Result<RunOutput, ParseError>
 {
-    Ok(RunOutput::Trees(place_trees(alloc, text)?))
+    Ok(RunOutput::Trees(place_trees(text)?))
 }

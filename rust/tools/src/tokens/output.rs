@@ -1,8 +1,6 @@
 // Made from crates/tokens/src/output.rt by rust/erase: change that file, not this one.
 //! What is written for an input, before it is written.
 
-use proved::shim::prelude::{String, Vec};
-
 use crate::tokens::errors::RunError;
 use crate::tokens::sinks::ByteSink;
 use crate::tokens::spans::write_lines;

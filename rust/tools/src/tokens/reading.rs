@@ -1,11 +1,11 @@
 // Made from crates/tokens/src/reading.rt by rust/erase: change that file, not this one.
 //! Reads a source to its end.
 
-use proved::shim::prelude::Vec;
+use proved::shim::prelude::{Grow, GrowList};
 
 use crate::tokens::errors::RunError;
 use crate::tokens::sources::ByteSource;
-use proved::shim::alloc::{AllocError, Global};
+use proved::shim::alloc::AllocError;
 use proved::shim::io;
 
 /// How many bytes a read has room for at least.
@@ -15,9 +15,9 @@ const BLOCK: usize = 64 * 1024;
 ///
 /// It answers `Io` where a read failed, and `Memory` where the memory for the bytes is refused.
 /// Some of them may be read then.
-pub fn read_to_end<R: ByteSource>(alloc: Global, reader: &mut R) -> Result<Vec<u8>, RunError>
+pub fn read_to_end<R: ByteSource>(reader: &mut R) -> Result<Vec<u8>, RunError>
 {
-    let mut bytes = Vec::new(alloc);
+    let mut bytes = Vec::new();
     let mut filled = 0;
     loop {
         make_room(&mut bytes, filled)?;
@@ -37,8 +37,8 @@ pub fn read_to_end<R: ByteSource>(alloc: Global, reader: &mut R) -> Result<Vec<u
 fn make_room(bytes: &mut Vec<u8>, filled: usize) -> Result<(), AllocError>
 {
     if bytes.len() - filled < BLOCK {
-        bytes.reserve(BLOCK)?;
-        bytes.resize(filled + BLOCK, 0)?;
+        bytes.reserve_fallibly(BLOCK)?;
+        bytes.resize_fallibly(filled + BLOCK, 0)?;
     }
     Ok(())
 }

@@ -1,9 +1,8 @@
 // Made from crates/tokens/src/sinks.rt by rust/erase: change that file, not this one.
 //! Where a run's output goes.
 
-use proved::shim::prelude::Vec;
+use proved::shim::prelude::GrowList;
 
-use proved::shim::alloc::Global;
 use proved::shim::io;
 use proved::shim::io::Write;
 
@@ -28,10 +27,10 @@ pub struct MemorySink {
 
 impl MemorySink {
     /// A sink that holds nothing yet.
-    pub fn new(alloc: Global) -> MemorySink
+    pub fn new() -> MemorySink
     {
         MemorySink {
-            bytes: Vec::new(alloc),
+            bytes: Vec::new(),
             failed: false,
         }
     }
@@ -45,7 +44,7 @@ impl MemorySink {
 
 impl ByteSink for MemorySink {
     fn write(&mut self, bytes: &[u8]) -> io::Result<usize> {
-        let result = self.bytes.extend_from_slice(bytes);
+        let result = self.bytes.extend_from_slice_fallibly(bytes);
         self.failed = self.failed || result.is_err();
         result?;
         Ok(bytes.len())

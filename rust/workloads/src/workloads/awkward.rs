@@ -2,7 +2,7 @@
 //! Texts that are awkward: one line beyond ASCII, groups nested deeply, documentation alone, one literal of escapes,
 //! and floats.
 
-use crate::shim::prelude::{String, Vec, format};
+use crate::shim::prelude::{Grow, GrowText, format};
 
 use crate::workloads::digest::Digest;
 use crate::workloads::fails::Fail;
@@ -10,7 +10,7 @@ use crate::workloads::random::Random;
 use proved::pretty_printer::to_pretty_string;
 use proved::proc_macro2::{Literal, SourceMap, Span, TokenStream, TokenTree, reprint};
 use proved::relayout::with_doc_comments;
-use crate::shim::alloc::{AllocError, Global};
+use crate::shim::alloc::AllocError;
 
 /// How many texts of each kind there are.
 const ROUNDS: u64 = 4;
@@ -18,7 +18,6 @@ const ROUNDS: u64 = 4;
 /// Reads texts of each kind: a line and a literal of about so many thousand bytes, a hundred times as many groups, ten
 /// times as many lines of documentation and floats.
 pub fn run(
-    alloc: Global,
     random: &mut Random,
     size: u64,
     _items: &[&str],
@@ -26,32 +25,31 @@ pub fn run(
 ) -> Result<(), Fail> {
     let size = size.min(10_000);
     for _ in 0..ROUNDS {
-        ask_line(alloc, random, size * 150, digest)?;
-        read_nested(alloc, random, size * 100, digest)?;
-        read_docs(alloc, random, size * 10, digest)?;
-        read_literal(alloc, random, size * 100, digest)?;
-        read_floats(alloc, random, size * 10, digest)?;
+        ask_line(random, size * 150, digest)?;
+        read_nested(random, size * 100, digest)?;
+        read_docs(random, size * 10, digest)?;
+        read_literal(random, size * 100, digest)?;
+        read_floats(random, size * 10, digest)?;
     }
     Ok(())
 }
 
 // One line of so many words beyond ASCII, whose spans are asked in any order.
 fn ask_line(
-    alloc: Global,
     random: &mut Random,
     words: u64,
     digest: &mut Digest,
 ) -> Result<(), Fail> {
-    let mut text = String::new(alloc);
+    let mut text = String::new();
     for _ in 0..words {
-        text.push_str(random.one_of(WORDS))?;
-        text.push(' ')?;
+        text.push_str_fallibly(random.one_of(WORDS))?;
+        text.push_fallibly(' ')?;
     }
-    let mut map = SourceMap::new(alloc);
+    let mut map = SourceMap::new();
     let stream = TokenStream::from_str(text.as_str(), &mut map)?;
-    let mut spans = Vec::new(alloc);
+    let mut spans = Vec::new();
     for tree in stream.trees() {
-        spans.push(tree.span())?;
+        spans.push_fallibly(tree.span())?;
     }
     for _ in 0..spans.len() {
         let at = random.index(words);
@@ -92,31 +90,30 @@ fn ask(span: Span, map: &mut SourceMap, digest: &mut Digest) -> Result<(), Alloc
 
 // So many groups, each in the one before.
 fn read_nested(
-    alloc: Global,
     random: &mut Random,
     groups: u64,
     digest: &mut Digest,
 ) -> Result<(), Fail> {
-    let mut text = String::new(alloc);
-    let mut closers = Vec::new(alloc);
+    let mut text = String::new();
+    let mut closers = Vec::new();
     for _ in 0..groups {
         let (open, close) = match random.below(4) {
             0 => ("a[", "]"),
             1 => ("{ b; ", "}"),
             _ => ("(", ")"),
         };
-        text.push_str(open)?;
-        closers.push(close)?;
+        text.push_str_fallibly(open)?;
+        closers.push_fallibly(close)?;
     }
     for _ in 0..groups {
-        text.push_str(closers.pop().unwrap_or(""))?;
+        text.push_str_fallibly(closers.pop().unwrap_or(""))?;
     }
-    let stream = TokenStream::parse_unmapped(alloc, text.as_str())?;
+    let stream = TokenStream::parse_unmapped(text.as_str())?;
     digest.number(stream.is_well_spaced() as u64);
-    digest.text(reprint(alloc, text.as_str())?.as_str());
+    digest.text(reprint(text.as_str())?.as_str());
     let mut walk = stream.walk();
     for _ in 0..u64::MAX {
-        let Some(tree) = walk.next()? else {
+        let Some(tree) = walk.try_next()? else {
             break;
         };
         if let TokenTree::Ident(name) = tree {
@@ -128,12 +125,11 @@ fn read_nested(
 
 // So many lines of documentation.
 fn read_docs(
-    alloc: Global,
     random: &mut Random,
     lines: u64,
     digest: &mut Digest,
 ) -> Result<(), Fail> {
-    let mut text = String::new(alloc);
+    let mut text = String::new();
     for _ in 0..lines {
         let number = random.next();
         write!(
@@ -141,10 +137,10 @@ fn read_docs(
             "/// Line {number} says \"something\" with \\ and é.\n"
         )?;
     }
-    text.push_str("struct S;\n")?;
-    let stream = TokenStream::parse_unmapped(alloc, text.as_str())?;
-    let pretty = to_pretty_string(alloc, &stream)?;
-    match with_doc_comments(alloc, pretty.as_str()) {
+    text.push_str_fallibly("struct S;\n")?;
+    let stream = TokenStream::parse_unmapped(text.as_str())?;
+    let pretty = to_pretty_string(&stream)?;
+    match with_doc_comments(pretty.as_str()) {
         Ok(shown) => digest.text(shown.as_str()),
         Err(_) => return Err(Fail::Refused),
     }
@@ -153,22 +149,21 @@ fn read_docs(
 
 // One literal with so many escapes, and what it stands for written again.
 fn read_literal(
-    alloc: Global,
     random: &mut Random,
     escapes: u64,
     digest: &mut Digest,
 ) -> Result<(), Fail> {
-    let mut text = String::from_str(alloc, "\"")?;
+    let mut text = String::from_str_fallibly("\"")?;
     for _ in 0..escapes {
-        text.push_str(random.one_of(ESCAPES))?;
+        text.push_str_fallibly(random.one_of(ESCAPES))?;
     }
-    text.push('"')?;
-    let stream = TokenStream::parse_unmapped(alloc, text.as_str())?;
+    text.push_fallibly('"')?;
+    let stream = TokenStream::parse_unmapped(text.as_str())?;
     for tree in stream.trees() {
         if let TokenTree::Literal(literal) = tree {
-            if let Ok(value) = literal.str_value(alloc) {
+            if let Ok(value) = literal.str_value() {
                 digest.text(value.as_str());
-                let again = Literal::string(alloc, value.as_str())?;
+                let again = Literal::string(value.as_str())?;
                 digest.text(again.text());
             }
         }
@@ -191,12 +186,11 @@ const ESCAPES: &[&str] = &[
 
 // A table of so many rows of floats.
 fn read_floats(
-    alloc: Global,
     random: &mut Random,
     rows: u64,
     digest: &mut Digest,
 ) -> Result<(), Fail> {
-    let mut text = String::new(alloc);
+    let mut text = String::new();
     for _ in 0..rows {
         let (whole, part, power) = (random.below(1_000), random.next(), random.below(300));
         write!(
@@ -204,8 +198,8 @@ fn read_floats(
             "[{whole}.{part}, -0.{part}e{power}, {whole}., 1e-{power}f64, {part}],\n"
         )?;
     }
-    digest.text(reprint(alloc, text.as_str())?.as_str());
-    let stream = TokenStream::parse_unmapped(alloc, text.as_str())?;
-    digest.text(format!(in alloc; "{stream}")?.as_str());
+    digest.text(reprint(text.as_str())?.as_str());
+    let stream = TokenStream::parse_unmapped(text.as_str())?;
+    digest.text(format!("{stream}")?.as_str());
     Ok(())
 }

@@ -1,7 +1,7 @@
 // Made from crates/workloads/src/editing.rt by rust/erase: change that file, not this one.
 //! Looking over files as an editor does, or before a commit: colours, faults, indentation, changes.
 
-use crate::shim::prelude::{String, Vec};
+use crate::shim::prelude::{Grow, GrowText};
 
 use crate::workloads::digest::Digest;
 use crate::workloads::fails::Fail;
@@ -10,11 +10,10 @@ use crate::workloads::texts::{size, source};
 use proved::explain::{advice, explain};
 use proved::proc_macro2::{PieceKind, TokenStream, pieces};
 use proved::relayout::{White, relayout};
-use crate::shim::alloc::{AllocError, Global};
+use crate::shim::alloc::AllocError;
 
 /// Looks over so many files.
 pub fn run(
-    alloc: Global,
     random: &mut Random,
     files: u64,
     items: &[&str],
@@ -22,30 +21,29 @@ pub fn run(
 ) -> Result<(), Fail> {
     for _ in 0..files {
         let bytes = size(random);
-        let text = source(alloc, random, items, bytes)?;
-        look_over(alloc, text.as_str(), random, digest)?;
+        let text = source(random, items, bytes)?;
+        look_over(text.as_str(), random, digest)?;
     }
     Ok(())
 }
 
 fn look_over(
-    alloc: Global,
     text: &str,
     random: &mut Random,
     digest: &mut Digest,
 ) -> Result<(), Fail> {
     colour(text, digest);
-    check(alloc, text, digest)?;
-    let mut faulty = String::from_str(alloc, text)?;
-    faulty.push_str(random.one_of(FAULTS))?;
-    check(alloc, faulty.as_str(), digest)?;
-    let choices = indentation(alloc, text)?;
-    let Ok(indented) = relayout(alloc, text, choices.as_slice()) else {
+    check(text, digest)?;
+    let mut faulty = String::from_str_fallibly(text)?;
+    faulty.push_str_fallibly(random.one_of(FAULTS))?;
+    check(faulty.as_str(), digest)?;
+    let choices = indentation(text)?;
+    let Ok(indented) = relayout(text, choices.as_slice()) else {
         return Err(Fail::Refused);
     };
     digest.text(indented.as_str());
-    let before = TokenStream::parse_unmapped(alloc, text)?;
-    let after = TokenStream::parse_unmapped(alloc, indented.as_str())?;
+    let before = TokenStream::parse_unmapped(text)?;
+    let after = TokenStream::parse_unmapped(indented.as_str())?;
     digest.number(before.same_tokens(&after) as u64);
     Ok(())
 }
@@ -86,14 +84,14 @@ fn colour(text: &str, digest: &mut Digest) {
 }
 
 // Why the text doesn't parse, and what helps.
-fn check(alloc: Global, text: &str, digest: &mut Digest) -> Result<(), Fail> {
-    match explain(alloc, text) {
+fn check(text: &str, digest: &mut Digest) -> Result<(), Fail> {
+    match explain(text) {
         Ok(None) => digest.number(0),
         Ok(Some(explained)) => {
             digest.text(explained.reason.name());
             digest.number(explained.at.start as u64);
             digest.number(explained.at.end as u64);
-            let hint = advice(alloc, text, &explained)?;
+            let hint = advice(text, &explained)?;
             digest.number(hint.is_some() as u64);
         }
         Err(_) => return Err(Fail::Refused),
@@ -102,8 +100,8 @@ fn check(alloc: Global, text: &str, digest: &mut Digest) -> Result<(), Fail> {
 }
 
 // For each run of white space, the line's indentation by the groups that are open.
-fn indentation(alloc: Global, text: &str) -> Result<Vec<White>, AllocError> {
-    let mut choices = Vec::new(alloc);
+fn indentation(text: &str) -> Result<Vec<White>, AllocError> {
+    let mut choices = Vec::new();
     let mut open: usize = 0;
     let mut in_white = false;
     let mut walk = pieces(text);
@@ -117,7 +115,7 @@ fn indentation(alloc: Global, text: &str) -> Result<Vec<White>, AllocError> {
         };
         if is_white && !in_white {
             let spaces = open.min(20) * 3;
-            choices.push(White::Lines { tabs: 0, spaces })?;
+            choices.push_fallibly(White::Lines { tabs: 0, spaces })?;
         }
         in_white = is_white;
         open = match next.piece.kind {

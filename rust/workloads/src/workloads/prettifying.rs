@@ -1,7 +1,7 @@
 // Made from crates/workloads/src/prettifying.rt by rust/erase: change that file, not this one.
 //! Making generated code readable.
 
-use crate::shim::prelude::{String, format};
+use crate::shim::prelude::format;
 
 use crate::workloads::digest::Digest;
 use crate::workloads::fails::Fail;
@@ -10,11 +10,9 @@ use crate::workloads::texts::{size, source};
 use proved::pretty_printer::to_pretty_string;
 use proved::proc_macro2::TokenStream;
 use proved::relayout::with_doc_comments;
-use crate::shim::alloc::Global;
 
 /// Prints so many texts on one line each, as generators do, reads that, and writes it for people.
 pub fn run(
-    alloc: Global,
     random: &mut Random,
     files: u64,
     items: &[&str],
@@ -22,11 +20,11 @@ pub fn run(
 ) -> Result<(), Fail> {
     for _ in 0..files {
         let bytes = size(random);
-        let text = source(alloc, random, items, bytes)?;
-        let line = one_line(alloc, text.as_str())?;
-        let stream = TokenStream::parse_unmapped(alloc, line.as_str())?;
-        let pretty = to_pretty_string(alloc, &stream)?;
-        match with_doc_comments(alloc, pretty.as_str()) {
+        let text = source(random, items, bytes)?;
+        let line = one_line(text.as_str())?;
+        let stream = TokenStream::parse_unmapped(line.as_str())?;
+        let pretty = to_pretty_string(&stream)?;
+        match with_doc_comments(pretty.as_str()) {
             Ok(shown) => digest.text(shown.as_str()),
             Err(_) => return Err(Fail::Refused),
         }
@@ -35,7 +33,7 @@ pub fn run(
 }
 
 // The tokens of a text, on one line.
-fn one_line(alloc: Global, text: &str) -> Result<String, Fail> {
-    let stream = TokenStream::parse_unmapped(alloc, text)?;
-    Ok(format!(in alloc; "{stream}")?)
+fn one_line(text: &str) -> Result<String, Fail> {
+    let stream = TokenStream::parse_unmapped(text)?;
+    Ok(format!("{stream}")?)
 }

@@ -1,7 +1,7 @@
 // Made from crates/workloads/src/reading.rt by rust/erase: change that file, not this one.
 //! Reading a code base into one map: its trees, where each of them stands, its text, and its items.
 
-use crate::shim::prelude::{Vec, format};
+use crate::shim::prelude::{Grow, format};
 
 use crate::workloads::digest::Digest;
 use crate::workloads::fails::Fail;
@@ -9,24 +9,23 @@ use crate::workloads::random::Random;
 use crate::workloads::texts::{size, source};
 use proved::declarations::parse_file;
 use proved::proc_macro2::{SourceMap, Span, TokenStream, TokenTree};
-use crate::shim::alloc::{AllocError, Global};
+use crate::shim::alloc::AllocError;
 
 /// Reads so many files into one map, and asks about each tree of each file. The trees of all files are kept.
 pub fn run(
-    alloc: Global,
     random: &mut Random,
     files: u64,
     items: &[&str],
     digest: &mut Digest,
 ) -> Result<(), Fail> {
-    let mut map = SourceMap::new(alloc);
-    let mut streams = Vec::new(alloc);
+    let mut map = SourceMap::new();
+    let mut streams = Vec::new();
     for _ in 0..files {
         let bytes = size(random);
-        let text = source(alloc, random, items, bytes)?;
+        let text = source(random, items, bytes)?;
         let stream = TokenStream::from_str(text.as_str(), &mut map)?;
-        ask(alloc, &stream, &mut map, digest)?;
-        streams.push(stream)?;
+        ask(&stream, &mut map, digest)?;
+        streams.push_fallibly(stream)?;
     }
     // The way back over all files, of which a span's is one of many.
     for stream in streams.as_slice() {
@@ -37,13 +36,12 @@ pub fn run(
 
 // What is asked of a file once it is read.
 fn ask(
-    alloc: Global,
     stream: &TokenStream,
     map: &mut SourceMap,
     digest: &mut Digest,
 ) -> Result<(), Fail>
 {
-    ask_items(alloc, stream, map, digest)?;
+    ask_items(stream, map, digest)?;
     ask_places(stream, map, digest)?;
     ask_bytes(stream, map, digest)?;
     ask_texts(stream, map, digest)?;
@@ -52,7 +50,6 @@ fn ask(
 
 // The items of a file: kinds, names, and the line of each.
 fn ask_items(
-    alloc: Global,
     stream: &TokenStream,
     map: &SourceMap,
     digest: &mut Digest,
@@ -65,7 +62,7 @@ fn ask_items(
         if let Ok(item) = item {
             digest.number(item.kind as u64);
             if let Some(name) = item.name {
-                digest.text(format!(in alloc; "{name}")?.as_str());
+                digest.text(format!("{name}")?.as_str());
                 if map.holds(name.span()) {
                     digest.number(name.span().start(map).line as u64);
                 }
@@ -79,7 +76,7 @@ fn ask_items(
 fn ask_places(stream: &TokenStream, map: &SourceMap, digest: &mut Digest) -> Result<(), AllocError>
 {
     let mut walk = stream.walk();
-    while let Some(tree) = walk.next()? {
+    while let Some(tree) = walk.try_next()? {
         ask_place(tree.span(), map, digest);
     }
     Ok(())
@@ -101,7 +98,7 @@ fn ask_bytes(
 ) -> Result<(), AllocError>
 {
     let mut walk = stream.walk();
-    while let Some(tree) = walk.next()? {
+    while let Some(tree) = walk.try_next()? {
         ask_range(tree.span(), map, digest);
     }
     Ok(())
@@ -122,7 +119,7 @@ fn ask_texts(
 ) -> Result<(), AllocError>
 {
     let mut walk = stream.walk();
-    while let Some(tree) = walk.next()? {
+    while let Some(tree) = walk.try_next()? {
         ask_text(tree, tree.span(), map, digest)?;
     }
     Ok(())

@@ -1,27 +1,26 @@
 // Made from crates/workloads/src/texts.rt by rust/erase: change that file, not this one.
 //! The texts that jobs read: items of a file of sources, put together by a seed, and tables.
 
-use crate::shim::prelude::String;
+use crate::shim::prelude::{Grow, GrowText};
 
 use crate::workloads::random::Random;
-use crate::shim::alloc::{AllocError, Global};
+use crate::shim::alloc::AllocError;
 
 /// A text of so many bytes, or somewhat more: items at random, after a line that names it.
 pub fn source(
-    alloc: Global,
     random: &mut Random,
     items: &[&str],
     bytes: usize,
 ) -> Result<String, AllocError> {
-    let mut text = String::with_capacity(alloc, bytes)?;
+    let mut text = String::with_capacity_fallibly(bytes)?;
     let number = random.next();
     write!(text, "// Source {number}.\n")?;
     for _ in 0..bytes {
         if text.len() >= bytes {
             break;
         }
-        text.push_str(random.one_of(items))?;
-        text.push_str("\n\n")?;
+        text.push_str_fallibly(random.one_of(items))?;
+        text.push_str_fallibly("\n\n")?;
     }
     Ok(text)
 }
@@ -33,14 +32,14 @@ pub fn size(random: &mut Random) -> usize {
 }
 
 /// A table of so many rows, as generators write them: numbers of all kinds, and strings full of escapes.
-pub fn table(alloc: Global, random: &mut Random, rows: usize) -> Result<String, AllocError> {
-    let mut text = String::new(alloc);
+pub fn table(random: &mut Random, rows: usize) -> Result<String, AllocError> {
+    let mut text = String::new();
     let number = random.next();
     write!(text, "pub static TABLE_{number}: &[Row] = &[\n")?;
     for _ in 0..rows {
         push_row(&mut text, random)?;
     }
-    text.push_str("];\n")?;
+    text.push_str_fallibly("];\n")?;
     Ok(text)
 }
 
@@ -61,18 +60,18 @@ fn push_row(text: &mut String, random: &mut Random) -> Result<(), AllocError> {
         "name: \"row\\t{id}\\n\", key: '\\u{{{high:x}}}', bytes: b\"\\x{low:02}\\0\\\\{whole}\", "
     )?;
     push_words(text, random)?;
-    text.push_str("},\n")
+    text.push_str_fallibly("},\n")
 }
 
 // A string of some words with escapes between them, and a character.
 fn push_words(text: &mut String, random: &mut Random) -> Result<(), AllocError> {
-    text.push_str("text: \"")?;
+    text.push_str_fallibly("text: \"")?;
     for _ in 0..random.below(6) {
-        text.push_str(random.one_of(WORDS))?;
+        text.push_str_fallibly(random.one_of(WORDS))?;
     }
-    text.push_str("\", sign: '")?;
-    text.push_str(random.one_of(SIGNS))?;
-    text.push_str("' ")
+    text.push_str_fallibly("\", sign: '")?;
+    text.push_str_fallibly(random.one_of(SIGNS))?;
+    text.push_str_fallibly("' ")
 }
 
 const WORDS: &[&str] = &[

@@ -60,14 +60,24 @@ fn unicode_size(bytes: &[u8], kind: StringKind) -> Option<usize>
     Some(digits + 3)
 }
 
+/// How many bytes the escape of one letter has at the front, after its backslash.
+#[inline(always)]
+fn letter_size(bytes: &[u8], kind: StringKind) -> Option<usize>
+{
+    let first = byte_at(bytes, 0);
+    if first.is_ascii() && is_letter(first as char, kind) {
+        return Some(1);
+    }
+    None
+}
+
 /// How many bytes the escape has at the front, after its backslash: a letter, `x` and two digits, or the code of a
 /// character.
 #[inline(always)]
 fn escape_size(bytes: &[u8], kind: StringKind) -> Option<usize>
 {
-    let first = byte_at(bytes, 0);
-    if first.is_ascii() && is_letter(first as char, kind) {
-        return Some(1);
+    if let Some(size) = letter_size(bytes, kind) {
+        return Some(size);
     }
     match hex_size(bytes, kind) {
         Some(size) => Some(size),
@@ -76,24 +86,47 @@ fn escape_size(bytes: &[u8], kind: StringKind) -> Option<usize>
 }
 
 /// How many bytes the literal between single quotes has that stands at the front, after its first quote: one of ASCII
-/// or an escape, and the other quote.
+/// that stands for itself, and the other quote.
 #[inline(always)]
-fn single_size(inside: &[u8], kind: StringKind) -> Option<usize>
+fn bare_size(inside: &[u8], kind: StringKind) -> Option<usize>
 {
     let byte = byte_at(inside, 0);
-    if byte == b'\\' {
-        let unit = escape_size(&inside[1..], kind)? + 1;
-        if byte_at(inside, unit) == b'\'' && ends_literal(byte_at(inside, unit + 1)) {
-            return Some(unit + 1);
-        }
-        return None;
-    }
     if byte.is_ascii()
         && byte_at(inside, 1) == b'\''
         && stands_bare(byte as char, kind)
         && ends_literal(byte_at(inside, 2))
     {
         return Some(2);
+    }
+    None
+}
+
+/// How many bytes the literal between single quotes has that stands at the front, after its first quote: a backslash
+/// with a letter, and the other quote.
+#[inline(always)]
+fn backslash_size(inside: &[u8], kind: StringKind) -> Option<usize>
+{
+    if byte_at(inside, 0) != b'\\' {
+        return None;
+    }
+    let unit = letter_size(&inside[1..], kind)? + 1;
+    if byte_at(inside, unit) == b'\'' && ends_literal(byte_at(inside, unit + 1)) {
+        return Some(unit + 1);
+    }
+    None
+}
+
+/// How many bytes the literal between single quotes has that stands at the front, after its first quote: one of ASCII
+/// or an escape, and the other quote.
+#[inline(always)]
+fn single_size(inside: &[u8], kind: StringKind) -> Option<usize>
+{
+    if byte_at(inside, 0) != b'\\' {
+        return bare_size(inside, kind);
+    }
+    let unit = escape_size(&inside[1..], kind)? + 1;
+    if byte_at(inside, unit) == b'\'' && ends_literal(byte_at(inside, unit + 1)) {
+        return Some(unit + 1);
     }
     None
 }
@@ -109,6 +142,37 @@ pub fn character_size(text: &str) -> Option<usize>
     Some(single_size(&bytes[1..], StringKind::Plain)? + 1)
 }
 
+/// The extent of the character at the front, between its quotes one of ASCII that stands for itself.
+#[inline(always)]
+pub fn bare_character(text: &str) -> Option<Extent>
+{
+    let bytes = text.as_bytes();
+    if byte_at(bytes, 0) != b'\'' {
+        return None;
+    }
+    let size = bare_size(&bytes[1..], StringKind::Plain)?;
+    Some(ascii_extent(size + 1))
+}
+
+/// The extent of the character at the front, between its quotes a backslash with a letter.
+#[inline(always)]
+pub fn letter_character(text: &str) -> Option<Extent>
+{
+    let bytes = text.as_bytes();
+    if byte_at(bytes, 0) != b'\'' {
+        return None;
+    }
+    let size = backslash_size(&bytes[1..], StringKind::Plain)?;
+    Some(ascii_extent(size + 1))
+}
+
+/// The extent of the character at the front, between its quotes one of ASCII or an escape.
+#[inline(always)]
+pub fn character(text: &str) -> Option<Extent>
+{
+    Some(ascii_extent(character_size(text)?))
+}
+
 /// How many bytes the byte literal has that stands at the front.
 #[inline(always)]
 pub fn byte_size(text: &str) -> Option<usize>
@@ -121,7 +185,7 @@ pub fn byte_size(text: &str) -> Option<usize>
 }
 
 /// The extent of the character that stands at the front, between its quotes one that stands for itself, past ASCII too.
-#[inline(never)]
+#[inline(always)]
 pub fn wide_character(text: &str) -> Option<Extent>
 {
     let (quote, inside) = split_first(text)?;
@@ -204,21 +268,33 @@ fn body_size(inside: &str, stretch: usize, kind: StringKind) -> Option<usize>
     None
 }
 
+/// The extent of the string after whose first quote `inside` stands: so many bytes of ASCII that stand for themselves,
+/// and the other quote.
+#[inline(always)]
+pub fn plain_string(inside: &str, stretch: usize) -> Option<Extent>
+{
+    let bytes = inside.as_bytes();
+    if byte_at(bytes, stretch) == b'"' && ends_literal(byte_at(bytes, stretch + 1)) {
+        return Some(ascii_extent(stretch + 2));
+    }
+    None
+}
+
+/// The extent of the string that `text` begins with, after whose first quote `inside` stands: so many bytes of ASCII
+/// that stand for themselves, and then an escape.
+#[inline(always)]
+pub fn escaped_string(text: &str, inside: &str, stretch: usize) -> Option<Extent>
+{
+    let size = body_size(inside, stretch, StringKind::Plain)?;
+    Some(counted(text, size + 1))
+}
+
 /// The extent of the string that stands at the front, with no CR.
 #[inline(always)]
 pub fn string(text: &str) -> Option<Extent>
 {
     let inside = strip(text, "\"")?;
-    let bytes = inside.as_bytes();
-    // Few are empty or begin with an escape: here the search begins at once.
-    let stretch = memchr3(b'"', b'\\', b'\r', bytes)?;
-    // Most strings are one stretch of ASCII, whose characters want no count.
-    if bytes[stretch] == b'"' && bytes[..stretch].is_ascii() {
-        if ends_literal(byte_at(bytes, stretch + 1)) {
-            return Some(ascii_extent(stretch + 2));
-        }
-        return None;
-    }
+    let stretch = memchr3(b'"', b'\\', b'\r', inside.as_bytes())?;
     let size = body_size(inside, stretch, StringKind::Plain)?;
     Some(counted(text, size + 1))
 }

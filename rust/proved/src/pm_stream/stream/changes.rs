@@ -1,13 +1,13 @@
 // Made from crates/pm_stream/src/stream/changes.rt by rust/erase: change that file, not this one.
 //! How the list of a stream is changed, which other streams may share.
 
-use crate::shim::prelude::Vec;
+use crate::shim::prelude::{Grow, GrowList};
 
 use super::owned::unshared;
 use super::{Group, TokenStream, TokenTree};
 use crate::pm_token::parts::split_minus;
 use crate::pm_token::{Ident, Literal, Punct};
-use crate::shim::alloc::{AllocError, Global};
+use crate::shim::alloc::AllocError;
 use crate::shim::rc::Rc;
 
 /// How many trees the first list of a stream has room for.
@@ -34,7 +34,7 @@ impl TokenStream {
     {
         // It computes nothing: proofs learn what is true of every group.
         group.span();
-        push(self.alloc, &mut self.trees, TokenTree::Group(group))
+        push(&mut self.trees, TokenTree::Group(group))
     }
 
     /// Puts the identifier after the trees. Where memory runs out the stream stays as it was.
@@ -43,7 +43,7 @@ impl TokenStream {
     {
         // It computes nothing: proofs learn what is true of every identifier.
         ident.span();
-        push(self.alloc, &mut self.trees, TokenTree::Ident(ident))
+        push(&mut self.trees, TokenTree::Ident(ident))
     }
 
     /// Puts the mark after the trees. Where memory runs out the stream stays as it was.
@@ -52,7 +52,7 @@ impl TokenStream {
     {
         // It computes nothing: proofs learn what is true of every mark.
         punct.span();
-        push(self.alloc, &mut self.trees, TokenTree::Punct(punct))
+        push(&mut self.trees, TokenTree::Punct(punct))
     }
 
     /// Puts the literal after the trees, a negative one as its `-` and the rest. Where memory runs out the stream
@@ -64,15 +64,15 @@ impl TokenStream {
         literal.span();
         let (minus, literal) = split_minus(literal);
         match minus {
-            None => push(self.alloc, &mut self.trees, TokenTree::Literal(literal)),
-            Some(minus) => push_negative(self.alloc, &mut self.trees, minus, literal),
+            None => push(&mut self.trees, TokenTree::Literal(literal)),
+            Some(minus) => push_negative(&mut self.trees, minus, literal),
         }
     }
 
     /// Puts the trees of the other stream after its own, all of them or, where memory runs out, none.
     pub(crate) fn append(&mut self, more: TokenStream) -> Result<(), AllocError>
     {
-        let (_, trees) = { let mut whole = more; (whole.alloc, whole.trees.take()) };
+        let trees = { let mut whole = more; whole.trees.take() };
         match trees {
             Some(more) => append_shared(&mut self.trees, more),
             None => Ok(()),
@@ -83,12 +83,11 @@ impl TokenStream {
 // Puts the tree after those of a list, which is copied first where it is shared.
 #[inline(always)]
 fn push(
-    alloc: Global,
     trees: &mut Option<Rc<Vec<TokenTree>>>,
     tree: TokenTree,
 ) -> Result<(), AllocError>
 {
-    make_list(alloc, trees)?;
+    make_list(trees)?;
     match trees {
         Some(shared) => push_onto(Rc::make_mut(shared)?, tree),
         None => unreachable!(),
@@ -98,13 +97,12 @@ fn push(
 // Puts both trees of a negative literal after those of a list, or none.
 #[inline(never)]
 fn push_negative(
-    alloc: Global,
     trees: &mut Option<Rc<Vec<TokenTree>>>,
     minus: Punct,
     literal: Literal,
 ) -> Result<(), AllocError>
 {
-    make_list(alloc, trees)?;
+    make_list(trees)?;
     match trees {
         Some(shared) => push_two(Rc::make_mut(shared)?, minus, literal),
         None => unreachable!(),
@@ -113,35 +111,35 @@ fn push_negative(
 
 // Makes a list with no trees, where there is no list.
 #[inline(always)]
-fn make_list(alloc: Global, trees: &mut Option<Rc<Vec<TokenTree>>>) -> Result<(), AllocError>
+fn make_list(trees: &mut Option<Rc<Vec<TokenTree>>>) -> Result<(), AllocError>
 {
     if trees.is_none() {
-        *trees = Some(first_list(alloc)?);
+        *trees = Some(first_list()?);
     }
     Ok(())
 }
 
 // A list with no trees.
 #[inline(never)]
-fn first_list(alloc: Global) -> Result<Rc<Vec<TokenTree>>, AllocError>
+fn first_list() -> Result<Rc<Vec<TokenTree>>, AllocError>
 {
-    Ok(Rc::new(alloc, Vec::with_capacity(alloc, FIRST_ROOM)?)?)
+    Ok(Rc::new(Vec::with_capacity_fallibly(FIRST_ROOM)?)?)
 }
 
 // Puts the tree after the others.
 #[inline(always)]
 fn push_onto(trees: &mut Vec<TokenTree>, tree: TokenTree) -> Result<(), AllocError>
 {
-    trees.push(tree)?;
+    trees.push_fallibly(tree)?;
     Ok(())
 }
 
 // Puts both trees after the others, or none: room for both is there before the first is put in.
 fn push_two(trees: &mut Vec<TokenTree>, minus: Punct, literal: Literal) -> Result<(), AllocError>
 {
-    trees.reserve(2)?;
-    trees.push(TokenTree::Punct(minus))?;
-    trees.push(TokenTree::Literal(literal))?;
+    trees.reserve_fallibly(2)?;
+    trees.push_fallibly(TokenTree::Punct(minus))?;
+    trees.push_fallibly(TokenTree::Literal(literal))?;
     Ok(())
 }
 
@@ -162,6 +160,6 @@ fn append_shared(
 // Puts these trees after the others, all of them or none.
 fn push_all(trees: &mut Vec<TokenTree>, mut more: Vec<TokenTree>) -> Result<(), AllocError>
 {
-    trees.append(&mut more)?;
+    trees.append_fallibly(&mut more)?;
     Ok(())
 }

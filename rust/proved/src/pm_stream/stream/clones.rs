@@ -1,7 +1,7 @@
 // Made from crates/pm_stream/src/stream/clones.rt by rust/erase: change that file, not this one.
 //! Copies of streams and trees.
 
-use crate::shim::prelude::Clone;
+use crate::shim::prelude::TryClone;
 
 use super::{Group, TokenStream, TokenTree};
 use crate::shim::alloc::AllocError;
@@ -9,42 +9,47 @@ use crate::shim::alloc::AllocError;
 /// The same trees. They are shared until one of the two streams is changed, so that this takes no
 /// memory, however many they are. It fails only where they have more owners than can be counted, and
 /// never without trees.
-impl Clone for TokenStream {
-    fn clone(&self) -> Result<TokenStream, AllocError> {
+impl TryClone for TokenStream {
+    fn try_clone(&self) -> Result<TokenStream, AllocError> {
         if self.is_empty() {
-            return Ok(TokenStream::new(self.alloc));
+            return Ok(TokenStream::new());
         }
         let trees = match &self.trees {
-            Some(trees) => Some(trees.clone()?),
+            Some(trees) => Some(trees.try_clone()?),
             None => None,
         };
         Ok(TokenStream {
-            alloc: self.alloc,
             trees,
         })
     }
 }
 
+crate::shim::copied!(TokenStream);
+
 /// The same tree, with the same spans. Fails where memory for its text runs out.
-impl Clone for TokenTree {
+impl TryClone for TokenTree {
     #[inline(always)]
-    fn clone(&self) -> Result<TokenTree, AllocError> {
+    fn try_clone(&self) -> Result<TokenTree, AllocError> {
         match self {
-            TokenTree::Group(group) => Ok(TokenTree::Group(group.clone()?)),
-            TokenTree::Ident(ident) => Ok(TokenTree::Ident(ident.clone()?)),
-            TokenTree::Punct(punct) => Ok(TokenTree::Punct(punct.clone()?)),
-            TokenTree::Literal(literal) => Ok(TokenTree::Literal(literal.clone()?)),
+            TokenTree::Group(group) => Ok(TokenTree::Group(group.try_clone()?)),
+            TokenTree::Ident(ident) => Ok(TokenTree::Ident(ident.try_clone()?)),
+            TokenTree::Punct(punct) => Ok(TokenTree::Punct(punct.try_clone()?)),
+            TokenTree::Literal(literal) => Ok(TokenTree::Literal(literal.try_clone()?)),
         }
     }
 }
 
+crate::shim::copied!(TokenTree);
+
 /// The same group, whose trees are shared as those of a stream are.
-impl Clone for Group {
-    fn clone(&self) -> Result<Group, AllocError> {
+impl TryClone for Group {
+    fn try_clone(&self) -> Result<Group, AllocError> {
         Ok(Group {
             delimiter: self.delimiter,
-            stream: self.stream.clone()?,
+            stream: self.stream.try_clone()?,
             span: self.span,
         })
     }
 }
+
+crate::shim::copied!(Group);

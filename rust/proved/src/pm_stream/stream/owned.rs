@@ -1,10 +1,8 @@
 // Made from crates/pm_stream/src/stream/owned.rt by rust/erase: change that file, not this one.
 //! The trees of a stream as a list of one owner.
 
-use crate::shim::prelude::Vec;
-
 use super::{TokenStream, TokenTree};
-use crate::shim::alloc::{AllocError, Global};
+use crate::shim::alloc::AllocError;
 use crate::shim::rc::Rc;
 
 impl TokenStream {
@@ -12,16 +10,16 @@ impl TokenStream {
     /// fails where memory runs out.
     pub(crate) fn into_list(self) -> Result<Vec<TokenTree>, AllocError>
     {
-        let (alloc, trees) = { let mut whole = self; (whole.alloc, whole.trees.take()) };
-        owned(alloc, trees)
+        let trees = { let mut whole = self; whole.trees.take() };
+        owned(trees)
     }
 }
 
 // The trees that a stream holds: the list itself where this was its last owner, and else a copy.
-fn owned(alloc: Global, trees: Option<Rc<Vec<TokenTree>>>) -> Result<Vec<TokenTree>, AllocError>
+fn owned(trees: Option<Rc<Vec<TokenTree>>>) -> Result<Vec<TokenTree>, AllocError>
 {
     match trees {
-        None => Ok(Vec::new(alloc)),
+        None => Ok(Vec::new()),
         Some(shared) => unshared(shared),
     }
 }

@@ -3,11 +3,11 @@
 
 use crate::lexical::is_reserved;
 use crate::shim::alloc::AllocError;
-use crate::shim::error::Error;
 use crate::shim::fmt;
 
 /// Why an identifier was not made: the first of these that holds of its name.
-#[derive(Debug)]
+#[derive(Debug, PartialEq, Eq)]
+#[non_exhaustive]
 pub enum IdentError {
     /// It has no character.
     Empty,
@@ -35,8 +35,6 @@ impl fmt::Display for IdentError {
 }
 
 crate::shim::display!(IdentError);
-
-impl Error for IdentError {}
 
 impl From<AllocError> for IdentError {
     fn from(error: AllocError) -> IdentError {

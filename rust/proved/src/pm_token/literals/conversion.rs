@@ -3,9 +3,11 @@
 
 use crate::literal_escaper::EscapeError;
 use crate::shim::alloc::{AllocError, AllocFailed};
+use crate::shim::fmt;
 
 /// Why the value of a literal was not answered.
 #[derive(Debug, PartialEq, Eq)]
+#[non_exhaustive]
 pub enum ConversionErrorKind {
     /// The last fault of the content, where a warning is none: `BareCarriageReturn` for `"a` CR LF
     /// `b"`.
@@ -15,6 +17,20 @@ pub enum ConversionErrorKind {
     /// Memory ran out.
     Memory(AllocError),
 }
+
+impl fmt::Display for ConversionErrorKind {
+    fn fmt<W: fmt::Write>(&self, f: &mut fmt::Formatter<W>) -> fmt::Result {
+        match self {
+            ConversionErrorKind::FailedToUnescape(_) => f.write_str("cannot unescape the literal"),
+            ConversionErrorKind::InvalidLiteralKind => {
+                f.write_str("the literal is of another kind or has a suffix")
+            }
+            ConversionErrorKind::Memory(_) => f.write_str("no memory"),
+        }
+    }
+}
+
+crate::shim::display!(ConversionErrorKind);
 
 impl From<EscapeError> for ConversionErrorKind {
     fn from(fault: EscapeError) -> ConversionErrorKind {

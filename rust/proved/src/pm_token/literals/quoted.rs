@@ -5,7 +5,7 @@ use crate::pm_token::escapes::{TextBuilder, stands_for_itself};
 use crate::pm_token::literals::Literal;
 use crate::pm_token::symbols::Symbol;
 use crate::pm_span::Span;
-use crate::shim::alloc::{AllocError, Global};
+use crate::shim::alloc::AllocError;
 use crate::shim::str;
 
 /// The text of the character between quotes, if it is ASCII and stands for itself. It takes no memory.
@@ -23,16 +23,16 @@ fn plain_character(c: char) -> Option<Symbol>
 }
 
 /// The text of the character between quotes. Fails where memory runs out.
-fn between_quotes(alloc: Global, c: char) -> Result<Symbol, AllocError>
+fn between_quotes(c: char) -> Result<Symbol, AllocError>
 {
     if let Some(text) = plain_character(c) {
         return Ok(text);
     }
-    let mut builder = TextBuilder::new(alloc);
+    let mut builder = TextBuilder::new();
     builder.push('\'')?;
     builder.push_escaped('\'', c, "")?;
     builder.push('\'')?;
-    let text = builder.finish(alloc)?;
+    let text = builder.finish()?;
     Ok(text)
 }
 
@@ -40,61 +40,61 @@ fn between_quotes(alloc: Global, c: char) -> Result<Symbol, AllocError>
 impl Literal {
     /// The string literal of the text, by the rule `string-text`, with the span 0..0. For CR, a quote
     /// and U+0301 it is `"\r\"\u{301}"`. Fails where memory runs out.
-    pub fn string(alloc: Global, text: &str) -> Result<Literal, AllocError>
+    pub fn string(text: &str) -> Result<Literal, AllocError>
     {
-        Literal::string_at(alloc, text, Span::call_site())
+        Literal::string_at(text, Span::call_site())
     }
 
     /// The string literal of the text, where it stands. Fails where memory runs out.
-    pub(crate) fn string_at(alloc: Global, text: &str, span: Span) -> Result<Literal, AllocError>
+    pub(crate) fn string_at(text: &str, span: Span) -> Result<Literal, AllocError>
     {
         // Most texts have nothing to escape. One that has grows.
-        let mut builder = TextBuilder::with_room(alloc, text.len() + 2)?;
+        let mut builder = TextBuilder::with_room(text.len() + 2)?;
         builder.push('"')?;
         builder.push_content('"', text)?;
         builder.push('"')?;
         Ok(Literal {
-            text: builder.finish(alloc)?,
+            text: builder.finish()?,
             span,
         })
     }
 
     /// The literal of the character, by the rule `character-text`, with the span 0..0. For `'` it is
     /// `'\''`, for `"` it is `'"'`. Fails where memory runs out.
-    pub fn character(alloc: Global, c: char) -> Result<Literal, AllocError>
+    pub fn character(c: char) -> Result<Literal, AllocError>
     {
         Ok(Literal {
-            text: between_quotes(alloc, c)?,
+            text: between_quotes(c)?,
             span: Span::call_site(),
         })
     }
 
     /// The literal of the byte, by the rule `byte-text`, with the span 0..0. For 0x1F it is
     /// `b'\x1F'`. Fails where memory runs out.
-    pub fn byte_character(alloc: Global, byte: u8) -> Result<Literal, AllocError>
+    pub fn byte_character(byte: u8) -> Result<Literal, AllocError>
     {
-        let mut builder = TextBuilder::new(alloc);
+        let mut builder = TextBuilder::new();
         builder.push('b')?;
         builder.push('\'')?;
         builder.push_byte(b'\'', byte, &[])?;
         builder.push('\'')?;
         Ok(Literal {
-            text: builder.finish(alloc)?,
+            text: builder.finish()?,
             span: Span::call_site(),
         })
     }
 
     /// The byte string literal of the bytes, by the rule `byte-string-text`, with the span 0..0. For
     /// `"`, 0 and `7` it is `b"\"\x007"`. Fails where memory runs out.
-    pub fn byte_string(alloc: Global, bytes: &[u8]) -> Result<Literal, AllocError>
+    pub fn byte_string(bytes: &[u8]) -> Result<Literal, AllocError>
     {
-        let mut builder = TextBuilder::new(alloc);
+        let mut builder = TextBuilder::new();
         builder.push('b')?;
         builder.push('"')?;
         builder.push_bytes(b'"', bytes)?;
         builder.push('"')?;
         Ok(Literal {
-            text: builder.finish(alloc)?,
+            text: builder.finish()?,
             span: Span::call_site(),
         })
     }
@@ -102,15 +102,15 @@ impl Literal {
     /// The C string literal of the bytes, none of which is zero, by the rule `c-string-text`: the
     /// zero that ends a C string is no part of its literal, whose span is 0..0. For 0x7F, 0xFF and
     /// the bytes of U+0333 it is `c"\u{7f}\xFF\u{333}"`. Fails where memory runs out.
-    pub fn c_string(alloc: Global, bytes: &[u8]) -> Result<Literal, AllocError>
+    pub fn c_string(bytes: &[u8]) -> Result<Literal, AllocError>
     {
-        let mut builder = TextBuilder::new(alloc);
+        let mut builder = TextBuilder::new();
         builder.push('c')?;
         builder.push('"')?;
         builder.push_c_string(bytes)?;
         builder.push('"')?;
         Ok(Literal {
-            text: builder.finish(alloc)?,
+            text: builder.finish()?,
             span: Span::call_site(),
         })
     }

@@ -1,8 +1,6 @@
 // Made from crates/pm_token/src/literals/values.rt by rust/erase: change that file, not this one.
 //! The values of literals.
 
-use crate::shim::prelude::{String, Vec};
-
 mod content;
 mod raw;
 mod single;
@@ -14,7 +12,6 @@ use crate::pm_token::literals::values::content::{cooked_content, raw_content};
 use crate::pm_token::literals::values::raw::{raw_bytes, raw_c_string, raw_string};
 use crate::pm_token::literals::values::single::{byte_of, character_of};
 use crate::pm_token::literals::values::unescaped::{unescaped_bytes, unescaped_c_string, unescaped_string};
-use crate::shim::alloc::Global;
 
 impl Literal {
     /// The value of a string literal without a suffix (`string-value`): of `".."` the characters that
@@ -25,14 +22,14 @@ impl Literal {
     /// growth was refused, which is never so of an empty value.
     ///
     /// Of `"a\tb"` it is `a`, a tab and `b`; of `r#"\"#` a backslash. `"a"s` and `b"a"` are refused.
-    pub fn str_value(&self, alloc: Global) -> Result<String, ConversionErrorKind>
+    pub fn str_value(&self) -> Result<String, ConversionErrorKind>
     {
         let text = self.text();
         if let Some(content) = cooked_content(text, "\"") {
-            return unescaped_string(alloc, content);
+            return unescaped_string(content);
         }
         match raw_content(text, "r") {
-            Some(content) => Ok(raw_string(alloc, content)?),
+            Some(content) => Ok(raw_string(content)?),
             None => Err(ConversionErrorKind::InvalidLiteralKind),
         }
     }
@@ -41,14 +38,14 @@ impl Literal {
     /// that of a string: of `b".."` the bytes that its items give; of `br".."` the bytes of its content.
     ///
     /// Of `b"\xFF"` it is the byte 0xFF; of `br"\x"` the bytes 0x5C and 0x78. `"a"` is refused.
-    pub fn byte_str_value(&self, alloc: Global) -> Result<Vec<u8>, ConversionErrorKind>
+    pub fn byte_str_value(&self) -> Result<Vec<u8>, ConversionErrorKind>
     {
         let text = self.text();
         if let Some(content) = cooked_content(text, "b\"") {
-            return unescaped_bytes(alloc, content);
+            return unescaped_bytes(content);
         }
         match raw_content(text, "br") {
-            Some(content) => Ok(raw_bytes(alloc, content)?),
+            Some(content) => Ok(raw_bytes(content)?),
             None => Err(ConversionErrorKind::InvalidLiteralKind),
         }
     }
@@ -58,14 +55,14 @@ impl Literal {
     /// being in UTF-8; of `cr".."` the bytes of its content.
     ///
     /// Of `c"a\x80"` it is the bytes 0x61, 0x80 and 0. `"a"` is refused.
-    pub fn cstr_value(&self, alloc: Global) -> Result<Vec<u8>, ConversionErrorKind>
+    pub fn cstr_value(&self) -> Result<Vec<u8>, ConversionErrorKind>
     {
         let text = self.text();
         if let Some(content) = cooked_content(text, "c\"") {
-            return unescaped_c_string(alloc, content);
+            return unescaped_c_string(content);
         }
         match raw_content(text, "cr") {
-            Some(content) => Ok(raw_c_string(alloc, content)?),
+            Some(content) => Ok(raw_c_string(content)?),
             None => Err(ConversionErrorKind::InvalidLiteralKind),
         }
     }

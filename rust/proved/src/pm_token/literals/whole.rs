@@ -4,9 +4,9 @@
 use crate::pm_token::errors::{LexError, ParseError};
 use crate::pm_token::literals::Literal;
 use crate::lexical::literal_at;
-use crate::pm_span::parts::{add_file, allocator, char_count, fits, span_of};
+use crate::pm_span::parts::{add_file, char_count, fits, span_of};
 use crate::pm_span::{SourceMap, Span};
-use crate::shim::alloc::{AllocError, Global};
+use crate::shim::alloc::AllocError;
 
 impl Literal {
     /// The literal that the whole text is, or `-` and one that begins with a digit
@@ -25,7 +25,7 @@ impl Literal {
             return Err(ParseError::MapFull);
         };
         let span = span_of(lo, lo + char_count(text) as u32);
-        let literal = Literal::whole_at(allocator(map), text, span);
+        let literal = Literal::whole_at(text, span);
         if let Err(ParseError::Memory(_)) = &literal {
             return literal;
         }
@@ -34,19 +34,19 @@ impl Literal {
     }
 
     /// The literal that the whole text is, which stands at this span. Any other text is a fault.
-    fn whole_at(alloc: Global, text: &str, span: Span) -> Result<Literal, ParseError>
+    fn whole_at(text: &str, span: Span) -> Result<Literal, ParseError>
     {
         if !Literal::is_whole(text) {
             return Err(ParseError::Lex(LexError::at(Span::call_site())));
         }
-        Ok(Literal::from_parts(alloc, text, span)?)
+        Ok(Literal::from_parts(text, span)?)
     }
 
     /// The literal of this text, which is a whole one (`is_whole`), with the span 0..0. Fails where
     /// memory runs out. For `1.5` it is `1.5`.
-    pub fn from_str_unchecked(alloc: Global, text: &str) -> Result<Literal, AllocError>
+    pub fn from_str_unchecked(text: &str) -> Result<Literal, AllocError>
     {
-        Literal::from_parts(alloc, text, Span::call_site())
+        Literal::from_parts(text, Span::call_site())
     }
 
     /// Whether the text is a literal, or `-` and one that begins with a digit (`whole-literal`):

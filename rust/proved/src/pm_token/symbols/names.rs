@@ -1,11 +1,11 @@
 // Made from crates/pm_token/src/symbols/names.rt by rust/erase: change that file, not this one.
 //! Names, raw and plain.
 
-use crate::shim::prelude::Clone;
+use crate::shim::prelude::TryClone;
 
 use super::shared::Shared;
 use super::short::{ROOM, Short};
-use crate::shim::alloc::{AllocError, Global};
+use crate::shim::alloc::AllocError;
 use crate::shim::fmt;
 
 /// A plain or a raw name, short or long. One enum tells all four apart, so a name is as long as a text. Copies of a
@@ -48,12 +48,12 @@ pub struct Name {
 impl Name {
     /// Keeps a copy of the name. Fails where memory runs out.
     #[inline(always)]
-    pub fn new(alloc: Global, name: &str, raw: bool) -> Result<Name, AllocError>
+    pub fn new(name: &str, raw: bool) -> Result<Name, AllocError>
     {
         let text = if name.len() <= ROOM {
             NameText::short(name, raw)
         } else {
-            NameText::long(Shared::new(alloc, name)?, raw)
+            NameText::long(Shared::new(name)?, raw)
         };
         Ok(Name { text })
     }
@@ -117,9 +117,9 @@ impl Name {
 }
 
 /// The same name, which a long one shares. It fails where that has more owners than can be counted.
-impl Clone for Name {
+impl TryClone for Name {
     #[inline(always)]
-    fn clone(&self) -> Result<Name, AllocError> {
+    fn try_clone(&self) -> Result<Name, AllocError> {
         let text = match &self.text {
             NameText::Short(name) => NameText::Short(name.copy()),
             NameText::RawShort(name) => NameText::RawShort(name.copy()),
@@ -129,6 +129,8 @@ impl Clone for Name {
         Ok(Name { text })
     }
 }
+
+crate::shim::copied!(Name);
 
 impl fmt::Display for Name {
     fn fmt<W: fmt::Write>(&self, f: &mut fmt::Formatter<W>) -> fmt::Result {

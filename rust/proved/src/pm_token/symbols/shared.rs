@@ -1,9 +1,9 @@
 // Made from crates/pm_token/src/symbols/shared.rt by rust/erase: change that file, not this one.
 //! Long texts, which their copies share.
 
-use crate::shim::prelude::{Clone, String};
+use crate::shim::prelude::TryClone;
 
-use crate::shim::alloc::{AllocError, Global};
+use crate::shim::alloc::AllocError;
 use crate::shim::rc::RcStr;
 
 /// A text of more than 22 bytes. Its copies share it.
@@ -13,10 +13,10 @@ pub(crate) struct Shared {
 
 impl Shared {
     /// A copy of the text. Fails where memory runs out.
-    pub(crate) fn new(alloc: Global, text: &str) -> Result<Shared, AllocError>
+    pub(crate) fn new(text: &str) -> Result<Shared, AllocError>
     {
         Ok(Shared {
-            text: RcStr::from_str(alloc, text)?,
+            text: RcStr::from_str(text)?,
         })
     }
 
@@ -42,7 +42,7 @@ impl Shared {
         // It computes nothing: proofs learn that the bytes are UTF-8.
         self.text.as_str();
         Ok(Shared {
-            text: self.text.clone()?,
+            text: self.text.try_clone()?,
         })
     }
 }

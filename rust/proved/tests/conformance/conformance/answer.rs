@@ -1,15 +1,12 @@
 // Made from crates/conformance/src/answer.rt by rust/erase: change that file, not this one.
 //! What the library answers to a text.
 
-use proved::shim::prelude::String;
-
 use crate::conformance::contents::content_answer;
 use crate::conformance::lists::list_answer;
 use crate::conformance::literals::literal_answer;
 use crate::conformance::streams::stream_answer;
 use crate::conformance::values::value_answer;
 use proved::proc_macro2::ParseError;
-use proved::shim::alloc::Global;
 
 /// An answer of the library.
 pub struct Answer<'a> {
@@ -21,10 +18,10 @@ pub struct Answer<'a> {
 
 impl<'a> Answer<'a> {
     /// The answer to what is no literal, and to a value that has none.
-    pub fn refused(alloc: Global) -> Answer<'a> {
+    pub fn refused() -> Answer<'a> {
         Answer {
             kind: "refused",
-            said: String::new(alloc),
+            said: String::new(),
         }
     }
 }
@@ -35,19 +32,18 @@ impl<'a> Answer<'a> {
 /// `MapFull` is answered where the text is too long for a new map, and `Memory` where a growth was
 /// refused. Of `string`, a quote is answered by `string` and `"\""`.
 pub fn answer_to<'a>(
-    alloc: Global,
     asked: &'a str,
     text: &str,
 ) -> Result<Option<Answer<'a>>, ParseError> {
     Ok(match asked {
-        "print" | "tree" | "spans" | "fault" => Some(stream_answer(alloc, asked, text)?),
+        "print" | "tree" | "spans" | "fault" => Some(stream_answer(asked, text)?),
         "literal" | "refused" | "str_value" | "byte_str_value" | "cstr_value" => {
-            Some(literal_answer(alloc, asked, text)?)
+            Some(literal_answer(asked, text)?)
         }
         "string" | "character" | "byte_character" | "byte_string" | "c_string" => {
-            Some(value_answer(alloc, asked, text)?)
+            Some(value_answer(asked, text)?)
         }
-        "list" => list_answer(alloc, asked, text)?,
-        _ => content_answer(alloc, asked, text)?,
+        "list" => list_answer(asked, text)?,
+        _ => content_answer(asked, text)?,
     })
 }

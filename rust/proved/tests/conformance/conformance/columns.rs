@@ -1,9 +1,9 @@
 // Made from crates/conformance/src/columns.rt by rust/erase: change that file, not this one.
 //! The columns of a line of recorded answers, and the escapes in them.
 
-use proved::shim::prelude::String;
+use proved::shim::prelude::Grow;
 
-use proved::shim::alloc::{AllocError, Global};
+use proved::shim::alloc::AllocError;
 
 /// A recorded answer.
 ///
@@ -25,18 +25,18 @@ pub struct Recorded<'a> {
 ///
 /// `fault`, a tab, `(]`, a tab and `1:1` are the fault of `(]`. `print`, a tab, `'''`, a tab, `'''`, a
 /// tab, `fault`, a tab and `1:0` are what the crate prints of `'''`, and the fault that is wanted.
-pub fn read_line<'a>(alloc: Global, line: &'a str) -> Result<Option<Recorded<'a>>, AllocError> {
+pub fn read_line<'a>(line: &'a str) -> Result<Option<Recorded<'a>>, AllocError> {
     let mut columns = line.split('\t');
     let (Some(asked), Some(text), Some(answer)) = (columns.next(), columns.next(), columns.next())
     else {
         return Ok(None);
     };
-    let (Some(text), Some(answer)) = (unescaped(alloc, text)?, unescaped(alloc, answer)?) else {
+    let (Some(text), Some(answer)) = (unescaped(text)?, unescaped(answer)?) else {
         return Ok(None);
     };
     let (kind, answer) = match (columns.next(), columns.next(), columns.next()) {
         (None, _, _) => (asked, answer),
-        (Some(kind), Some(wanted), None) => match unescaped(alloc, wanted)? {
+        (Some(kind), Some(wanted), None) => match unescaped(wanted)? {
             Some(wanted) if kind != asked || wanted != answer => (kind, wanted),
             _ => return Ok(None),
         },
@@ -65,8 +65,8 @@ enum State {
 
 // The text of a column; `None` where an escape is none of `\n`, `\r`, `\t`, `\\` and `\u{..}`, or
 // isn't closed. `a\tb\u{e9}` is `a`, a tab, `b` and U+00E9.
-fn unescaped(alloc: Global, column: &str) -> Result<Option<String>, AllocError> {
-    let mut text = String::new(alloc);
+fn unescaped(column: &str) -> Result<Option<String>, AllocError> {
+    let mut text = String::new();
     let mut state = State::Plain;
     for c in column.chars() {
         let Some((next, read)) = step(state, c) else {
@@ -74,7 +74,7 @@ fn unescaped(alloc: Global, column: &str) -> Result<Option<String>, AllocError> 
         };
         state = next;
         if let Some(c) = read {
-            text.push(c)?;
+            text.push_fallibly(c)?;
         }
     }
     Ok(match state {

@@ -1,7 +1,7 @@
 // Made from crates/conformance/src/contents.rt by rust/erase: change that file, not this one.
 //! What the library finds in the content of a literal.
 
-use proved::shim::prelude::{String, format};
+use proved::shim::prelude::{GrowText, format};
 
 use crate::conformance::answer::Answer;
 use proved::proc_macro2::rustc_literal_escaper::{
@@ -9,7 +9,7 @@ use proved::proc_macro2::rustc_literal_escaper::{
     check_raw_c_str, check_raw_str, unescape_byte, unescape_byte_str, unescape_c_str,
     unescape_char, unescape_str,
 };
-use proved::shim::alloc::{AllocError, Global};
+use proved::shim::alloc::AllocError;
 use proved::shim::ops::Range;
 
 /// What this call of the escaper gives for the content: each item by its range of bytes and its unit
@@ -19,21 +19,20 @@ use proved::shim::ops::Range;
 /// For `unescape_str`, `\x41b` gives `0..4 U+41;4..5 U+62;`. For `unescape_char`, `'` gives
 /// `EscapeOnlyChar`.
 pub fn content_answer<'a>(
-    alloc: Global,
     call: &'a str,
     content: &str,
 ) -> Result<Option<Answer<'a>>, AllocError> {
     let said = match call {
-        "unescape_str" => items(alloc, unescape_str(content))?,
-        "unescape_byte_str" => items(alloc, unescape_byte_str(content))?,
-        "unescape_c_str" => items(alloc, unescape_c_str(content))?,
-        "check_raw_str" => items(alloc, check_raw_str(content))?,
-        "check_raw_byte_str" => items(alloc, check_raw_byte_str(content))?,
-        "check_raw_c_str" => items(alloc, check_raw_c_str(content))?,
-        "unescape_char" => unit_text(alloc, unescape_char(content))?,
-        "unescape_byte" => unit_text(alloc, unescape_byte(content))?,
+        "unescape_str" => items(unescape_str(content))?,
+        "unescape_byte_str" => items(unescape_byte_str(content))?,
+        "unescape_c_str" => items(unescape_c_str(content))?,
+        "check_raw_str" => items(check_raw_str(content))?,
+        "check_raw_byte_str" => items(check_raw_byte_str(content))?,
+        "check_raw_c_str" => items(check_raw_c_str(content))?,
+        "unescape_char" => unit_text(unescape_char(content))?,
+        "unescape_byte" => unit_text(unescape_byte(content))?,
         _ => match call.strip_prefix("errors_").and_then(mode) {
-            Some(mode) => errors(alloc, content, mode)?,
+            Some(mode) => errors(content, mode)?,
             None => return Ok(None),
         },
     };
@@ -57,21 +56,20 @@ fn mode(name: &str) -> Option<Mode> {
 
 // All items that an iterator of the escaper gives.
 fn items<U: Unit, I: Iterator<Item = (Range<usize>, Result<U, EscapeError>)>>(
-    alloc: Global,
     items: I,
 ) -> Result<String, AllocError>
 {
-    let mut said = String::new(alloc);
+    let mut said = String::new();
     for (range, unit) in items {
-        let unit = unit_text(alloc, unit)?;
+        let unit = unit_text(unit)?;
         write!(said, "{}..{} {unit};", range.start, range.end)?;
     }
     Ok(said)
 }
 
 // All errors of a content of this kind, by the range of each.
-fn errors(alloc: Global, content: &str, mode: Mode) -> Result<String, AllocError> {
-    let mut said = String::new(alloc);
+fn errors(content: &str, mode: Mode) -> Result<String, AllocError> {
+    let mut said = String::new();
     for (range, error) in check_for_errors(content, mode) {
         write!(said, "{}..{} {error:?};", range.start, range.end)?;
     }
@@ -79,42 +77,42 @@ fn errors(alloc: Global, content: &str, mode: Mode) -> Result<String, AllocError
 }
 
 // A unit, or the name of what is wrong.
-fn unit_text<U: Unit>(alloc: Global, unit: Result<U, EscapeError>) -> Result<String, AllocError> {
+fn unit_text<U: Unit>(unit: Result<U, EscapeError>) -> Result<String, AllocError> {
     match unit {
-        Ok(unit) => unit.text(alloc),
-        Err(error) => format!(in alloc; "{error:?}"),
+        Ok(unit) => unit.text(),
+        Err(error) => format!("{error:?}"),
     }
 }
 
 /// What a content is made of.
 trait Unit: Copy {
     /// `U+` and the character's code, or the byte in two digits of hex.
-    fn text(self, alloc: Global) -> Result<String, AllocError>;
+    fn text(self) -> Result<String, AllocError>;
 }
 
 impl Unit for char {
-    fn text(self, alloc: Global) -> Result<String, AllocError> {
-        format!(in alloc; "U+{:X}", u32::from(self))
+    fn text(self) -> Result<String, AllocError> {
+        format!("U+{:X}", u32::from(self))
     }
 }
 
 impl Unit for u8 {
-    fn text(self, alloc: Global) -> Result<String, AllocError> {
-        format!(in alloc; "{self:02X}")
+    fn text(self) -> Result<String, AllocError> {
+        format!("{self:02X}")
     }
 }
 
 impl Unit for NonZeroChar {
-    fn text(self, alloc: Global) -> Result<String, AllocError> {
-        self.get().text(alloc)
+    fn text(self) -> Result<String, AllocError> {
+        self.get().text()
     }
 }
 
 impl Unit for MixedUnit {
-    fn text(self, alloc: Global) -> Result<String, AllocError> {
+    fn text(self) -> Result<String, AllocError> {
         match self {
-            MixedUnit::Char(c) => c.text(alloc),
-            MixedUnit::HighByte(byte) => byte.get().text(alloc),
+            MixedUnit::Char(c) => c.text(),
+            MixedUnit::HighByte(byte) => byte.get().text(),
         }
     }
 }

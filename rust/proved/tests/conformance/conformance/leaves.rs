@@ -4,22 +4,22 @@
 use proved::proc_macro2::{
     Ident, IdentError, Literal, ParseError, Punct, SourceMap, Spacing, Span, TokenTree,
 };
-use proved::shim::alloc::{AllocError, Global};
+use proved::shim::alloc::AllocError;
 
 /// The tree that the line notes; `None` where it notes none.
 ///
 /// `raw fn` is the identifier `r#fn`, and `integer -3i32` the literal `-3i32`.
-pub fn leaf(alloc: Global, line: &str) -> Result<Option<TokenTree>, ParseError> {
+pub fn leaf(line: &str) -> Result<Option<TokenTree>, ParseError> {
     let Some((word, text)) = line.split_once(' ') else {
         return Ok(None);
     };
     Ok(match word {
-        "ident" => identifier(Ident::new(alloc, text, Span::call_site()))?,
-        "raw" => identifier(Ident::new_raw(alloc, text, Span::call_site()))?,
+        "ident" => identifier(Ident::new(text, Span::call_site()))?,
+        "raw" => identifier(Ident::new_raw(text, Span::call_site()))?,
         "alone" => mark(text, Spacing::Alone),
         "joint" => mark(text, Spacing::Joint),
-        "literal" => literal(alloc, text)?,
-        "integer" => integer(alloc, text)?,
+        "literal" => literal(text)?,
+        "integer" => integer(text)?,
         _ => None,
     })
 }
@@ -46,8 +46,8 @@ fn mark(text: &str, spacing: Spacing) -> Option<TokenTree> {
 }
 
 // The literal that the text is.
-fn literal(alloc: Global, text: &str) -> Result<Option<TokenTree>, ParseError> {
-    match Literal::from_str(text, &mut SourceMap::new(alloc)) {
+fn literal(text: &str) -> Result<Option<TokenTree>, ParseError> {
+    match Literal::from_str(text, &mut SourceMap::new()) {
         Ok(literal) => Ok(Some(TokenTree::Literal(literal))),
         Err(ParseError::Lex(_)) => Ok(None),
         Err(error) => Err(error),
@@ -55,7 +55,7 @@ fn literal(alloc: Global, text: &str) -> Result<Option<TokenTree>, ParseError> {
 }
 
 // What the constructor of the suffix makes of the number before it.
-fn integer(alloc: Global, text: &str) -> Result<Option<TokenTree>, AllocError> {
+fn integer(text: &str) -> Result<Option<TokenTree>, AllocError> {
     let (number, suffix) = match text.find('i') {
         Some(at) => text.split_at(at),
         None => (text, ""),
@@ -64,13 +64,13 @@ fn integer(alloc: Global, text: &str) -> Result<Option<TokenTree>, AllocError> {
         return Ok(None);
     };
     let literal = match suffix {
-        "" => Literal::i8_unsuffixed(alloc, number)?,
-        "i8" => Literal::i8_suffixed(alloc, number)?,
-        "i16" => Literal::i16_suffixed(alloc, i16::from(number))?,
-        "i32" => Literal::i32_suffixed(alloc, i32::from(number))?,
-        "i64" => Literal::i64_suffixed(alloc, i64::from(number))?,
-        "i128" => Literal::i128_suffixed(alloc, i128::from(number))?,
-        "isize" => Literal::isize_suffixed(alloc, isize::from(number))?,
+        "" => Literal::i8_unsuffixed(number)?,
+        "i8" => Literal::i8_suffixed(number)?,
+        "i16" => Literal::i16_suffixed(i16::from(number))?,
+        "i32" => Literal::i32_suffixed(i32::from(number))?,
+        "i64" => Literal::i64_suffixed(i64::from(number))?,
+        "i128" => Literal::i128_suffixed(i128::from(number))?,
+        "isize" => Literal::isize_suffixed(isize::from(number))?,
         _ => return Ok(None),
     };
     Ok(Some(TokenTree::Literal(literal)))

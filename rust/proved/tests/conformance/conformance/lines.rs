@@ -1,12 +1,12 @@
 // Made from crates/conformance/src/lines.rt by rust/erase: change that file, not this one.
 //! Compares the library with recorded answers, a line at a time.
 
-use proved::shim::prelude::{String, format};
+use proved::shim::prelude::format;
 
 use crate::conformance::answer::answer_to;
 use crate::conformance::columns::read_line;
 use proved::proc_macro2::ParseError;
-use proved::shim::alloc::{AllocError, Global};
+use proved::shim::alloc::AllocError;
 use proved::shim::io;
 use proved::shim::io::{BufRead, Write};
 
@@ -28,7 +28,6 @@ pub struct Tally {
 /// nothing is written. A line that names a difference from the Rust crate is compared with what it
 /// wants here.
 pub fn compare_lines<R: BufRead, W: Write>(
-    alloc: Global,
     reader: R,
     writer: &mut W,
 ) -> io::Result<Tally>
@@ -37,10 +36,10 @@ pub fn compare_lines<R: BufRead, W: Write>(
         answers: 0,
         differences: 0,
     };
-    for line in reader.lines(alloc) {
+    for line in reader.lines() {
         let line = line?;
         tally.answers = tally.answers.saturating_add(1);
-        if let Some(report) = difference(alloc, line.as_str())? {
+        if let Some(report) = difference(line.as_str())? {
             tally.differences = tally.differences.saturating_add(1);
             writer.write_all(report.as_bytes())?;
         }
@@ -50,19 +49,19 @@ pub fn compare_lines<R: BufRead, W: Write>(
 
 // What is reported of a line that wants another answer than the library's, or that is no recorded
 // answer; `None` where the two answers are the same.
-fn difference(alloc: Global, line: &str) -> Result<Option<String>, AllocError>
+fn difference(line: &str) -> Result<Option<String>, AllocError>
 {
-    let Some(recorded) = read_line(alloc, line)? else {
-        return Ok(Some(format!(in alloc; "no recorded answer: {line}\n")?));
+    let Some(recorded) = read_line(line)? else {
+        return Ok(Some(format!("no recorded answer: {line}\n")?));
     };
-    let here = match answer_to(alloc, recorded.asked, recorded.text.as_str()) {
+    let here = match answer_to(recorded.asked, recorded.text.as_str()) {
         Ok(Some(found)) if found.kind == recorded.kind && found.said == recorded.answer => {
             return Ok(None);
         }
-        Ok(Some(found)) => format!(in alloc; "{} {:?}", found.kind, found.said)?,
-        Ok(None) => return Ok(Some(format!(in alloc; "no recorded answer: {line}\n")?)),
+        Ok(Some(found)) => format!("{} {:?}", found.kind, found.said)?,
+        Ok(None) => return Ok(Some(format!("no recorded answer: {line}\n")?)),
         Err(ParseError::Memory(error)) => return Err(error),
-        Err(error) => format!(in alloc; "{error}")?,
+        Err(error) => format!("{error}")?,
     };
-    Ok(Some(format!(in alloc; "differs: {line}\nhere: {here}\n")?))
+    Ok(Some(format!("differs: {line}\nhere: {here}\n")?))
 }

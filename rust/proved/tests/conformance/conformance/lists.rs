@@ -12,12 +12,11 @@
 //! | `integer -3i32`, `integer -3` | what the constructor of that suffix makes of a number from -128 to 127 |
 //! | `(` .. `)`, `[` .. `]`, `{` .. `}`, `<` .. `>` | a group, in the last case without delimiters |
 
-use proved::shim::prelude::{Vec, format};
+use proved::shim::prelude::{Grow, format};
 
 use crate::conformance::answer::Answer;
 use crate::conformance::leaves::leaf;
 use proved::proc_macro2::{Delimiter, Group, ParseError, SourceMap, TokenStream, TokenTree};
-use proved::shim::alloc::Global;
 
 /// What is printed for the trees of the list, and after a tab what that text parses to in a new map:
 /// the `same` trees up to spans, `other` ones, or a `fault`. `None` where the text notes no list.
@@ -26,16 +25,15 @@ use proved::shim::alloc::Global;
 ///
 /// Of `joint +` and `ident a` it is `+a`, a tab and `other`.
 pub fn list_answer<'a>(
-    alloc: Global,
     asked: &'a str,
     text: &str,
 ) -> Result<Option<Answer<'a>>, ParseError> {
-    let Some(trees) = noted_trees(alloc, text)? else {
+    let Some(trees) = noted_trees(text)? else {
         return Ok(None);
     };
-    let stream = TokenStream::from_trees(alloc, trees)?;
-    let printed = format!(in alloc; "{stream}")?;
-    let back = match TokenStream::from_str(printed.as_str(), &mut SourceMap::new(alloc)) {
+    let stream = TokenStream::from_trees(trees)?;
+    let printed = format!("{stream}")?;
+    let back = match TokenStream::from_str(printed.as_str(), &mut SourceMap::new()) {
         Ok(back) => {
             if stream.same_tokens(&back) {
                 "same"
@@ -48,9 +46,9 @@ pub fn list_answer<'a>(
     };
     let spaced = stream.is_well_spaced();
     let said = if spaced == (back == "same") {
-        format!(in alloc; "{printed}\t{back}")?
+        format!("{printed}\t{back}")?
     } else {
-        format!(in alloc; "{printed}\t{back}\tis_well_spaced: {spaced}")?
+        format!("{printed}\t{back}\tis_well_spaced: {spaced}")?
     };
     Ok(Some(Answer { kind: asked, said }))
 }
@@ -65,16 +63,16 @@ struct Open {
 
 // The trees that the lines of the text note; `None` where a line notes none, or where groups aren't
 // closed in the order in which they were opened.
-fn noted_trees(alloc: Global, text: &str) -> Result<Option<Vec<TokenTree>>, ParseError> {
-    let mut open_groups = Vec::new(alloc);
-    let mut trees = Vec::new(alloc);
+fn noted_trees(text: &str) -> Result<Option<Vec<TokenTree>>, ParseError> {
+    let mut open_groups = Vec::new();
+    let mut trees = Vec::new();
     for line in text.lines() {
         if let Some(delimiter) = opened(line) {
-            open_groups.push(Open {
+            open_groups.push_fallibly(Open {
                 delimiter,
                 before: trees,
             })?;
-            trees = Vec::new(alloc);
+            trees = Vec::new();
         } else if let Some(delimiter) = closed(line) {
             let Some(open) = open_groups.pop() else {
                 return Ok(None);
@@ -82,14 +80,14 @@ fn noted_trees(alloc: Global, text: &str) -> Result<Option<Vec<TokenTree>>, Pars
             if open.delimiter != delimiter {
                 return Ok(None);
             }
-            let group = Group::new(delimiter, TokenStream::from_trees(alloc, trees)?);
+            let group = Group::new(delimiter, TokenStream::from_trees(trees)?);
             trees = open.before;
-            trees.push(TokenTree::Group(group))?;
+            trees.push_fallibly(TokenTree::Group(group))?;
         } else {
-            let Some(tree) = leaf(alloc, line)? else {
+            let Some(tree) = leaf(line)? else {
                 return Ok(None);
             };
-            trees.push(tree)?;
+            trees.push_fallibly(tree)?;
         }
     }
     Ok(if open_groups.is_empty() {

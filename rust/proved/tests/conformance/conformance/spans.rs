@@ -1,24 +1,23 @@
 // Made from crates/conformance/src/spans.rt by rust/erase: change that file, not this one.
 //! Where the trees of a stream stand.
 
-use proved::shim::prelude::String;
+use proved::shim::prelude::GrowText;
 
 use proved::proc_macro2::{SourceMap, TokenStream, TokenTree};
-use proved::shim::alloc::{AllocError, Global};
+use proved::shim::alloc::AllocError;
 
 /// A line for each tree of the stream, each group before those inside it: where it begins and ends,
 /// and its kind.
 ///
 /// Of `a (b)` the lines are `1:0-1:1 ident`, `1:2-1:5 group` and `1:3-1:4 ident`.
 pub fn span_lines(
-    alloc: Global,
     stream: &TokenStream,
     map: &SourceMap,
 ) -> Result<String, AllocError>
 {
-    let mut lines = String::new(alloc);
+    let mut lines = String::new();
     let mut walk = stream.walk();
-    while let Some(tree) = walk.next()? {
+    while let Some(tree) = walk.try_next()? {
         let span = tree.span();
         let (start, end) = (span.start(map), span.end(map));
         let kind = match tree {

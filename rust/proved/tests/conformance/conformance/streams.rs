@@ -6,7 +6,6 @@ use proved::shim::prelude::format;
 use crate::conformance::answer::Answer;
 use crate::conformance::spans::span_lines;
 use proved::proc_macro2::{ParseError, SourceMap, TokenStream};
-use proved::shim::alloc::Global;
 
 /// The stream that the text parses to in a new map: as Debug shows it where `tree` was asked, where
 /// its trees stand for `spans`, and as it is printed else; or the line and column of the text's
@@ -14,29 +13,28 @@ use proved::shim::alloc::Global;
 ///
 /// For `print`, `a+b` gives `a + b`, and `(]` gives the fault `1:1`.
 pub fn stream_answer<'a>(
-    alloc: Global,
     asked: &'a str,
     text: &str,
 ) -> Result<Answer<'a>, ParseError> {
-    let mut map = SourceMap::new(alloc);
+    let mut map = SourceMap::new();
     match TokenStream::from_str(text, &mut map) {
         Ok(stream) if asked == "tree" => Ok(Answer {
             kind: asked,
-            said: format!(in alloc; "{stream:?}")?,
+            said: format!("{stream:?}")?,
         }),
         Ok(stream) if asked == "spans" => Ok(Answer {
             kind: asked,
-            said: span_lines(alloc, &stream, &map)?,
+            said: span_lines(&stream, &map)?,
         }),
         Ok(stream) => Ok(Answer {
             kind: "print",
-            said: format!(in alloc; "{stream}")?,
+            said: format!("{stream}")?,
         }),
         Err(ParseError::Lex(error)) => {
             let start = error.span().start(&map);
             Ok(Answer {
                 kind: "fault",
-                said: format!(in alloc; "{}:{}", start.line, start.column)?,
+                said: format!("{}:{}", start.line, start.column)?,
             })
         }
         Err(error) => Err(error),

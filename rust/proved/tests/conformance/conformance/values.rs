@@ -5,42 +5,41 @@ use proved::shim::prelude::format;
 
 use crate::conformance::answer::Answer;
 use proved::proc_macro2::Literal;
-use proved::shim::alloc::{AllocError, Global};
+use proved::shim::alloc::AllocError;
 
 /// The text of the literal that this call makes of the value; a value that it makes none of is
 /// refused.
 ///
 /// For `c_string`, `a` and a quote give `c"a\""`.
 pub fn value_answer<'a>(
-    alloc: Global,
     asked: &'a str,
     value: &str,
 ) -> Result<Answer<'a>, AllocError> {
-    match literal_of(alloc, asked, value)? {
+    match literal_of(asked, value)? {
         Some(literal) => Ok(Answer {
             kind: asked,
-            said: format!(in alloc; "{literal}")?,
+            said: format!("{literal}")?,
         }),
-        None => Ok(Answer::refused(alloc)),
+        None => Ok(Answer::refused()),
     }
 }
 
 // The literal that this call makes of the text, of its first character, of its first byte, or of
 // its bytes; `None` where the text has no such character or byte, and for a C string with NUL.
-fn literal_of(alloc: Global, call: &str, value: &str) -> Result<Option<Literal>, AllocError> {
+fn literal_of(call: &str, value: &str) -> Result<Option<Literal>, AllocError> {
     let bytes = value.as_bytes();
     Ok(match call {
-        "string" => Some(Literal::string(alloc, value)?),
+        "string" => Some(Literal::string(value)?),
         "character" => match value.chars().next() {
-            Some(c) => Some(Literal::character(alloc, c)?),
+            Some(c) => Some(Literal::character(c)?),
             None => None,
         },
         "byte_character" => match bytes.first() {
-            Some(&byte) => Some(Literal::byte_character(alloc, byte)?),
+            Some(&byte) => Some(Literal::byte_character(byte)?),
             None => None,
         },
-        "byte_string" => Some(Literal::byte_string(alloc, bytes)?),
-        "c_string" if has_no_zero(bytes) => Some(Literal::c_string(alloc, bytes)?),
+        "byte_string" => Some(Literal::byte_string(bytes)?),
+        "c_string" if has_no_zero(bytes) => Some(Literal::c_string(bytes)?),
         _ => None,
     })
 }

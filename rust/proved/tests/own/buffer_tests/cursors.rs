@@ -1,13 +1,13 @@
 // Made from crates/buffer_tests/src/cursors.rt by rust/erase: change that file, not this one.
 
-use crate::shim::prelude::{AllocGlobal, HostRuntime, String, format};
+use crate::shim::prelude::{AllocGlobal, GrowText, HostRuntime, format};
 
 // What cursors answer on texts by hand, each call once at least.
 
 use proved::pm_span::parts::bounds;
 use proved::pm_stream::TokenStream;
 use proved::pm_token::{Delimiter, ParseError, Spacing};
-use crate::shim::alloc::{AllocError, Global};
+use crate::shim::alloc::AllocError;
 use crate::shim::process::Abort;
 use crate::shim::test::Fail;
 use proved::token_buffer::{Cursor, LiteralText, TokenBuffer, TokenText};
@@ -44,7 +44,7 @@ fn check_group(rt: &impl Abort, cursor: Cursor<'_>) -> Option<()> {
 #[test]
 fn tokens_come_one_after_another() -> Result<(), Fail> {
     let rt = HostRuntime;
-    let buffer = TokenBuffer::new(rt.alloc(), "r#f += 'é (\"x\")")?;
+    let buffer = TokenBuffer::new("r#f += 'é (\"x\")")?;
     let rest = check_names_and_marks(&rt, buffer.begin());
     assert!(rest.is_some());
     if let Some(rest) = rest {
@@ -72,21 +72,21 @@ fn check_doc(rt: &impl Abort, cursor: Cursor<'_>) -> Option<()> {
 #[test]
 fn a_doc_comment_is_its_tokens() -> Result<(), Fail> {
     let rt = HostRuntime;
-    let buffer = TokenBuffer::new(rt.alloc(), "//! d\r\n")?;
+    let buffer = TokenBuffer::new("//! d\r\n")?;
     assert!(check_doc(&rt, buffer.begin()).is_some());
     Ok(())
 }
 
 /// What is printed of the cursor's tokens.
-fn printed(alloc: Global, cursor: Cursor<'_>) -> Result<String, AllocError> {
-    let stream = cursor.to_stream(alloc)?;
-    format!(in alloc; "{stream}")
+fn printed(cursor: Cursor<'_>) -> Result<String, AllocError> {
+    let stream = cursor.to_stream()?;
+    format!("{stream}")
 }
 
 /// Whether the cursor's tokens are those that the text parses to.
-fn are_those_of(alloc: Global, cursor: Cursor<'_>, text: &str) -> Result<bool, ParseError> {
-    let stream = cursor.to_stream(alloc)?;
-    let parsed = TokenStream::parse_unmapped(alloc, text)?;
+fn are_those_of(cursor: Cursor<'_>, text: &str) -> Result<bool, ParseError> {
+    let stream = cursor.to_stream()?;
+    let parsed = TokenStream::parse_unmapped(text)?;
     Ok(stream.same_tokens(&parsed))
 }
 
@@ -94,12 +94,12 @@ fn are_those_of(alloc: Global, cursor: Cursor<'_>, text: &str) -> Result<bool, P
 fn what_is_left_is_a_stream() -> Result<(), Fail> {
     let rt = HostRuntime;
     let text = "a (b + [c]) //! d\n'x 1.0";
-    let buffer = TokenBuffer::new(rt.alloc(), text)?;
-    assert!(are_those_of(rt.alloc(), buffer.begin(), text)?);
+    let buffer = TokenBuffer::new(text)?;
+    assert!(are_those_of(buffer.begin(), text)?);
     let rest = buffer.begin().skip();
     assert!(rest.is_some());
     if let Some(rest) = rest {
-        let text = printed(rt.alloc(), rest)?;
+        let text = printed(rest)?;
         assert_eq!(text.as_str(), "(b + [c]) # ! [doc = \" d\"] 'x 1.0");
     }
     Ok(())
@@ -123,9 +123,9 @@ fn check_printed(
     cursor: Cursor<'_>,
     want: &str,
 ) -> Result<(), AllocError> {
-    let text = format!(in rt.alloc(); "{cursor}")?;
+    let text = format!("{cursor}")?;
     assert_eq!(text.as_str(), want);
-    let text = printed(rt.alloc(), cursor)?;
+    let text = printed(cursor)?;
     assert_eq!(text.as_str(), want, "by the stream");
     Ok(())
 }
@@ -134,7 +134,7 @@ fn check_printed(
 fn a_cursor_is_printed_as_its_stream() -> Result<(), Fail> {
     let rt = HostRuntime;
     for (text, want) in PRINTED {
-        let buffer = TokenBuffer::new(rt.alloc(), text)?;
+        let buffer = TokenBuffer::new(text)?;
         let rest = buffer.begin().skip();
         assert!(rest.is_some(), "{text:?} has a tree");
         if let Some(rest) = rest {
@@ -147,11 +147,11 @@ fn a_cursor_is_printed_as_its_stream() -> Result<(), Fail> {
 #[test]
 fn a_long_list_is_printed_without_an_error() -> Result<(), Fail> {
     let rt = HostRuntime;
-    let mut text = String::from_str(rt.alloc(), "x")?;
+    let mut text = String::from_str_fallibly("x")?;
     for _ in 0..70_000 {
-        text.push_str(" + \"y\" { z } (r#w)")?;
+        text.push_str_fallibly(" + \"y\" { z } (r#w)")?;
     }
-    let buffer = TokenBuffer::new(rt.alloc(), text.as_str())?;
+    let buffer = TokenBuffer::new(text.as_str())?;
     check_printed(&rt, buffer.begin(), text.as_str())?;
     Ok(())
 }
@@ -180,12 +180,11 @@ const COMPARED: [(&str, &str, bool); 18] = [
 
 /// Whether the two cursors' streams are the same up to spans.
 fn have_same_streams(
-    alloc: Global,
     cursor: Cursor<'_>,
     other: Cursor<'_>,
 ) -> Result<bool, AllocError> {
-    let stream = cursor.to_stream(alloc)?;
-    let others = other.to_stream(alloc)?;
+    let stream = cursor.to_stream()?;
+    let others = other.to_stream()?;
     Ok(stream.same_tokens(&others))
 }
 
@@ -193,12 +192,12 @@ fn have_same_streams(
 fn cursors_are_equal_up_to_spans() -> Result<(), Fail> {
     let rt = HostRuntime;
     for (text, other, want) in COMPARED {
-        let buffer = TokenBuffer::new(rt.alloc(), text)?;
-        let others = TokenBuffer::new(rt.alloc(), other)?;
+        let buffer = TokenBuffer::new(text)?;
+        let others = TokenBuffer::new(other)?;
         let (left, right) = (buffer.begin(), others.begin());
         assert_eq!(left == right, want, "{text:?} and {other:?}");
         assert_eq!(right == left, want, "{other:?} and {text:?}");
-        let same = have_same_streams(rt.alloc(), left, right)?;
+        let same = have_same_streams(left, right)?;
         assert_eq!(same, want, "the streams of {text:?} and {other:?}");
     }
     Ok(())
@@ -216,10 +215,10 @@ const TURBOFISHES: [(&str, &str); 7] = [
 ];
 
 /// What is printed of the trees after generic arguments, or `none`.
-fn after_turbofish(alloc: Global, cursor: Cursor<'_>) -> Result<String, AllocError> {
+fn after_turbofish(cursor: Cursor<'_>) -> Result<String, AllocError> {
     match cursor.turbofish() {
-        Some(rest) => printed(alloc, rest),
-        None => String::from_str(alloc, "none"),
+        Some(rest) => printed(rest),
+        None => String::from_str_fallibly("none"),
     }
 }
 
@@ -227,8 +226,8 @@ fn after_turbofish(alloc: Global, cursor: Cursor<'_>) -> Result<String, AllocErr
 fn generic_arguments_end_at_their_mark() -> Result<(), Fail> {
     let rt = HostRuntime;
     for (text, want) in TURBOFISHES {
-        let buffer = TokenBuffer::new(rt.alloc(), text)?;
-        let found = after_turbofish(rt.alloc(), buffer.begin())?;
+        let buffer = TokenBuffer::new(text)?;
+        let found = after_turbofish(buffer.begin())?;
         assert_eq!(found.as_str(), want, "of {text:?}");
     }
     Ok(())

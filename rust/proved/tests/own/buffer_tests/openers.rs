@@ -1,38 +1,38 @@
 // Made from crates/buffer_tests/src/openers.rt by rust/erase: change that file, not this one.
 //! Where the openers stand that `explain` tells.
 
-use crate::shim::prelude::{AllocGlobal, HostRuntime, String, format};
+use crate::shim::prelude::{AllocGlobal, GrowText, HostRuntime, format};
 
 use proved::explain::{ExplainError, Explained, explain};
-use crate::shim::alloc::{AllocError, Global};
+use crate::shim::alloc::AllocError;
 use crate::shim::process::Abort;
 
 // Asserts that the text doesn't parse, and that these bytes are the openers that no closer matches up to its fault, the
 // innermost last.
 fn check(rt: &(impl Abort + AllocGlobal), text: &str, want: &str) {
-    let found = openers(rt.alloc(), text).expect(text);
+    let found = openers(text).expect(text);
     assert_eq!(found.as_str(), want, "of {text:?}");
 }
 
 // The bytes of the openers of the text.
-fn openers(alloc: Global, text: &str) -> Result<String, ExplainError> {
-    match explain(alloc, text)? {
-        Some(explained) => Ok(shown(alloc, &explained)?),
-        None => Ok(String::from_str(alloc, "none")?),
+fn openers(text: &str) -> Result<String, ExplainError> {
+    match explain(text)? {
+        Some(explained) => Ok(shown(&explained)?),
+        None => Ok(String::from_str_fallibly("none")?),
     }
 }
 
 // The bytes of the openers that are told, the innermost last.
-fn shown(alloc: Global, explained: &Explained) -> Result<String, AllocError> {
-    let mut shown = String::from_str(alloc, "")?;
+fn shown(explained: &Explained) -> Result<String, AllocError> {
+    let mut shown = String::from_str_fallibly("")?;
     for opener in explained.outer.iter() {
         let (start, end) = (opener.at.start, opener.at.end);
-        shown = format!(in alloc; "{shown}{start}..{end} ")?;
+        shown = format!("{shown}{start}..{end} ")?;
     }
     match explained.innermost {
         Some(opener) => {
             let (start, end) = (opener.at.start, opener.at.end);
-            format!(in alloc; "{shown}{start}..{end}")
+            format!("{shown}{start}..{end}")
         }
         None => Ok(shown),
     }

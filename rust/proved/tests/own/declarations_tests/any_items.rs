@@ -21,7 +21,7 @@ fn check(
     rows: &[(&str, usize, ItemKind, &str)],
 ) -> Result<(), Fail> {
     for (text, trees, kind, name) in rows {
-        let stream = TokenStream::from_str(text, &mut SourceMap::new(rt.alloc()))?;
+        let stream = TokenStream::from_str(text, &mut SourceMap::new())?;
         let as_wanted = match split_any_item(stream.trees()) {
             Ok((item, _)) => {
                 item.trees.len() == *trees && item.kind == *kind && is_named(item.name, name)

@@ -33,7 +33,7 @@ fn check(
     rows: &[(usize, Args, bool, bool)],
     left: usize,
 ) -> Result<(), Fail> {
-    let stream = TokenStream::from_str(text, &mut SourceMap::new(rt.alloc()))?;
+    let stream = TokenStream::from_str(text, &mut SourceMap::new())?;
     let mut attributes = Attributes::new(stream.trees());
     for (path, args, inner, doc) in rows {
         match attributes.next() {
@@ -87,7 +87,7 @@ fn an_attribute_has_a_path_and_arguments() -> Result<(), Fail> {
 fn a_word_is_a_whole_path() -> Result<(), Fail> {
     let rt = HostRuntime;
     let text = "#[getter(skip)] #[getter::a] #[r#getter] #[getter]";
-    let stream = TokenStream::from_str(text, &mut SourceMap::new(rt.alloc()))?;
+    let stream = TokenStream::from_str(text, &mut SourceMap::new())?;
     let mut found = 0_usize;
     for attribute in Attributes::new(stream.trees()) {
         if attribute.is("getter") {

@@ -16,12 +16,12 @@ fn check_spans(
 ) -> Result<(), Fail> {
     for tree in trees {
         let span = tree.span();
-        let shown = format!(in rt.alloc(); "{span:?}")?;
+        let shown = format!("{span:?}")?;
         assert_eq!(shown.as_str(), wanted, "{tree}");
         if let TokenTree::Group(group) = tree {
             for inside in group.stream_ref().trees() {
                 let span = inside.span();
-                let shown = format!(in rt.alloc(); "{span:?}")?;
+                let shown = format!("{span:?}")?;
                 assert_eq!(shown.as_str(), wanted, "{inside}");
             }
         }
@@ -36,12 +36,12 @@ fn check(
     printed: &str,
     span: &str,
 ) -> Result<(), Fail> {
-    let stream = TokenStream::from_str(text, &mut SourceMap::new(rt.alloc()))?;
+    let stream = TokenStream::from_str(text, &mut SourceMap::new())?;
     match parse_type_item(stream.trees()) {
         Ok(_) => assert!(false, "{text:?}"),
         Err(fault) => {
-            let code = fault.to_compile_error(rt.alloc())?;
-            let shown = format!(in rt.alloc(); "{code}")?;
+            let code = fault.to_compile_error()?;
+            let shown = format!("{code}")?;
             assert_eq!(shown.as_str(), printed, "{text:?}");
             check_spans(rt, code.trees(), span)?;
         }
@@ -63,19 +63,19 @@ fn a_fault_is_told_at_its_tree() -> Result<(), Fail> {
 #[test]
 fn a_text_of_ones_own_is_told_at_a_span() -> Result<(), Fail> {
     let rt = HostRuntime;
-    let stream = TokenStream::from_str("a skip", &mut SourceMap::new(rt.alloc()))?;
+    let stream = TokenStream::from_str("a skip", &mut SourceMap::new())?;
     if let [_, tree] = stream.trees() {
-        let code = compile_error(rt.alloc(), "no \"skip\"\n\u{e9} \\", tree.span())?;
-        let shown = format!(in rt.alloc(); "{code}")?;
+        let code = compile_error("no \"skip\"\n\u{e9} \\", tree.span())?;
+        let shown = format!("{code}")?;
         let printed = ":: core :: compile_error ! { \"no \\\"skip\\\"\\n\u{e9} \\\\\" }";
         assert_eq!(shown.as_str(), printed);
         check_spans(&rt, code.trees(), "bytes(3..7)")?;
     }
-    let code = compile_error(rt.alloc(), "", Span::call_site())?;
+    let code = compile_error("", Span::call_site())?;
     check_spans(&rt, code.trees(), "bytes(0..0)")?;
     let again = TokenStream::from_str(
         "::core::compile_error! {\"\"}",
-        &mut SourceMap::new(rt.alloc()),
+        &mut SourceMap::new(),
     )?;
     assert!(code.same_tokens(&again));
     Ok(())

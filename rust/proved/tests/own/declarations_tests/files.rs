@@ -15,7 +15,7 @@ fn check_file(
     inner: usize,
     wanted: &[(ItemKind, usize)],
 ) -> Result<(), Fail> {
-    let stream = TokenStream::from_str(text, &mut SourceMap::new(rt.alloc()))?;
+    let stream = TokenStream::from_str(text, &mut SourceMap::new())?;
     let Ok(file) = parse_file(stream.trees()) else {
         return assert_is(rt, false, text);
     };
@@ -63,7 +63,7 @@ fn check_fault(
     text: &str,
     wanted: Option<(usize, bool)>,
 ) -> Result<(), Fail> {
-    let stream = TokenStream::from_str(text, &mut SourceMap::new(rt.alloc()))?;
+    let stream = TokenStream::from_str(text, &mut SourceMap::new())?;
     assert_is(rt, fault_at(file, stream.trees()) == wanted, text)
 }
 
@@ -129,7 +129,7 @@ fn items_given(items: Items<'_>) -> (usize, Option<usize>) {
 #[test]
 fn nothing_comes_after_a_fault() -> Result<(), Fail> {
     let rt = HostRuntime;
-    let mut map = SourceMap::new(rt.alloc());
+    let mut map = SourceMap::new();
     let good = TokenStream::from_str("fn f() {} struct S; use a;", &mut map)?;
     assert!(items_given(Items { left: good.trees() }) == (3, None));
     let bad = TokenStream::from_str("fn f() {} struct S fn g() {} use a;", &mut map)?;

@@ -35,7 +35,7 @@ fn fault_place(fault: &Fault) -> Part {
 // The parts that stand where the first trees are one of these lists.
 fn check_params(rt: &(impl Abort + AllocGlobal), rows: &[(&str, &[Part])]) -> Result<(), Fail> {
     for (text, wanted) in rows {
-        let stream = TokenStream::from_str(text, &mut SourceMap::new(rt.alloc()))?;
+        let stream = TokenStream::from_str(text, &mut SourceMap::new())?;
         let mut left = within_generics(stream.trees())?;
         for part in *wanted {
             if left.is_empty() {
@@ -66,7 +66,7 @@ fn check_params(rt: &(impl Abort + AllocGlobal), rows: &[(&str, &[Part])]) -> Re
 
 fn check_predicates(rt: &(impl Abort + AllocGlobal), rows: &[(&str, &[Part])]) -> Result<(), Fail> {
     for (text, wanted) in rows {
-        let stream = TokenStream::from_str(text, &mut SourceMap::new(rt.alloc()))?;
+        let stream = TokenStream::from_str(text, &mut SourceMap::new())?;
         let mut left = after_where(stream.trees())?;
         for part in *wanted {
             if left.is_empty() {
@@ -184,14 +184,14 @@ fn brackets_and_where_are_taken_off() -> Result<(), Fail> {
         ("T >", FaultAt(0)),
     ];
     for (text, wanted) in rows {
-        let stream = TokenStream::from_str(text, &mut SourceMap::new(rt.alloc()))?;
+        let stream = TokenStream::from_str(text, &mut SourceMap::new())?;
         let found = match within_generics(stream.trees()) {
             Ok(_) => End,
             Err(fault) => fault_place(&fault),
         };
         assert!(found == wanted, "{text:?}: {found:?}");
     }
-    let stream = TokenStream::from_str("r#where T: A", &mut SourceMap::new(rt.alloc()))?;
+    let stream = TokenStream::from_str("r#where T: A", &mut SourceMap::new())?;
     assert!(after_where(stream.trees()).is_err(),
         "a raw identifier is no keyword"
     );

@@ -113,7 +113,7 @@ enum Read {
 
 fn check(rt: &(impl Abort + AllocGlobal), read: Read, rows: &[(&str, Parts)]) -> Result<(), Fail> {
     for (text, wanted) in rows {
-        let stream = TokenStream::from_str(text, &mut SourceMap::new(rt.alloc()))?;
+        let stream = TokenStream::from_str(text, &mut SourceMap::new())?;
         let found = match read {
             Read::TypeItem => item_parts(&parse_type_item(stream.trees())),
             Read::NamedField => field_parts(&parse_field(stream.trees())),
@@ -194,7 +194,7 @@ fn items_have_their_parts_in_order() -> Result<(), Fail> {
 fn keywords_are_no_names() -> Result<(), Fail> {
     let rt = HostRuntime;
     let text = "struct _ Self dyn yield try union auto r#struct";
-    let stream = TokenStream::from_str(text, &mut SourceMap::new(rt.alloc()))?;
+    let stream = TokenStream::from_str(text, &mut SourceMap::new())?;
     for (i, tree) in stream.trees().iter().enumerate() {
         if let TokenTree::Ident(ident) = tree {
             assert!(is_keyword(ident) == (i < 5), "{ident}");

@@ -58,7 +58,7 @@ fn parts_given(body: &Body<'_>) -> Given {
 
 fn check(rt: &(impl Abort + AllocGlobal), rows: &[(&str, Given)]) -> Result<(), Fail> {
     for (text, wanted) in rows {
-        let stream = TokenStream::from_str(text, &mut SourceMap::new(rt.alloc()))?;
+        let stream = TokenStream::from_str(text, &mut SourceMap::new())?;
         match parse_type_item(stream.trees()) {
             Ok(item) => assert_eq!(parts_given(&item.body), *wanted, "{text:?}"),
             Err(fault) => assert!(false, "{text:?}: {fault}"),

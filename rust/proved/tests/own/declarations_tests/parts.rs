@@ -74,7 +74,7 @@ fn read(part: Part, trees: &[TokenTree]) -> Answer {
 
 fn check(rt: &(impl Abort + AllocGlobal), part: Part, rows: &[(&str, Answer)]) -> Result<(), Fail> {
     for (text, wanted) in rows {
-        let stream = TokenStream::from_str(text, &mut SourceMap::new(rt.alloc()))?;
+        let stream = TokenStream::from_str(text, &mut SourceMap::new())?;
         let found = read(part, stream.trees());
         assert!(found == *wanted, "{part:?} of {text:?}: {found:?}");
     }
@@ -88,9 +88,9 @@ fn check_unseen(
     rows: &[(&str, &str, Answer)],
 ) -> Result<(), Fail> {
     for (inside, after, wanted) in rows {
-        let mut map = SourceMap::new(rt.alloc());
+        let mut map = SourceMap::new();
         let group = Group::new(Delimiter::None, TokenStream::from_str(inside, &mut map)?);
-        let mut stream = TokenStream::from_tree(rt.alloc(), TokenTree::Group(group))?;
+        let mut stream = TokenStream::from_tree(TokenTree::Group(group))?;
         stream.extend_streams([TokenStream::from_str(after, &mut map)?])?;
         let found = read(part, stream.trees());
         assert!(found == *wanted,

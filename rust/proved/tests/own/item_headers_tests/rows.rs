@@ -1,6 +1,6 @@
 // Made from crates/item_headers_tests/src/rows.rt by rust/erase: change that file, not this one.
 
-use crate::shim::prelude::{AllocGlobal, HostRuntime, String, format};
+use crate::shim::prelude::{AllocGlobal, HostRuntime, format};
 
 // Items, and what is written for them, as it is printed. What is printed is read again.
 use proved::declarations::{ItemKind, TypeItem, parse_item, parse_type_item, split_expression};
@@ -10,7 +10,7 @@ use proved::item_headers::{
 };
 use proved::proc_macro2::{Delimiter, Group, SourceMap, TokenStream, TokenTree};
 use proved::quoting::QuoteError;
-use crate::shim::alloc::{AllocError, Global};
+use crate::shim::alloc::AllocError;
 use crate::shim::process::Abort;
 use crate::shim::test::Fail;
 
@@ -101,24 +101,23 @@ fn check_printed(
     wanted: &str,
 ) -> Result<(), Fail> {
     let stream = found?;
-    let text = format!(in rt.alloc(); "{stream}")?;
+    let text = format!("{stream}")?;
     assert!(text.as_str() == wanted, "of {:?}: {text:?}", row.item);
     Ok(())
 }
 
-fn header_text(alloc: Global, row: Row, clause: &str) -> Result<String, AllocError> {
+fn header_text(row: Row, clause: &str) -> Result<String, AllocError> {
     if clause.is_empty() {
-        return format!(in alloc; "{}", row.front);
+        return format!("{}", row.front);
     }
-    format!(in alloc; "{} {clause}", row.front)
+    format!("{} {clause}", row.front)
 }
 
 fn check_parts(rt: &(impl Abort + AllocGlobal), row: Row, item: &TypeItem<'_>) -> Result<(), Fail> {
-    let alloc = rt.alloc();
-    check_printed(rt, row, impl_generics(alloc, item), row.impl_generics)?;
-    check_printed(rt, row, type_generics(alloc, item), row.type_generics)?;
-    check_printed(rt, row, turbofish(alloc, item), row.turbofish)?;
-    check_printed(rt, row, where_clause(alloc, item), row.where_clause)
+    check_printed(rt, row, impl_generics(item), row.impl_generics)?;
+    check_printed(rt, row, type_generics(item), row.type_generics)?;
+    check_printed(rt, row, turbofish(item), row.turbofish)?;
+    check_printed(rt, row, where_clause(item), row.where_clause)
 }
 
 fn check_bounds(
@@ -127,15 +126,14 @@ fn check_bounds(
     item: &TypeItem<'_>,
     path: &TokenStream,
 ) -> Result<(), Fail> {
-    let alloc = rt.alloc();
-    let wanted = header_text(alloc, row, row.where_clause)?;
-    check_printed(rt, row, impl_header(alloc, item, path), &wanted)?;
-    let clause = where_clause_with_bound(alloc, item, path)?;
-    let wanted = header_text(alloc, row, row.bound)?;
+    let wanted = header_text(row, row.where_clause)?;
+    check_printed(rt, row, impl_header(item, path), &wanted)?;
+    let clause = where_clause_with_bound(item, path)?;
+    let wanted = header_text(row, row.bound)?;
     check_printed(
         rt,
         row,
-        impl_header_where(alloc, item, path, &clause),
+        impl_header_where(item, path, &clause),
         &wanted,
     )?;
     check_printed(rt, row, Ok(clause), row.bound)
@@ -144,8 +142,7 @@ fn check_bounds(
 #[test]
 fn an_impl_has_the_parameters_of_its_type() -> Result<(), Fail> {
     let rt = HostRuntime;
-    let alloc = rt.alloc();
-    let mut map = SourceMap::new(alloc);
+    let mut map = SourceMap::new();
     let predicate = TokenStream::from_str("X: Y", &mut map)?;
     let path = TokenStream::from_str("Z<'b>", &mut map)?;
     for row in ROWS {
@@ -155,7 +152,7 @@ fn an_impl_has_the_parameters_of_its_type() -> Result<(), Fail> {
         check_printed(
             &rt,
             *row,
-            where_clause_with(alloc, &item, &predicate),
+            where_clause_with(&item, &predicate),
             row.with,
         )?;
         check_bounds(&rt, *row, &item, &path)?;
@@ -165,17 +162,17 @@ fn an_impl_has_the_parameters_of_its_type() -> Result<(), Fail> {
 
 // Of an item with the parameters and the where clause that are written the same is written again.
 fn check_written_again(rt: &(impl Abort + AllocGlobal), row: Row) -> Result<(), Fail> {
-    let text = format!(in rt.alloc(); "enum E {} {} {{}}", row.impl_generics, row.where_clause)?;
-    let stream = TokenStream::from_str(&text, &mut SourceMap::new(rt.alloc()))?;
+    let text = format!("enum E {} {} {{}}", row.impl_generics, row.where_clause)?;
+    let stream = TokenStream::from_str(&text, &mut SourceMap::new())?;
     let item = parse_type_item(stream.trees())?;
     check_parts(rt, row, &item)
 }
 
 // With braces a header is one `impl`.
 fn check_impl(rt: &(impl Abort + AllocGlobal), row: Row, clause: &str) -> Result<(), Fail> {
-    let header = header_text(rt.alloc(), row, clause)?;
-    let text = format!(in rt.alloc(); "{header} {{}}")?;
-    let stream = TokenStream::from_str(&text, &mut SourceMap::new(rt.alloc()))?;
+    let header = header_text(row, clause)?;
+    let text = format!("{header} {{}}")?;
+    let stream = TokenStream::from_str(&text, &mut SourceMap::new())?;
     let item = parse_item(stream.trees())?;
     assert!(item.kind == ItemKind::Impl && item.body().is_some(),
         "{text}"
@@ -184,8 +181,8 @@ fn check_impl(rt: &(impl Abort + AllocGlobal), row: Row, clause: &str) -> Result
 }
 
 fn check_expression(rt: &(impl Abort + AllocGlobal), row: Row) -> Result<(), Fail> {
-    let text = format!(in rt.alloc(); "S {}::new()", row.turbofish)?;
-    let stream = TokenStream::from_str(&text, &mut SourceMap::new(rt.alloc()))?;
+    let text = format!("S {}::new()", row.turbofish)?;
+    let stream = TokenStream::from_str(&text, &mut SourceMap::new())?;
     let (_, rest) = split_expression(stream.trees())?;
     assert!(rest.is_empty(), "{text:?} is no expression");
     Ok(())
@@ -206,16 +203,15 @@ fn what_is_written_is_read_as_it_was_meant() -> Result<(), Fail> {
 #[test]
 fn parts_that_are_no_parameters_are_a_fault() -> Result<(), Fail> {
     let rt = HostRuntime;
-    let alloc = rt.alloc();
-    let stream = TokenStream::from_str("struct S<T>(T) where T: A;", &mut SourceMap::new(alloc))?;
+    let stream = TokenStream::from_str("struct S<T>(T) where T: A;", &mut SourceMap::new())?;
     let mut item = parse_type_item(stream.trees())?;
     item.generics = item.where_clause;
-    assert!(matches!(impl_generics(alloc, &item), Err(HeaderError::Fault(_))),
+    assert!(matches!(impl_generics(&item), Err(HeaderError::Fault(_))),
         "no brackets"
     );
-    let text = TokenStream::from_str("where T", &mut SourceMap::new(alloc))?;
+    let text = TokenStream::from_str("where T", &mut SourceMap::new())?;
     item.where_clause = text.trees();
-    assert!(matches!(where_clause(alloc, &item), Err(HeaderError::Fault(_))),
+    assert!(matches!(where_clause(&item), Err(HeaderError::Fault(_))),
         "no bounds"
     );
     Ok(())
@@ -224,12 +220,11 @@ fn parts_that_are_no_parameters_are_a_fault() -> Result<(), Fail> {
 #[test]
 fn a_group_without_delimiters_has_no_printed_text() -> Result<(), Fail> {
     let rt = HostRuntime;
-    let alloc = rt.alloc();
-    let stream = TokenStream::from_str("struct S;", &mut SourceMap::new(alloc))?;
+    let stream = TokenStream::from_str("struct S;", &mut SourceMap::new())?;
     let item = parse_type_item(stream.trees())?;
-    let group = Group::new(Delimiter::None, TokenStream::new(alloc));
-    let path = TokenStream::from_tree(alloc, TokenTree::Group(group))?;
-    let found = impl_header(alloc, &item, &path);
+    let group = Group::new(Delimiter::None, TokenStream::new());
+    let path = TokenStream::from_tree(TokenTree::Group(group))?;
+    let found = impl_header(&item, &path);
     assert!(matches!(found, Err(HeaderError::Quote(QuoteError::NoneGroup))),
         "a path in a group"
     );

@@ -1,6 +1,6 @@
 // Made from crates/quoting_tests/src/random_trees.rt by rust/erase: change that file, not this one.
 
-use crate::shim::prelude::{HostRuntime, Vec, format, vec};
+use crate::shim::prelude::{HostRuntime, format, vec};
 
 // Short lists of random trees: a quote gives a stream exactly where some choice of spacings is well spaced. All
 // choices are tried.
@@ -9,7 +9,6 @@ use proved::proc_macro2::{
     Delimiter, Group, Ident, Literal, Punct, SourceMap, Spacing, Span, TokenStream, TokenTree,
 };
 use proved::quoting::{Quote, QuoteError};
-use crate::shim::alloc::Global;
 use crate::shim::process::Abort;
 use crate::shim::test::Fail;
 
@@ -81,19 +80,19 @@ fn choice_of(number: u32) -> Choice {
 }
 
 /// A leaf of this kind, Joint or Alone if it is a mark.
-fn leaf(alloc: Global, kind: u64, joint: bool) -> Result<TokenTree, Fail> {
+fn leaf(kind: u64, joint: bool) -> Result<TokenTree, Fail> {
     let spacing = if joint {
         Spacing::Joint
     } else {
         Spacing::Alone
     };
     Ok(match kind {
-        0 => TokenTree::Ident(Ident::new(alloc, "a", Span::call_site())?),
-        1 => TokenTree::Ident(Ident::new_raw(alloc, "b", Span::call_site())?),
-        2 => TokenTree::Literal(Literal::character(alloc, 'b')?),
-        3 => TokenTree::Literal(Literal::byte_string(alloc, b"x")?),
-        4 => TokenTree::Literal(Literal::byte_character(alloc, 120)?),
-        5 => TokenTree::Literal(Literal::u8_unsuffixed(alloc, 1)?),
+        0 => TokenTree::Ident(Ident::new("a", Span::call_site())?),
+        1 => TokenTree::Ident(Ident::new_raw("b", Span::call_site())?),
+        2 => TokenTree::Literal(Literal::character('b')?),
+        3 => TokenTree::Literal(Literal::byte_string(b"x")?),
+        4 => TokenTree::Literal(Literal::byte_character(120)?),
+        5 => TokenTree::Literal(Literal::u8_unsuffixed(1)?),
         6 => TokenTree::Punct(Punct::new('/', spacing)),
         7 => TokenTree::Punct(Punct::new('*', spacing)),
         8 => TokenTree::Punct(Punct::new('+', spacing)),
@@ -102,32 +101,30 @@ fn leaf(alloc: Global, kind: u64, joint: bool) -> Result<TokenTree, Fail> {
 }
 
 /// The trees of the case, in this choice of spacings: three leaves, a group of two, and a leaf.
-fn trees(alloc: Global, case: Case, joint: Choice) -> Result<Vec<TokenTree>, Fail> {
+fn trees(case: Case, joint: Choice) -> Result<Vec<TokenTree>, Fail> {
     let delimiter = match case.delimiter {
         0 => Delimiter::None,
         1..=3 => Delimiter::Brace,
         4..=6 => Delimiter::Bracket,
         _ => Delimiter::Parenthesis,
     };
-    let inside = vec![in alloc;
-        leaf(alloc, case.inner, joint.inner)?,
-        leaf(alloc, case.innermost, joint.innermost)?,
+    let inside = vec![leaf(case.inner, joint.inner)?,
+        leaf(case.innermost, joint.innermost)?,
     ]?;
-    let group = Group::new(delimiter, TokenStream::from_trees(alloc, inside)?);
-    Ok(vec![in alloc;
-        leaf(alloc, case.first, joint.first)?,
-        leaf(alloc, case.second, joint.second)?,
-        leaf(alloc, case.third, joint.third)?,
+    let group = Group::new(delimiter, TokenStream::from_trees(inside)?);
+    Ok(vec![leaf(case.first, joint.first)?,
+        leaf(case.second, joint.second)?,
+        leaf(case.third, joint.third)?,
         TokenTree::Group(group),
-        leaf(alloc, case.last, joint.last)?,
+        leaf(case.last, joint.last)?,
     ]?)
 }
 
 /// Whether some choice of spacings is well spaced.
-fn has_a_choice(alloc: Global, case: Case) -> Result<bool, Fail> {
+fn has_a_choice(case: Case) -> Result<bool, Fail> {
     for number in 0..64 {
-        let trees = trees(alloc, case, choice_of(number))?;
-        if TokenStream::from_trees(alloc, trees)?.is_well_spaced() {
+        let trees = trees(case, choice_of(number))?;
+        if TokenStream::from_trees(trees)?.is_well_spaced() {
             return Ok(true);
         }
     }
@@ -135,35 +132,34 @@ fn has_a_choice(alloc: Global, case: Case) -> Result<bool, Fail> {
 }
 
 /// The quote of the case in the choice of this number.
-fn quoted(alloc: Global, case: Case, number: u32) -> Result<Quote, Fail> {
-    let mut quote = Quote::new(alloc);
-    for tree in trees(alloc, case, choice_of(number))? {
+fn quoted(case: Case, number: u32) -> Result<Quote, Fail> {
+    let mut quote = Quote::new();
+    for tree in trees(case, choice_of(number))? {
         quote.push(tree)?;
     }
     Ok(quote)
 }
 
 /// Whether the printed text parses to the same tokens.
-fn comes_back(alloc: Global, stream: &TokenStream) -> Result<bool, Fail> {
-    let text = format!(in alloc; "{stream}")?;
-    let back = TokenStream::from_str(text.as_str(), &mut SourceMap::new(alloc))?;
+fn comes_back(stream: &TokenStream) -> Result<bool, Fail> {
+    let text = format!("{stream}")?;
+    let back = TokenStream::from_str(text.as_str(), &mut SourceMap::new())?;
     Ok(stream.same_tokens(&back))
 }
 
 #[test]
 fn a_stream_is_given_exactly_where_some_choice_is_well_spaced() -> Result<(), Fail> {
     let rt = HostRuntime;
-    let alloc = rt.alloc();
     let mut random = Random { state: 7 };
     let mut given: u32 = 0;
     for _ in 0..LISTS {
         let case = random.case();
         let number = random.below(64) as u32;
-        let may = has_a_choice(alloc, case)?;
-        match quoted(alloc, case, number)?.finish() {
+        let may = has_a_choice(case)?;
+        match quoted(case, number)?.finish() {
             Ok(stream) => {
                 assert!(may, "of {case:?}");
-                assert!(comes_back(alloc, &stream)?, "of {case:?}");
+                assert!(comes_back(&stream)?, "of {case:?}");
                 given = given.saturating_add(1);
             }
             Err(QuoteError::Memory(error)) => return Err(Fail::from(error)),

@@ -1,6 +1,6 @@
 // Made from crates/quoting_tests/src/rows.rt by rust/erase: change that file, not this one.
 
-use crate::shim::prelude::{AllocGlobal, HostRuntime, String, format};
+use crate::shim::prelude::{AllocGlobal, HostRuntime, format};
 
 // What comes out of trees of each kind. What is printed is parsed again and compared.
 use crate::quoting_tests::trees::{Inner, Leaf, Tree, quoted};
@@ -8,7 +8,7 @@ use proved::proc_macro2::{
     Delimiter, Group, ParseError, Punct, SourceMap, Spacing, Span, TokenStream, TokenTree,
 };
 use proved::quoting::{Quote, QuoteError, TemplateError};
-use crate::shim::alloc::{AllocError, Global};
+use crate::shim::alloc::AllocError;
 use crate::shim::fmt::{Debug, Display};
 use crate::shim::process::Abort;
 use crate::shim::test::Fail;
@@ -125,8 +125,8 @@ const NESTED: &[Tree] = &[
 ];
 
 /// Whether the text parses to the same tokens as the stream.
-fn comes_back(alloc: Global, stream: &TokenStream, text: &str) -> Result<bool, ParseError> {
-    let back = TokenStream::from_str(text, &mut SourceMap::new(alloc))?;
+fn comes_back(stream: &TokenStream, text: &str) -> Result<bool, ParseError> {
+    let back = TokenStream::from_str(text, &mut SourceMap::new())?;
     Ok(stream.same_tokens(&back))
 }
 
@@ -136,9 +136,9 @@ fn check_stream(
     stream: &TokenStream,
     want: &str,
 ) -> Result<(), ParseError> {
-    let text = format!(in rt.alloc(); "{stream}")?;
+    let text = format!("{stream}")?;
     assert_eq!(text.as_str(), want);
-    assert!(comes_back(rt.alloc(), stream, text.as_str())?,
+    assert!(comes_back(stream, text.as_str())?,
         "of {want:?}"
     );
     Ok(())
@@ -193,7 +193,7 @@ fn what_no_spacing_mends_is_told() -> Result<(), Fail> {
 /// What the quote of the trees shows of itself.
 fn shown(rt: &(impl Abort + AllocGlobal), trees: &[Tree]) -> Result<String, Fail> {
     let stream = quoted(rt, trees)?.finish()?;
-    Ok(format!(in rt.alloc(); "{stream:?}")?)
+    Ok(format!("{stream:?}")?)
 }
 
 #[test]
@@ -218,19 +218,19 @@ fn marks_in_groups_are_respaced_and_the_quote_stays() -> Result<(), Fail> {
 }
 
 /// So many parentheses inside one another, around a mark that is Joint.
-fn deep_groups(alloc: Global, levels: u32) -> Result<TokenStream, Fail> {
-    let mut stream = TokenStream::new(alloc);
+fn deep_groups(levels: u32) -> Result<TokenStream, Fail> {
+    let mut stream = TokenStream::new();
     stream.extend_puncts([Punct::new('+', Spacing::Joint)])?;
     for _ in 0..levels {
         let group = Group::new(Delimiter::Parenthesis, stream);
-        stream = TokenStream::from_tree(alloc, TokenTree::Group(group))?;
+        stream = TokenStream::from_tree(TokenTree::Group(group))?;
     }
     Ok(stream)
 }
 
 /// The quote of the stream.
-pub fn quote_of(alloc: Global, stream: TokenStream) -> Result<Quote, Fail> {
-    let mut quote = Quote::new(alloc);
+pub fn quote_of(stream: TokenStream) -> Result<Quote, Fail> {
+    let mut quote = Quote::new();
     quote.push_stream(stream)?;
     Ok(quote)
 }
@@ -238,7 +238,7 @@ pub fn quote_of(alloc: Global, stream: TokenStream) -> Result<Quote, Fail> {
 #[test]
 fn deep_groups_are_respaced_without_a_deep_stack() -> Result<(), Fail> {
     let rt = HostRuntime;
-    let quote = quote_of(rt.alloc(), deep_groups(rt.alloc(), 100_000)?)?;
+    let quote = quote_of(deep_groups(100_000)?)?;
     assert!(quote.finish()?.is_well_spaced());
     Ok(())
 }
@@ -249,7 +249,7 @@ fn says<T: Display>(
     error: &T,
     want: &str,
 ) -> Result<(), AllocError> {
-    let text = format!(in rt.alloc(); "{error}")?;
+    let text = format!("{error}")?;
     assert_eq!(text.as_str(), want);
     Ok(())
 }
@@ -260,7 +260,7 @@ fn shows<T: Debug>(
     error: &T,
     want: &str,
 ) -> Result<(), AllocError> {
-    let text = format!(in rt.alloc(); "{error:?}")?;
+    let text = format!("{error:?}")?;
     assert_eq!(text.as_str(), want);
     Ok(())
 }
@@ -279,7 +279,7 @@ fn errors_say_why() -> Result<(), AllocError> {
 /// Adds a mark that is Joint, so that it is made Alone, and a group of a name to the quote.
 fn push_pair(rt: &(impl Abort + AllocGlobal), quote: &mut Quote) -> Result<(), Fail> {
     quote.push(TokenTree::Punct(Punct::new('+', Spacing::Joint)))?;
-    let name = TokenStream::from_str("x", &mut SourceMap::new(rt.alloc()))?;
+    let name = TokenStream::from_str("x", &mut SourceMap::new())?;
     quote.push(TokenTree::Group(Group::new(Delimiter::Parenthesis, name)))?;
     Ok(())
 }
@@ -287,7 +287,7 @@ fn push_pair(rt: &(impl Abort + AllocGlobal), quote: &mut Quote) -> Result<(), F
 #[test]
 fn forty_thousand_trees_are_finished() -> Result<(), Fail> {
     let rt = HostRuntime;
-    let mut quote = Quote::new(rt.alloc());
+    let mut quote = Quote::new();
     for _ in 0..20_000 {
         push_pair(&rt, &mut quote)?;
     }
@@ -304,7 +304,7 @@ fn the_trees_of_a_text_go_between_others() -> Result<(), Fail> {
         &rt,
         &[Tree::One(Leaf::Name("x")), Tree::One(Leaf::Alone(':'))],
     )?;
-    let kind = TokenStream::from_str("std::vec::Vec<u8>", &mut SourceMap::new(rt.alloc()))?;
+    let kind = TokenStream::from_str("std::vec::Vec<u8>", &mut SourceMap::new())?;
     quote.push_stream(kind)?;
     quote.push(TokenTree::Punct(Punct::new(',', Spacing::Joint)))?;
     check_quote(&rt, &quote, "x : std :: vec :: Vec < u8 > ,")

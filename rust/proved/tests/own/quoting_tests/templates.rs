@@ -1,12 +1,12 @@
 // Made from crates/quoting_tests/src/templates.rt by rust/erase: change that file, not this one.
 
-use crate::shim::prelude::{AllocGlobal, HostRuntime, String, Vec, format};
+use crate::shim::prelude::{AllocGlobal, Grow, GrowText, HostRuntime, format};
 
 // Templates as a program that writes code uses them.
 use crate::quoting_tests::rows::check_quote;
 use proved::proc_macro2::{SourceMap, Span, TokenStream, TokenTree};
 use proved::quoting::{Hole, Quote, TemplateError};
-use crate::shim::alloc::{AllocError, Global};
+use crate::shim::alloc::AllocError;
 use crate::shim::process::Abort;
 use crate::shim::test::Fail;
 
@@ -24,69 +24,68 @@ struct Fillings {
     lists: Vec<Vec<TokenStream>>,
 }
 
-fn parsed(alloc: Global, text: &str) -> Result<TokenStream, Fail> {
-    Ok(TokenStream::from_str(text, &mut SourceMap::new(alloc))?)
+fn parsed(text: &str) -> Result<TokenStream, Fail> {
+    Ok(TokenStream::from_str(text, &mut SourceMap::new())?)
 }
 
-fn parsed_list(alloc: Global, texts: &[&str]) -> Result<Vec<TokenStream>, Fail> {
-    let mut streams = Vec::new(alloc);
+fn parsed_list(texts: &[&str]) -> Result<Vec<TokenStream>, Fail> {
+    let mut streams = Vec::new();
     for text in texts {
-        streams.push(parsed(alloc, text)?)?;
+        streams.push_fallibly(parsed(text)?)?;
     }
     Ok(streams)
 }
 
-fn parsed_ones(alloc: Global, ones: &[(&str, &str)]) -> Result<Vec<TokenStream>, Fail> {
-    let mut streams = Vec::new(alloc);
+fn parsed_ones(ones: &[(&str, &str)]) -> Result<Vec<TokenStream>, Fail> {
+    let mut streams = Vec::new();
     for &(_, text) in ones {
-        streams.push(parsed(alloc, text)?)?;
+        streams.push_fallibly(parsed(text)?)?;
     }
     Ok(streams)
 }
 
-fn parsed_lists(alloc: Global, lists: &[(&str, &[&str])]) -> Result<Vec<Vec<TokenStream>>, Fail> {
-    let mut parsed = Vec::new(alloc);
+fn parsed_lists(lists: &[(&str, &[&str])]) -> Result<Vec<Vec<TokenStream>>, Fail> {
+    let mut parsed = Vec::new();
     for &(_, texts) in lists {
-        parsed.push(parsed_list(alloc, texts)?)?;
+        parsed.push_fallibly(parsed_list(texts)?)?;
     }
     Ok(parsed)
 }
 
-fn parsed_holes(alloc: Global, given: Given) -> Result<Fillings, Fail> {
-    let ones = parsed_ones(alloc, given.ones)?;
-    let lists = parsed_lists(alloc, given.lists)?;
+fn parsed_holes(given: Given) -> Result<Fillings, Fail> {
+    let ones = parsed_ones(given.ones)?;
+    let lists = parsed_lists(given.lists)?;
     Ok(Fillings { ones, lists })
 }
 
 // The holes of these names, each for what its texts parsed to.
 fn holes<'a>(
-    alloc: Global,
     given: Given,
     fillings: &'a Fillings,
 ) -> Result<Vec<Hole<'a>>, AllocError> {
-    let mut holes = Vec::new(alloc);
+    let mut holes = Vec::new();
     for (&(name, _), stream) in given.ones.iter().zip(fillings.ones.iter()) {
-        holes.push(Hole::one(name, stream))?;
+        holes.push_fallibly(Hole::one(name, stream))?;
     }
     for (&(name, _), streams) in given.lists.iter().zip(fillings.lists.iter()) {
-        holes.push(Hole::each(name, streams.as_slice()))?;
+        holes.push_fallibly(Hole::each(name, streams.as_slice()))?;
     }
     Ok(holes)
 }
 
 // What a quote of the template prints that these holes fill.
-fn filled_by(alloc: Global, template: &str, holes: &[Hole<'_>]) -> Result<String, Fail> {
-    let mut quote = Quote::new(alloc);
-    quote.parse(template, &mut SourceMap::new(alloc), holes)?;
+fn filled_by(template: &str, holes: &[Hole<'_>]) -> Result<String, Fail> {
+    let mut quote = Quote::new();
+    quote.parse(template, &mut SourceMap::new(), holes)?;
     let stream = quote.finish()?;
-    Ok(format!(in alloc; "{stream}")?)
+    Ok(format!("{stream}")?)
 }
 
 // What a quote of the filled template prints.
-fn filled(alloc: Global, template: &str, given: Given) -> Result<String, Fail> {
-    let fillings = parsed_holes(alloc, given)?;
-    let holes = holes(alloc, given, &fillings)?;
-    filled_by(alloc, template, holes.as_slice())
+fn filled(template: &str, given: Given) -> Result<String, Fail> {
+    let fillings = parsed_holes(given)?;
+    let holes = holes(given, &fillings)?;
+    filled_by(template, holes.as_slice())
 }
 
 /// Asserts what a quote of the filled template prints.
@@ -96,18 +95,17 @@ fn check_filled(
     given: Given,
     want: &str,
 ) -> Result<(), Fail> {
-    let code = filled(rt.alloc(), template, given)?;
+    let code = filled(template, given)?;
     assert_eq!(code.as_str(), want, "of {template:?}");
     Ok(())
 }
 
 // What is wrong with a template, and where it is.
 fn told(
-    alloc: Global,
     error: &TemplateError,
     map: &SourceMap,
 ) -> Result<Option<(String, usize, usize)>, AllocError> {
-    let message = format!(in alloc; "{error}")?;
+    let message = format!("{error}")?;
     Ok(match span_of(error) {
         Some(span) if map.holds(span) => {
             Some((message, span.start(map).column, span.end(map).column))
@@ -118,15 +116,14 @@ fn told(
 
 // Where the fault of the template is, and what it is.
 fn fault(
-    alloc: Global,
     template: &str,
     holes: &[Hole<'_>],
 ) -> Result<Option<(String, usize, usize)>, AllocError> {
-    let mut map = SourceMap::new(alloc);
-    let mut quote = Quote::new(alloc);
+    let mut map = SourceMap::new();
+    let mut quote = Quote::new();
     match quote.parse(template, &mut map, holes) {
         Ok(()) => Ok(None),
-        Err(error) => told(alloc, &error, &map),
+        Err(error) => told(&error, &map),
     }
 }
 
@@ -139,7 +136,8 @@ fn span_of(error: &TemplateError) -> Option<Span> {
         | TemplateError::Nested(span)
         | TemplateError::TooDeep(span) => Some(*span),
         TemplateError::Parse(_) | TemplateError::Memory(_) => None,
-    }
+    _ => unreachable!("each case is above"),
+}
 }
 
 // The text where the tree stands.
@@ -158,7 +156,7 @@ fn check_fault(
     holes: &[Hole<'_>],
     want: (&str, usize, usize),
 ) -> Result<(), AllocError> {
-    match fault(rt.alloc(), template, holes)? {
+    match fault(template, holes)? {
         Some((message, start, end)) => {
             assert_eq!(message.as_str(), want.0, "of {template:?}");
             assert_eq!((start, end), (want.1, want.2), "of {template:?}");
@@ -174,8 +172,8 @@ fn check_faults(
     given: Given,
     rows: &[(&str, (&str, usize, usize))],
 ) -> Result<(), Fail> {
-    let fillings = parsed_holes(rt.alloc(), given)?;
-    let holes = holes(rt.alloc(), given, &fillings)?;
+    let fillings = parsed_holes(given)?;
+    let holes = holes(given, &fillings)?;
     for &(template, want) in rows {
         check_fault(rt, template, holes.as_slice(), want)?;
     }
@@ -260,10 +258,9 @@ fn templates_are_filled() -> Result<(), Fail> {
 #[test]
 fn tokens_of_the_template_and_of_the_holes_keep_their_spans() -> Result<(), Fail> {
     let rt = HostRuntime;
-    let alloc = rt.alloc();
-    let mut map = SourceMap::new(alloc);
+    let mut map = SourceMap::new();
     let name = TokenStream::from_str("point", &mut map)?;
-    let mut quote = Quote::new(alloc);
+    let mut quote = Quote::new();
     quote.parse("let #name = (1);", &mut map, &[Hole::one("name", &name)])?;
     let stream = quote.finish()?;
     let [word, name, equals, group, end] = stream.trees() else {
@@ -351,21 +348,20 @@ fn parentheses_come_before_what_is_wrong_inside() -> Result<(), Fail> {
 
 /// A text inside so many parentheses, between two others.
 fn deep(
-    alloc: Global,
     before: &str,
     inside: &str,
     after: &str,
     levels: usize,
 ) -> Result<String, AllocError> {
-    let mut text = String::from_str(alloc, before)?;
+    let mut text = String::from_str_fallibly(before)?;
     for _ in 0..levels {
-        text.push('(')?;
+        text.push_fallibly('(')?;
     }
-    text.push_str(inside)?;
+    text.push_str_fallibly(inside)?;
     for _ in 0..levels {
-        text.push(')')?;
+        text.push_fallibly(')')?;
     }
-    text.push_str(after)?;
+    text.push_str_fallibly(after)?;
     Ok(text)
 }
 
@@ -376,7 +372,7 @@ fn check_deep(
     levels: usize,
     want: (&str, usize, usize),
 ) -> Result<(), Fail> {
-    let template = deep(rt.alloc(), before, inside, after, levels)?;
+    let template = deep(before, inside, after, levels)?;
     check_faults(rt, HOLES, &[(template.as_str(), want)])
 }
 
@@ -413,15 +409,15 @@ fn a_list_is_found_deeper_than_groups_may_nest() -> Result<(), Fail> {
 #[test]
 fn groups_nest_64_deep() -> Result<(), Fail> {
     let rt = HostRuntime;
-    let template = deep(rt.alloc(), "", "x", "", 64)?;
-    let code = filled_by(rt.alloc(), template.as_str(), &[])?;
+    let template = deep("", "x", "", 64)?;
+    let code = filled_by(template.as_str(), &[])?;
     assert_eq!(code.len(), 129);
     check_deep(&rt, ("", "x", ""), 65, ("groups nested too deep", 64, 67))
 }
 
 /// Asserts that neither a hole that is missing nor a fault of the template's text is accepted.
 fn check_refused(rt: &(impl Abort + AllocGlobal), quote: &mut Quote) {
-    let mut map = SourceMap::new(rt.alloc());
+    let mut map = SourceMap::new();
     assert!(quote.parse("b #y", &mut map, &[]).is_err());
     assert!(matches!(
             quote.parse("b (", &mut map, &[]),
@@ -431,9 +427,9 @@ fn check_refused(rt: &(impl Abort + AllocGlobal), quote: &mut Quote) {
 }
 
 /// Adds the template `#x;` with `a` for its hole to the quote.
-fn fill(alloc: Global, quote: &mut Quote) -> Result<(), Fail> {
-    let one = parsed(alloc, "a")?;
-    let template = parsed(alloc, "#x;")?;
+fn fill(quote: &mut Quote) -> Result<(), Fail> {
+    let one = parsed("a")?;
+    let template = parsed("#x;")?;
     quote.fill(&template, &[Hole::one("x", &one)])?;
     Ok(())
 }
@@ -441,8 +437,8 @@ fn fill(alloc: Global, quote: &mut Quote) -> Result<(), Fail> {
 #[test]
 fn a_fault_leaves_the_quote_as_it_was() -> Result<(), Fail> {
     let rt = HostRuntime;
-    let mut quote = Quote::new(rt.alloc());
-    fill(rt.alloc(), &mut quote)?;
+    let mut quote = Quote::new();
+    fill(&mut quote)?;
     check_refused(&rt, &mut quote);
     check_quote(&rt, &quote, "a ;")?;
     assert!(matches!(quote.finish()?.trees().first(), Some(TokenTree::Ident(_))));

@@ -1,7 +1,7 @@
 // Made from crates/quoting_tests/src/trees.rt by rust/erase: change that file, not this one.
 //! Trees as the rows of tests note them.
 
-use crate::shim::prelude::{AllocGlobal, Vec};
+use crate::shim::prelude::{AllocGlobal, Grow};
 
 use proved::proc_macro2::{Delimiter, Group, Ident, Literal, Punct, Spacing, Span, TokenStream, TokenTree};
 use proved::quoting::Quote;
@@ -51,14 +51,13 @@ fn mark(rt: &impl Abort, mark: char, spacing: Spacing) -> TokenTree {
 
 /// The leaf as a tree.
 fn leaf_tree(rt: &(impl Abort + AllocGlobal), leaf: Leaf) -> Result<TokenTree, Fail> {
-    let alloc = rt.alloc();
     Ok(match leaf {
-        Leaf::Name(name) => TokenTree::Ident(Ident::new(alloc, name, Span::call_site())?),
+        Leaf::Name(name) => TokenTree::Ident(Ident::new(name, Span::call_site())?),
         Leaf::Joint(c) => mark(rt, c, Spacing::Joint),
         Leaf::Alone(c) => mark(rt, c, Spacing::Alone),
-        Leaf::Character(c) => TokenTree::Literal(Literal::character(alloc, c)?),
-        Leaf::Bytes(text) => TokenTree::Literal(Literal::byte_string(alloc, text.as_bytes())?),
-        Leaf::Number(number) => TokenTree::Literal(Literal::i32_suffixed(alloc, number)?),
+        Leaf::Character(c) => TokenTree::Literal(Literal::character(c)?),
+        Leaf::Bytes(text) => TokenTree::Literal(Literal::byte_string(text.as_bytes())?),
+        Leaf::Number(number) => TokenTree::Literal(Literal::i32_suffixed(number)?),
     })
 }
 
@@ -68,15 +67,15 @@ fn group(
     delimiter: Delimiter,
     trees: Vec<TokenTree>,
 ) -> Result<TokenTree, Fail> {
-    let inside = TokenStream::from_trees(rt.alloc(), trees)?;
+    let inside = TokenStream::from_trees(trees)?;
     Ok(TokenTree::Group(Group::new(delimiter, inside)))
 }
 
 /// The leaves as trees.
 fn leaves(rt: &(impl Abort + AllocGlobal), leaves: &[Leaf]) -> Result<Vec<TokenTree>, Fail> {
-    let mut trees = Vec::new(rt.alloc());
+    let mut trees = Vec::new();
     for it in leaves {
-        trees.push(leaf_tree(rt, *it)?)?;
+        trees.push_fallibly(leaf_tree(rt, *it)?)?;
     }
     Ok(trees)
 }
@@ -91,9 +90,9 @@ fn inner_tree(rt: &(impl Abort + AllocGlobal), tree: Inner) -> Result<TokenTree,
 
 /// Leaves and groups of leaves as trees.
 fn inners(rt: &(impl Abort + AllocGlobal), inside: &[Inner]) -> Result<Vec<TokenTree>, Fail> {
-    let mut trees = Vec::new(rt.alloc());
+    let mut trees = Vec::new();
     for it in inside {
-        trees.push(inner_tree(rt, *it)?)?;
+        trees.push_fallibly(inner_tree(rt, *it)?)?;
     }
     Ok(trees)
 }
@@ -108,7 +107,7 @@ fn outer_tree(rt: &(impl Abort + AllocGlobal), tree: Tree) -> Result<TokenTree, 
 
 /// The quote of the trees.
 pub fn quoted(rt: &(impl Abort + AllocGlobal), trees: &[Tree]) -> Result<Quote, Fail> {
-    let mut quote = Quote::new(rt.alloc());
+    let mut quote = Quote::new();
     for it in trees {
         quote.push(outer_tree(rt, *it)?)?;
     }

@@ -2,12 +2,12 @@
 //! The laws of parsed and printed streams, asked of many texts, of each beginning of each, and of the two parts into
 //! which each of its byte offsets cuts it.
 
-use crate::shim::prelude::{AllocGlobal, HostRuntime, Repeat, String, format};
+use crate::shim::prelude::{AllocGlobal, HostRuntime, Repeat, format};
 
 use crate::stream_tests::checks::{parsed, repeated};
 use proved::pm_span::parts::bounds;
 use proved::proc_macro2::{ParseError, TokenStream};
-use crate::shim::alloc::{AllocError, Global};
+use crate::shim::alloc::AllocError;
 use crate::shim::process::Abort;
 
 /// Texts that parse.
@@ -208,10 +208,10 @@ const FAULTY: &[&str] = &[
 ];
 
 /// Whether a parsed stream is well spaced, and comes back from its printed text, which is then printed the same.
-fn comes_back(alloc: Global, stream: &TokenStream) -> Result<bool, ParseError> {
-    let text = format!(in alloc; "{stream}")?;
-    let again = parsed(alloc, text.as_str())?;
-    let again_text = format!(in alloc; "{again}")?;
+fn comes_back(stream: &TokenStream) -> Result<bool, ParseError> {
+    let text = format!("{stream}")?;
+    let again = parsed(text.as_str())?;
+    let again_text = format!("{again}")?;
     let same = stream.same_tokens(&again) && again.same_tokens(stream);
     Ok(same && stream.is_well_spaced() && again_text == text)
 }
@@ -219,13 +219,13 @@ fn comes_back(alloc: Global, stream: &TokenStream) -> Result<bool, ParseError> {
 /// Asserts that the text parses to a stream that comes back from its printed text, or else has a fault at one of its
 /// byte offsets; and whether it parses, where that is known.
 fn check_text(rt: &(impl Abort + AllocGlobal), text: &str, parses: Option<bool>) {
-    let stream = parsed(rt.alloc(), text);
+    let stream = parsed(text);
     if let Some(parses) = parses {
         assert_eq!(stream.is_ok(), parses, "of {text:?}");
     }
     match stream {
         Ok(stream) => {
-            let back = comes_back(rt.alloc(), &stream).expect(text);
+            let back = comes_back(&stream).expect(text);
             assert!(back, "of {text:?}");
         }
         Err(ParseError::Lex(fault)) => {
@@ -238,9 +238,9 @@ fn check_text(rt: &(impl Abort + AllocGlobal), text: &str, parses: Option<bool>)
 }
 
 /// Whether the two streams, one after the other, have the tokens of the text.
-fn gives_both(alloc: Global, text: &str, streams: [TokenStream; 2]) -> Result<bool, ParseError> {
-    let both = TokenStream::from_streams(alloc, streams)?;
-    Ok(parsed(alloc, text)?.same_tokens(&both))
+fn gives_both(text: &str, streams: [TokenStream; 2]) -> Result<bool, ParseError> {
+    let both = TokenStream::from_streams(streams)?;
+    Ok(parsed(text)?.same_tokens(&both))
 }
 
 /// Asserts that the two texts with a line feed between them have the trees of both, where each parses and the second
@@ -249,16 +249,16 @@ fn check_joined(rt: &(impl Abort + AllocGlobal), first: &str, second: &str) {
     if second.starts_with('\u{feff}') {
         return;
     }
-    if let (Ok(before), Ok(after)) = (parsed(rt.alloc(), first), parsed(rt.alloc(), second)) {
-        let text = joined(rt.alloc(), first, second).expect(first);
-        let same = gives_both(rt.alloc(), text.as_str(), [before, after]).expect(first);
+    if let (Ok(before), Ok(after)) = (parsed(first), parsed(second)) {
+        let text = joined(first, second).expect(first);
+        let same = gives_both(text.as_str(), [before, after]).expect(first);
         assert!(same, "of {text:?}");
     }
 }
 
 /// The two texts with a line feed between them.
-fn joined(alloc: Global, first: &str, second: &str) -> Result<String, AllocError> {
-    format!(in alloc; "{first}\n{second}")
+fn joined(first: &str, second: &str) -> Result<String, AllocError> {
+    format!("{first}\n{second}")
 }
 
 /// Asserts the laws of the text, of each of its beginnings, and of the two parts at each of its byte offsets.
@@ -311,7 +311,7 @@ fn beginnings_of_long_texts_keep_the_laws() -> Result<(), AllocError> {
         (&[("/*", 100), ("*/", 99)], false),
     ];
     for (parts, parses) in rows {
-        let text = repeated(rt.alloc(), parts)?;
+        let text = repeated(parts)?;
         check_beginnings(&rt, text.as_str(), parses);
     }
     Ok(())

@@ -1,6 +1,6 @@
 // Made from crates/stream_tests/src/building.rt by rust/erase: change that file, not this one.
 
-use crate::shim::prelude::{Clone, Collect, Extend, HostRuntime, Vec, vec};
+use crate::shim::prelude::{Collect, Grow, HostRuntime, TryClone, TryExtend, vec};
 
 // Streams that are built of trees, of other streams and of tokens.
 use crate::stream_tests::checks::{displays, parsed, shows};
@@ -10,18 +10,18 @@ use proved::pm_token::parts::punct;
 use proved::proc_macro2::{
     Delimiter, Group, Ident, IdentError, Literal, Spacing, Span, TokenStream, TokenTree,
 };
-use crate::shim::alloc::{AllocError, Global};
+use crate::shim::alloc::AllocError;
 use crate::shim::process::Abort;
 use crate::shim::test::Fail;
 
 // The identifier `x`, which stands in no file.
-fn x(alloc: Global) -> Result<Ident, IdentError> {
-    Ident::new(alloc, "x", Span::call_site())
+fn x() -> Result<Ident, IdentError> {
+    Ident::new("x", Span::call_site())
 }
 
 // The stream of `x` alone.
-fn only_x(alloc: Global) -> Result<TokenStream, IdentError> {
-    Ok(TokenStream::from_tree(alloc, TokenTree::Ident(x(alloc)?))?)
+fn only_x() -> Result<TokenStream, IdentError> {
+    Ok(TokenStream::from_tree(TokenTree::Ident(x()?))?)
 }
 
 // The group of this stream, which stands in no file.
@@ -30,8 +30,8 @@ fn grouped(delimiter: Delimiter, stream: TokenStream) -> Group {
 }
 
 // The literal `-3i32` at 1..6.
-fn minus_three(alloc: Global) -> Result<Literal, AllocError> {
-    let mut literal = Literal::i32_suffixed(alloc, -3)?;
+fn minus_three() -> Result<Literal, AllocError> {
+    let mut literal = Literal::i32_suffixed(-3)?;
     literal.set_span(span_of(1, 6));
     Ok(literal)
 }
@@ -39,38 +39,36 @@ fn minus_three(alloc: Global) -> Result<Literal, AllocError> {
 #[test]
 fn a_negative_literal_is_put_in_as_its_sign_and_the_rest() -> Result<(), Fail> {
     let rt = HostRuntime;
-    let alloc = rt.alloc();
-    let stream = TokenStream::from_tree(alloc, TokenTree::Literal(minus_three(alloc)?))?;
-    displays(&rt, rt.alloc(), &stream, "- 3i32")?;
+    let stream = TokenStream::from_tree(TokenTree::Literal(minus_three()?))?;
+    displays(&rt, &stream, "- 3i32")?;
     let want = "TokenStream [Punct { char: '-', spacing: Alone, span: bytes(1..6) }, \
         Literal { lit: 3i32, span: bytes(1..6) }]";
-    shows(&rt, alloc, &stream, want)?;
+    shows(&rt, &stream, want)?;
     Ok(())
 }
 
 #[test]
 fn a_mark_keeps_its_spacing() -> Result<(), Fail> {
     let rt = HostRuntime;
-    let alloc = rt.alloc();
     let colon = TokenTree::Punct(punct(':', Spacing::Joint, Span::call_site()));
-    let stream = TokenStream::from_tree(alloc, colon)?;
-    displays(&rt, rt.alloc(), &stream, ":")?;
+    let stream = TokenStream::from_tree(colon)?;
+    displays(&rt, &stream, ":")?;
     let want = "TokenStream [Punct { char: ':', spacing: Joint }]";
-    shows(&rt, alloc, &stream, want)?;
+    shows(&rt, &stream, want)?;
     Ok(())
 }
 
 // An empty group in braces, and one of `x` for each delimiter.
-fn groups(alloc: Global) -> Result<Vec<Group>, Fail> {
-    let mut groups = Vec::new(alloc);
-    groups.push(grouped(Delimiter::Brace, TokenStream::new(alloc)))?;
+fn groups() -> Result<Vec<Group>, Fail> {
+    let mut groups = Vec::new();
+    groups.push_fallibly(grouped(Delimiter::Brace, TokenStream::new()))?;
     for delimiter in [
         Delimiter::Brace,
         Delimiter::Parenthesis,
         Delimiter::Bracket,
         Delimiter::None,
     ] {
-        groups.push(grouped(delimiter, only_x(alloc)?))?;
+        groups.push_fallibly(grouped(delimiter, only_x()?))?;
     }
     Ok(groups)
 }
@@ -78,14 +76,14 @@ fn groups(alloc: Global) -> Result<Vec<Group>, Fail> {
 #[test]
 fn groups_are_put_after_one_another() -> Result<(), Fail> {
     let rt = HostRuntime;
-    let mut stream = TokenStream::new(rt.alloc());
-    stream.extend_groups(groups(rt.alloc())?)?;
-    displays(&rt, rt.alloc(), &stream, "{ } { x } (x) [x] x")?;
+    let mut stream = TokenStream::new();
+    stream.extend_groups(groups()?)?;
+    displays(&rt, &stream, "{ } { x } (x) [x] x")?;
     Ok(())
 }
 
-fn add_identifiers(alloc: Global, stream: &mut TokenStream) -> Result<(), Fail> {
-    stream.extend_idents([x(alloc)?, x(alloc)?])?;
+fn add_identifiers(stream: &mut TokenStream) -> Result<(), Fail> {
+    stream.extend_idents([x()?, x()?])?;
     Ok(())
 }
 
@@ -97,126 +95,121 @@ fn add_marks(stream: &mut TokenStream) -> Result<(), Fail> {
     Ok(())
 }
 
-fn add_literals(alloc: Global, stream: &mut TokenStream) -> Result<(), Fail> {
-    let one = Literal::u8_unsuffixed(alloc, 1)?;
-    stream.extend_literals([minus_three(alloc)?, one])?;
+fn add_literals(stream: &mut TokenStream) -> Result<(), Fail> {
+    let one = Literal::u8_unsuffixed(1)?;
+    stream.extend_literals([minus_three()?, one])?;
     Ok(())
 }
 
-fn add_trees(alloc: Global, stream: &mut TokenStream) -> Result<(), Fail> {
+fn add_trees(stream: &mut TokenStream) -> Result<(), Fail> {
     let plus = TokenTree::Punct(punct('+', Spacing::Alone, Span::call_site()));
-    stream.extend_trees([plus, TokenTree::Literal(minus_three(alloc)?)])?;
+    stream.extend_trees([plus, TokenTree::Literal(minus_three()?)])?;
     Ok(())
 }
 
 #[test]
 fn tokens_of_each_kind_are_put_in() -> Result<(), Fail> {
     let rt = HostRuntime;
-    let alloc = rt.alloc();
-    let mut stream = TokenStream::new(alloc);
-    add_identifiers(alloc, &mut stream)?;
+    let mut stream = TokenStream::new();
+    add_identifiers(&mut stream)?;
     add_marks(&mut stream)?;
-    add_literals(alloc, &mut stream)?;
-    add_trees(alloc, &mut stream)?;
-    displays(&rt, rt.alloc(), &stream, "x x += - 3i32 1 + - 3i32")?;
+    add_literals(&mut stream)?;
+    add_trees(&mut stream)?;
+    displays(&rt, &stream, "x x += - 3i32 1 + - 3i32")?;
     Ok(())
 }
 
 // The stream of nothing, of what another has, and of `-3i32`.
-fn three_streams(alloc: Global, other: &TokenStream) -> Result<TokenStream, Fail> {
-    let again = other.clone()?;
-    let minus = TokenStream::from_tree(alloc, TokenTree::Literal(minus_three(alloc)?))?;
-    let nothing = TokenStream::new(alloc);
-    Ok(TokenStream::from_streams(alloc, [nothing, again, minus])?)
+fn three_streams(other: &TokenStream) -> Result<TokenStream, Fail> {
+    let again = other.try_clone()?;
+    let minus = TokenStream::from_tree(TokenTree::Literal(minus_three()?))?;
+    let nothing = TokenStream::new();
+    Ok(TokenStream::from_streams([nothing, again, minus])?)
 }
 
 // Adds what another stream has twice.
 fn add_twice(stream: &mut TokenStream, other: &TokenStream) -> Result<(), Fail> {
-    stream.extend_streams([other.clone()?, other.clone()?])?;
+    stream.extend_streams([other.try_clone()?, other.try_clone()?])?;
     Ok(())
 }
 
 #[test]
 fn streams_are_put_after_one_another() -> Result<(), Fail> {
     let rt = HostRuntime;
-    let x = only_x(rt.alloc())?;
-    let mut stream = three_streams(rt.alloc(), &x)?;
+    let x = only_x()?;
+    let mut stream = three_streams(&x)?;
     add_twice(&mut stream, &x)?;
-    displays(&rt, rt.alloc(), &stream, "x - 3i32 x x")?;
-    displays(&rt, rt.alloc(), &x, "x")?;
+    displays(&rt, &stream, "x - 3i32 x x")?;
+    displays(&rt, &x, "x")?;
     Ok(())
 }
 
 #[test]
 fn a_stream_that_is_extended_leaves_its_clone() -> Result<(), Fail> {
     let rt = HostRuntime;
-    let alloc = rt.alloc();
-    let mut stream = only_x(alloc)?;
-    let kept = stream.clone()?;
-    stream.extend_idents([x(alloc)?])?;
-    displays(&rt, rt.alloc(), &stream, "x x")?;
-    displays(&rt, rt.alloc(), &kept, "x")?;
+    let mut stream = only_x()?;
+    let kept = stream.try_clone()?;
+    stream.extend_idents([x()?])?;
+    displays(&rt, &stream, "x x")?;
+    displays(&rt, &kept, "x")?;
     Ok(())
 }
 
 #[test]
 fn a_stream_is_extended_by_its_own_clone() -> Result<(), Fail> {
     let rt = HostRuntime;
-    let alloc = rt.alloc();
-    let mut stream = parsed(alloc, "a +")?;
-    let kept = stream.clone()?;
-    stream.extend_streams([kept.clone()?])?;
-    displays(&rt, rt.alloc(), &stream, "a + a +")?;
-    displays(&rt, rt.alloc(), &kept, "a +")?;
+    let mut stream = parsed("a +")?;
+    let kept = stream.try_clone()?;
+    stream.extend_streams([kept.try_clone()?])?;
+    displays(&rt, &stream, "a + a +")?;
+    displays(&rt, &kept, "a +")?;
     Ok(())
 }
 
 #[test]
 fn a_stream_of_a_group_that_is_extended_leaves_the_group() -> Result<(), Fail> {
     let rt = HostRuntime;
-    let alloc = rt.alloc();
-    let group = grouped(Delimiter::Parenthesis, only_x(alloc)?);
+    let group = grouped(Delimiter::Parenthesis, only_x()?);
     let mut inside = group.stream()?;
-    inside.extend_groups([group.clone()?])?;
-    displays(&rt, rt.alloc(), &inside, "x (x)")?;
-    displays(&rt, rt.alloc(), &group.stream()?, "x")?;
+    inside.extend_groups([group.try_clone()?])?;
+    displays(&rt, &inside, "x (x)")?;
+    displays(&rt, &group.stream()?, "x")?;
     Ok(())
 }
 
 // The trees `x` and `-3i32`.
-fn two_trees(alloc: Global) -> Result<Vec<TokenTree>, Fail> {
-    let mut trees = Vec::new(alloc);
-    trees.push(TokenTree::Ident(x(alloc)?))?;
-    trees.push(TokenTree::Literal(minus_three(alloc)?))?;
+fn two_trees() -> Result<Vec<TokenTree>, Fail> {
+    let mut trees = Vec::new();
+    trees.push_fallibly(TokenTree::Ident(x()?))?;
+    trees.push_fallibly(TokenTree::Literal(minus_three()?))?;
     Ok(trees)
 }
 
 // The stream of these trees twice, as std collects it.
-fn collected(alloc: Global) -> Result<TokenStream, Fail> {
-    let stream: TokenStream = two_trees(alloc)?.into_iter().collected(alloc)?;
-    let streams = vec![in alloc; stream.clone()?, stream]?;
-    Ok(streams.into_iter().collected(alloc)?)
+fn collected() -> Result<TokenStream, Fail> {
+    let stream: TokenStream = two_trees()?.into_iter().collected()?;
+    let streams = vec![stream.try_clone()?, stream]?;
+    Ok(streams.into_iter().collected()?)
 }
 
 // Extends the stream by a tree, a stream and a token of each kind.
-fn extend_by_each(alloc: Global, stream: &mut TokenStream) -> Result<(), Fail> {
-    stream.extend([TokenTree::Ident(x(alloc)?)])?;
-    stream.extend([only_x(alloc)?])?;
-    stream.extend([grouped(Delimiter::Bracket, TokenStream::new(alloc))])?;
-    stream.extend([x(alloc)?])?;
-    stream.extend([punct('+', Spacing::Alone, Span::call_site())])?;
-    stream.extend([minus_three(alloc)?])?;
+fn extend_by_each(stream: &mut TokenStream) -> Result<(), Fail> {
+    stream.try_extend([TokenTree::Ident(x()?)])?;
+    stream.try_extend([only_x()?])?;
+    stream.try_extend([grouped(Delimiter::Bracket, TokenStream::new())])?;
+    stream.try_extend([x()?])?;
+    stream.try_extend([punct('+', Spacing::Alone, Span::call_site())])?;
+    stream.try_extend([minus_three()?])?;
     Ok(())
 }
 
 #[test]
 fn std_collects_and_extends() -> Result<(), Fail> {
     let rt = HostRuntime;
-    let mut stream = collected(rt.alloc())?;
-    extend_by_each(rt.alloc(), &mut stream)?;
+    let mut stream = collected()?;
+    extend_by_each(&mut stream)?;
     displays(
         &rt,
-        rt.alloc(),
         &stream,
         "x - 3i32 x - 3i32 x x [] x + - 3i32",
     )?;
@@ -226,8 +219,7 @@ fn std_collects_and_extends() -> Result<(), Fail> {
 #[test]
 fn many_trees_take_a_step_each() -> Result<(), Fail> {
     let rt = HostRuntime;
-    let alloc = rt.alloc();
-    let mut stream = TokenStream::new(alloc);
+    let mut stream = TokenStream::new();
     for _ in 0..100000 {
         stream.extend_puncts([punct('+', Spacing::Alone, Span::call_site())])?;
     }
@@ -245,9 +237,9 @@ fn an_empty_group_gives_an_empty_stream() -> Result<(), AllocError> {
         Delimiter::None,
     ];
     for delimiter in delimiters {
-        let group = grouped(delimiter, TokenStream::new(rt.alloc()));
-        displays(&rt, rt.alloc(), &group.stream()?, "")?;
-        displays(&rt, rt.alloc(), &group.clone()?.stream()?, "")?;
+        let group = grouped(delimiter, TokenStream::new());
+        displays(&rt, &group.stream()?, "")?;
+        displays(&rt, &group.try_clone()?.stream()?, "")?;
     }
     Ok(())
 }

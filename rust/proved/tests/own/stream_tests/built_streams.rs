@@ -11,12 +11,12 @@ use proved::pm_stream::parts::{group, stream};
 use proved::pm_stream::{TokenStream, TokenTree};
 use proved::pm_token::parts::{ident, punct};
 use proved::pm_token::{Delimiter, Spacing};
-use crate::shim::alloc::{AllocError, Global};
+use crate::shim::alloc::AllocError;
 use crate::shim::process::Abort;
 
-fn name(alloc: Global, span: Span) -> Result<TokenTree, AllocError>
+fn name(span: Span) -> Result<TokenTree, AllocError>
 {
-    Ok(TokenTree::Ident(ident(alloc, "_", false, span)?))
+    Ok(TokenTree::Ident(ident("_", false, span)?))
 }
 
 fn plus(spacing: Spacing) -> TokenTree
@@ -31,14 +31,13 @@ pub fn grouped(delimiter: Delimiter, stream: TokenStream, span: Span) -> TokenTr
 }
 
 /// The stream of this tree alone.
-pub fn one(alloc: Global, tree: TokenTree) -> Result<TokenStream, AllocError>
+pub fn one(tree: TokenTree) -> Result<TokenStream, AllocError>
 {
     let _ = tree.span();
-    stream(alloc, vec![in alloc; tree]?)
+    stream(vec![tree]?)
 }
 
 fn three(
-    alloc: Global,
     first: TokenTree,
     second: TokenTree,
     third: TokenTree,
@@ -47,46 +46,43 @@ fn three(
     let _ = first.span();
     let _ = second.span();
     let _ = third.span();
-    stream(alloc, vec![in alloc; first, second, third]?)
+    stream(vec![first, second, third]?)
 }
 
 /// The group of no tree, which stands in no file.
-pub fn empty_group(alloc: Global, delimiter: Delimiter) -> TokenTree
+pub fn empty_group(delimiter: Delimiter) -> TokenTree
 {
-    grouped(delimiter, TokenStream::new(alloc), Span::call_site())
+    grouped(delimiter, TokenStream::new(), Span::call_site())
 }
 
-fn name_between(alloc: Global, delimiter: Delimiter) -> Result<TokenTree, AllocError> {
-    let inside = one(alloc, name(alloc, Span::call_site())?)?;
+fn name_between(delimiter: Delimiter) -> Result<TokenTree, AllocError> {
+    let inside = one(name(Span::call_site())?)?;
     Ok(grouped(delimiter, inside, Span::call_site()))
 }
 
 /// Asserts what a group is printed as when it is empty, and when it has a name in it.
 fn check_delimiter(
     rt: &impl Abort,
-    alloc: Global,
     delimiter: Delimiter,
     empty: &str,
     full: &str,
 ) -> Result<(), AllocError> {
-    prints(rt, alloc, empty_group(alloc, delimiter), empty)?;
-    prints(rt, alloc, name_between(alloc, delimiter)?, full)
+    prints(rt, empty_group(delimiter), empty)?;
+    prints(rt, name_between(delimiter)?, full)
 }
 
 #[test]
 fn a_group_is_printed_by_its_delimiter() -> Result<(), AllocError> {
     let rt = HostRuntime;
-    let alloc = rt.alloc();
-    check_delimiter(&rt, alloc, Delimiter::Parenthesis, "()", "(_)")?;
-    check_delimiter(&rt, alloc, Delimiter::Brace, "{ }", "{ _ }")?;
-    check_delimiter(&rt, alloc, Delimiter::Bracket, "[]", "[_]")?;
-    check_delimiter(&rt, alloc, Delimiter::None, "", "_")
+    check_delimiter(&rt, Delimiter::Parenthesis, "()", "(_)")?;
+    check_delimiter(&rt, Delimiter::Brace, "{ }", "{ _ }")?;
+    check_delimiter(&rt, Delimiter::Bracket, "[]", "[_]")?;
+    check_delimiter(&rt, Delimiter::None, "", "_")
 }
 
-fn name_in_parentheses(alloc: Global) -> Result<TokenStream, AllocError> {
-    let inside = one(alloc, name(alloc, span_of(2, 3))?)?;
+fn name_in_parentheses() -> Result<TokenStream, AllocError> {
+    let inside = one(name(span_of(2, 3))?)?;
     one(
-        alloc,
         grouped(Delimiter::Parenthesis, inside, span_of(1, 4)),
     )
 }
@@ -94,28 +90,28 @@ fn name_in_parentheses(alloc: Global) -> Result<TokenStream, AllocError> {
 #[test]
 fn trees_are_shown_with_their_spans() -> Result<(), AllocError> {
     let rt = HostRuntime;
-    let stream = name_in_parentheses(rt.alloc())?;
+    let stream = name_in_parentheses()?;
     let want = "TokenStream [Group { delimiter: Parenthesis, stream: TokenStream [\
         Ident { sym: _, span: bytes(2..3) }], span: bytes(1..4) }]";
-    shows(&rt, rt.alloc(), &stream, want)
+    shows(&rt, &stream, want)
 }
 
 #[test]
 fn a_mark_with_no_span_is_shown_on_lines() -> Result<(), AllocError> {
     let rt = HostRuntime;
-    let stream = one(rt.alloc(), plus(Spacing::Alone))?;
-    let shown = format!(in rt.alloc(); "{stream:#?}")?;
+    let stream = one(plus(Spacing::Alone))?;
+    let shown = format!("{stream:#?}")?;
     let want = "TokenStream [\n    Punct {\n        char: '+',\n        spacing: Alone,\n    },\n]";
     assert_eq!(shown.as_str(), want);
     Ok(())
 }
 
 /// So many brackets inside one another, each level with marks before and after it.
-fn deep(alloc: Global, levels: u32) -> Result<TokenStream, AllocError> {
-    let mut stream = TokenStream::new(alloc);
+fn deep(levels: u32) -> Result<TokenStream, AllocError> {
+    let mut stream = TokenStream::new();
     for _ in 0..levels {
         let deep = grouped(Delimiter::Bracket, stream, Span::call_site());
-        stream = three(alloc, plus(Spacing::Joint), deep, plus(Spacing::Joint))?;
+        stream = three(plus(Spacing::Joint), deep, plus(Spacing::Joint))?;
     }
     Ok(stream)
 }
@@ -123,8 +119,8 @@ fn deep(alloc: Global, levels: u32) -> Result<TokenStream, AllocError> {
 #[test]
 fn groups_nest_deep_without_stack() -> Result<(), AllocError> {
     let rt = HostRuntime;
-    let stream = deep(rt.alloc(), 300000)?;
-    let printed = format!(in rt.alloc(); "{stream}")?;
+    let stream = deep(300000)?;
+    let printed = format!("{stream}")?;
     assert_eq!(printed.as_str().len(), 5 * 300000, "each level is `+[] +`");
     Ok(())
 }

@@ -1,13 +1,13 @@
 // Made from crates/stream_tests/src/byte_cache.rt by rust/erase: change that file, not this one.
 
-use crate::shim::prelude::{HostRuntime, String, Vec, vec};
+use crate::shim::prelude::{Grow, GrowText, HostRuntime, vec};
 
 // Which bytes spans take on lines that aren't ASCII, asked for in many orders. What one look-up keeps is read by the
 // next.
 use crate::stream_tests::checks::held;
 use proved::pm_span::parts::{add_file, fits};
 use proved::proc_macro2::SourceMap;
-use crate::shim::alloc::{AllocError, Global};
+use crate::shim::alloc::AllocError;
 use crate::shim::process::Abort;
 
 /// Parts of the literal `"aéb𓀕c"`, in characters from its start, and the bytes that they take.
@@ -60,21 +60,20 @@ fn check(
 /// Asserts the bytes of these parts in this order, where so many `é` stand before and after the text.
 fn check_in_order<const N: usize>(
     rt: &impl Abort,
-    alloc: Global,
     (text, margin): (&str, u32),
     parts: &[((u32, u32), (usize, usize))],
     order: [usize; N],
 ) -> Result<(), AllocError> {
-    let mut line = String::new(alloc);
+    let mut line = String::new();
     for _ in 0..margin {
-        line.push('é')?;
+        line.push_fallibly('é')?;
     }
     let before = line.len();
-    line.push_str(text)?;
+    line.push_str_fallibly(text)?;
     for _ in 0..margin {
-        line.push('é')?;
+        line.push_fallibly('é')?;
     }
-    let mut map = SourceMap::new(alloc);
+    let mut map = SourceMap::new();
     let base = add(rt, &mut map, line.as_str())?;
     for index in order.iter() {
         if let Some(((from, to), (start, end))) = parts.get(*index) {
@@ -89,7 +88,6 @@ fn check_in_order<const N: usize>(
 #[test]
 fn any_order_of_five_spans_gives_the_same_bytes() -> Result<(), AllocError> {
     let rt = HostRuntime;
-    let alloc = rt.alloc();
     let mut orders = 0u32;
     for code in 0..3125usize {
         let order = [
@@ -101,8 +99,8 @@ fn any_order_of_five_spans_gives_the_same_bytes() -> Result<(), AllocError> {
         ];
         if (0..5usize).all(|index| order.contains(&index)) {
             orders = orders.saturating_add(1);
-            check_in_order(&rt, alloc, ("\"aéb𓀕c\"", 0), &PARTS, order)?;
-            check_in_order(&rt, alloc, ("\"aéb𓀕c\"", 100), &PARTS, order)?;
+            check_in_order(&rt, ("\"aéb𓀕c\"", 0), &PARTS, order)?;
+            check_in_order(&rt, ("\"aéb𓀕c\"", 100), &PARTS, order)?;
         }
     }
     assert_eq!(orders, 120);
@@ -112,7 +110,6 @@ fn any_order_of_five_spans_gives_the_same_bytes() -> Result<(), AllocError> {
 #[test]
 fn any_order_of_three_spans_gives_the_same_bytes() -> Result<(), AllocError> {
     let rt = HostRuntime;
-    let alloc = rt.alloc();
     let orders = [
         [0, 1, 2],
         [0, 2, 1],
@@ -122,8 +119,8 @@ fn any_order_of_three_spans_gives_the_same_bytes() -> Result<(), AllocError> {
         [2, 1, 0],
     ];
     for order in orders.iter() {
-        check_in_order(&rt, alloc, ("    𓀕 a z    ", 0), &TOKENS, *order)?;
-        check_in_order(&rt, alloc, ("    𓀕 a z    ", 100), &TOKENS, *order)?;
+        check_in_order(&rt, ("    𓀕 a z    ", 0), &TOKENS, *order)?;
+        check_in_order(&rt, ("    𓀕 a z    ", 100), &TOKENS, *order)?;
     }
     Ok(())
 }
@@ -136,12 +133,11 @@ fn draw(seed: &mut u32, end: u32) -> u32 {
 
 /// A text of so many characters of one to four bytes, and the bytes before each of its characters.
 fn random_text(
-    alloc: Global,
     seed: &mut u32,
     count: u32,
 ) -> Result<(String, Vec<usize>), AllocError> {
-    let mut text = String::new(alloc);
-    let mut offsets = vec![in alloc; 0]?;
+    let mut text = String::new();
+    let mut offsets = vec![0]?;
     for _ in 0..count {
         let c = match draw(seed, 400) {
             0 => '\n',
@@ -150,8 +146,8 @@ fn random_text(
             201..=300 => '€',
             _ => '𓀕',
         };
-        text.push(c)?;
-        offsets.push(text.len())?;
+        text.push_fallibly(c)?;
+        offsets.push_fallibly(text.len())?;
     }
     Ok((text, offsets))
 }
@@ -176,12 +172,11 @@ fn check_drawn(
 #[test]
 fn drawn_spans_of_two_texts_take_the_bytes_that_are_counted() -> Result<(), AllocError> {
     let rt = HostRuntime;
-    let alloc = rt.alloc();
     let mut seed = 1;
-    let mut map = SourceMap::new(alloc);
+    let mut map = SourceMap::new();
     for _ in 0..4 {
-        let (first, first_offsets) = random_text(alloc, &mut seed, 3000)?;
-        let (second, second_offsets) = random_text(alloc, &mut seed, 1000)?;
+        let (first, first_offsets) = random_text(&mut seed, 3000)?;
+        let (second, second_offsets) = random_text(&mut seed, 1000)?;
         let first_base = add(&rt, &mut map, first.as_str())?;
         let second_base = add(&rt, &mut map, second.as_str())?;
         for _ in 0..300 {

@@ -3,25 +3,25 @@
 //!
 //! They stand in functions of their own, since a long function is dear to prove.
 
-use crate::shim::prelude::{AllocGlobal, Repeat, String, format};
+use crate::shim::prelude::{AllocGlobal, GrowText, Repeat, format};
 
 use proved::pm_span::parts::span_of;
 use proved::proc_macro2::{ParseError, SourceMap, Span, TokenStream};
-use crate::shim::alloc::{AllocError, Global};
+use crate::shim::alloc::AllocError;
 use crate::shim::fmt::{Debug, Display};
 use crate::shim::process::Abort;
 
 /// The stream of the text, as the first of a map.
-pub fn parsed(alloc: Global, text: &str) -> Result<TokenStream, ParseError> {
-    TokenStream::from_str(text, &mut SourceMap::new(alloc))
+pub fn parsed(text: &str) -> Result<TokenStream, ParseError> {
+    TokenStream::from_str(text, &mut SourceMap::new())
 }
 
 /// The parts one after the other, each so many times.
-pub fn repeated(alloc: Global, parts: &[(&str, u32)]) -> Result<String, AllocError> {
-    let mut text = String::new(alloc);
+pub fn repeated(parts: &[(&str, u32)]) -> Result<String, AllocError> {
+    let mut text = String::new();
     for (part, count) in parts {
         for _ in 0..*count {
-            text.push_str(part)?;
+            text.push_str_fallibly(part)?;
         }
     }
     Ok(text)
@@ -39,43 +39,43 @@ pub fn held(rt: &impl Abort, map: &SourceMap, positions: (u32, u32)) -> Span
 
 /// Asserts whether two texts, each parsed in a new map, give the same tokens.
 pub fn check_same(rt: &(impl Abort + AllocGlobal), text: &str, other: &str, same: bool) {
-    let found = are_same(rt.alloc(), text, other).expect(text);
+    let found = are_same(text, other).expect(text);
     assert_eq!(found, same, "of {text:?} and {other:?}");
 }
 
 /// Asserts that the stream of `text`, as the next text of the map, is shown as `want`.
 pub fn check_shown(rt: &(impl Abort + AllocGlobal), map: &mut SourceMap, text: &str, want: &str) {
-    let found = shown(rt.alloc(), map, text).expect(text);
+    let found = shown(map, text).expect(text);
     assert_eq!(found.as_str(), want, "of {text:?}");
 }
 
 /// The text that the stream of `text`, parsed in a new map, is printed as.
-pub fn printed(alloc: Global, text: &str) -> Result<String, ParseError> {
-    let stream = parsed(alloc, text)?;
-    Ok(format!(in alloc; "{stream}")?)
+pub fn printed(text: &str) -> Result<String, ParseError> {
+    let stream = parsed(text)?;
+    Ok(format!("{stream}")?)
 }
 
 /// Whether the stream of `text`, parsed in a new map, is well spaced.
-pub fn parses_well_spaced(alloc: Global, text: &str) -> Result<bool, ParseError> {
-    Ok(parsed(alloc, text)?.is_well_spaced())
+pub fn parses_well_spaced(text: &str) -> Result<bool, ParseError> {
+    Ok(parsed(text)?.is_well_spaced())
 }
 
 // Whether the two texts, each parsed in a new map, give the same tokens, asked from both sides.
-fn are_same(alloc: Global, text: &str, other: &str) -> Result<bool, ParseError> {
-    let stream = parsed(alloc, text)?;
-    let other = parsed(alloc, other)?;
+fn are_same(text: &str, other: &str) -> Result<bool, ParseError> {
+    let stream = parsed(text)?;
+    let other = parsed(other)?;
     Ok(stream.same_tokens(&other) && other.same_tokens(&stream))
 }
 
 // The text that the stream of `text` is shown as.
-fn shown(alloc: Global, map: &mut SourceMap, text: &str) -> Result<String, ParseError> {
+fn shown(map: &mut SourceMap, text: &str) -> Result<String, ParseError> {
     let stream = TokenStream::from_str(text, map)?;
-    Ok(format!(in alloc; "{stream:?}")?)
+    Ok(format!("{stream:?}")?)
 }
 
 /// How many trees the stream of `text` has.
-pub fn count_trees(alloc: Global, text: &str) -> Option<usize> {
-    match parsed(alloc, text) {
+pub fn count_trees(text: &str) -> Option<usize> {
+    match parsed(text) {
         Ok(stream) => Some(stream.trees().len()),
         Err(_) => None,
     }
@@ -84,11 +84,10 @@ pub fn count_trees(alloc: Global, text: &str) -> Option<usize> {
 /// Asserts that the value is displayed as this text.
 pub fn displays<T: Display>(
     rt: &impl Abort,
-    alloc: Global,
     value: &T,
     want: &str,
 ) -> Result<(), AllocError> {
-    let found = format!(in alloc; "{value}")?;
+    let found = format!("{value}")?;
     assert_eq!(found.as_str(), want);
     Ok(())
 }
@@ -96,21 +95,19 @@ pub fn displays<T: Display>(
 /// Asserts that the value, which is given away, is displayed as this text.
 pub fn prints<T: Display>(
     rt: &impl Abort,
-    alloc: Global,
     value: T,
     want: &str,
 ) -> Result<(), AllocError> {
-    displays(rt, alloc, &value, want)
+    displays(rt, &value, want)
 }
 
 /// Asserts that the value shows its parts as this text.
 pub fn shows<T: Debug>(
     rt: &impl Abort,
-    alloc: Global,
     value: &T,
     want: &str,
 ) -> Result<(), AllocError> {
-    let found = format!(in alloc; "{value:?}")?;
+    let found = format!("{value:?}")?;
     assert_eq!(found.as_str(), want);
     Ok(())
 }
@@ -118,12 +115,11 @@ pub fn shows<T: Debug>(
 /// Asserts that the value is displayed as this text, whatever width or precision is asked for.
 pub fn has_no_width<T: Display>(
     rt: &impl Abort,
-    alloc: Global,
     value: &T,
     text: &str,
 ) -> Result<(), AllocError> {
-    let found = format!(in alloc; "{value:>9}|{value:*^9}|{value:.1}")?;
-    let want = format!(in alloc; "{text}|{text}|{text}")?;
+    let found = format!("{value:>9}|{value:*^9}|{value:.1}")?;
+    let want = format!("{text}|{text}|{text}")?;
     assert_eq!(found.as_str(), want.as_str());
     Ok(())
 }

@@ -93,7 +93,7 @@ fn kind_is_built(tree: &TokenTree) {
 #[test]
 fn what_laws_say_of_a_stream_is_seen_in_its_printed_text() -> Result<(), Fail> {
     let rt = HostRuntime;
-    let mut map = SourceMap::new(rt.alloc());
+    let mut map = SourceMap::new();
     let stream = read("a+=(1)", &mut map)?;
     comes_back(&stream);
     assert!(prints_faithfully(&stream));

@@ -7,7 +7,7 @@ use proved::pm_span::parts::{bounds, span_of};
 use proved::pm_stream::parts::group;
 use proved::proc_macro2::extra::DelimSpan;
 use proved::proc_macro2::{Delimiter, Group, ParseError, SourceMap, TokenStream, TokenTree};
-use crate::shim::alloc::{AllocError, Global};
+use crate::shim::alloc::AllocError;
 use crate::shim::process::Abort;
 
 /// Where a whole group stands, where it opens and where it closes.
@@ -44,7 +44,7 @@ fn check_first(
     text: &str,
     want: GroupSpans,
 ) -> Result<(), ParseError> {
-    let mut map = SourceMap::new(rt.alloc());
+    let mut map = SourceMap::new();
     let stream = TokenStream::from_str(text, &mut map)?;
     match stream.trees().get(0) {
         Some(TokenTree::Group(group)) => check_spans(rt, group, want),
@@ -64,7 +64,7 @@ fn a_group_opens_and_closes_at_its_delimiters() -> Result<(), ParseError> {
 #[test]
 fn a_group_whose_span_was_set_opens_and_closes_there() {
     let rt = HostRuntime;
-    let inside = TokenStream::new(rt.alloc());
+    let inside = TokenStream::new();
     let mut group = group(Delimiter::Parenthesis, inside, span_of(1, 4));
     check_spans(&rt, &group, ((1, 4), (1, 2), (3, 4)));
     group.set_span(Span::call_site());
@@ -79,16 +79,16 @@ fn a_group_whose_span_was_set_opens_and_closes_there() {
 #[test]
 fn the_spans_of_delimiters_are_shown_as_the_whole() -> Result<(), AllocError> {
     let rt = HostRuntime;
-    let inside = TokenStream::new(rt.alloc());
+    let inside = TokenStream::new();
     let group = group(Delimiter::Brace, inside, span_of(1, 4));
-    let shown = format!(in rt.alloc(); "{:?}", group.delim_span())?;
+    let shown = format!("{:?}", group.delim_span())?;
     assert_eq!(shown.as_str(), "bytes(1..4)");
     Ok(())
 }
 
 // A group of the group `[]`, which stands at 1..3.
-fn nested(alloc: Global) -> Result<TokenTree, ParseError> {
-    let mut map = SourceMap::new(alloc);
+fn nested() -> Result<TokenTree, ParseError> {
+    let mut map = SourceMap::new();
     let inside = TokenStream::from_str("[]", &mut map)?;
     Ok(TokenTree::Group(group(Delimiter::Brace, inside, Span::call_site())))
 }
@@ -96,9 +96,9 @@ fn nested(alloc: Global) -> Result<TokenTree, ParseError> {
 #[test]
 fn a_tree_whose_span_is_set_keeps_those_inside() -> Result<(), ParseError> {
     let rt = HostRuntime;
-    let mut tree = nested(rt.alloc())?;
+    let mut tree = nested()?;
     tree.set_span(span_of(7, 9));
-    let shown = format!(in rt.alloc(); "{tree:?}")?;
+    let shown = format!("{tree:?}")?;
     let want = "Group { delimiter: Brace, stream: TokenStream [\
         Group { delimiter: Bracket, stream: TokenStream [], span: bytes(1..3) }], span: bytes(7..9) }";
     assert_eq!(shown.as_str(), want);

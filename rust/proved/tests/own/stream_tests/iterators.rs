@@ -1,21 +1,21 @@
 // Made from crates/stream_tests/src/iterators.rt by rust/erase: change that file, not this one.
 
-use crate::shim::prelude::{Clone, HostRuntime, Repeat, String, format};
+use crate::shim::prelude::{GrowText, HostRuntime, Repeat, TryClone, format};
 
 // The iterator over the trees of a stream, which gives them away.
 use crate::stream_tests::built_streams::one;
 use crate::stream_tests::checks::{displays, parsed, repeated, shows};
 use proved::proc_macro2::{TokenStream, TokenTree, token_stream};
-use crate::shim::alloc::{AllocError, Global};
+use crate::shim::alloc::AllocError;
 use crate::shim::process::Abort;
 use crate::shim::test::Fail;
 
 /// Each tree that the iterator gives as it is printed, in brackets.
-fn given(alloc: Global, trees: token_stream::IntoIter) -> Result<String, AllocError> {
-    let mut all = String::new(alloc);
+fn given(trees: token_stream::IntoIter) -> Result<String, AllocError> {
+    let mut all = String::new();
     for tree in trees {
-        let text = format!(in alloc; "<{tree}>")?;
-        all.push_str(text.as_str())?;
+        let text = format!("<{tree}>")?;
+        all.push_str_fallibly(text.as_str())?;
     }
     Ok(all)
 }
@@ -23,11 +23,10 @@ fn given(alloc: Global, trees: token_stream::IntoIter) -> Result<String, AllocEr
 /// Asserts what the iterator gives.
 fn gives(
     rt: &impl Abort,
-    alloc: Global,
     trees: token_stream::IntoIter,
     want: &str,
 ) -> Result<(), AllocError> {
-    let all = given(alloc, trees)?;
+    let all = given(trees)?;
     assert_eq!(all.as_str(), want);
     Ok(())
 }
@@ -35,39 +34,37 @@ fn gives(
 #[test]
 fn groups_are_given_whole() -> Result<(), Fail> {
     let rt = HostRuntime;
-    let alloc = rt.alloc();
-    let trees = parsed(alloc, "a b (c d) e")?.into_iter()?;
+    let trees = parsed("a b (c d) e")?.try_into_iter()?;
     assert_eq!(trees.size_hint(), (4, Some(4)));
-    gives(&rt, alloc, trees, "<a><b><(c d)><e>")?;
-    let none = TokenStream::new(alloc).into_iter()?;
+    gives(&rt, trees, "<a><b><(c d)><e>")?;
+    let none = TokenStream::new().try_into_iter()?;
     assert_eq!(none.size_hint(), (0, Some(0)));
-    gives(&rt, alloc, none, "")?;
+    gives(&rt, none, "")?;
     Ok(())
 }
 
 #[test]
 fn a_copy_of_a_half_used_iterator_gives_the_rest() -> Result<(), Fail> {
     let rt = HostRuntime;
-    let alloc = rt.alloc();
-    let mut trees = parsed(alloc, "a b (c d) e")?.into_iter()?;
+    let mut trees = parsed("a b (c d) e")?.try_into_iter()?;
     let _ = trees.next();
     let _ = trees.next();
-    let copy = trees.clone()?;
+    let copy = trees.try_clone()?;
     assert_eq!(trees.size_hint(), (2, Some(2)));
     assert_eq!(copy.size_hint(), (2, Some(2)));
-    gives(&rt, alloc, trees, "<(c d)><e>")?;
-    gives(&rt, alloc, copy, "<(c d)><e>")?;
+    gives(&rt, trees, "<(c d)><e>")?;
+    gives(&rt, copy, "<(c d)><e>")?;
     Ok(())
 }
 
 /// Each tree of the stream in brackets, as a stream of that tree alone prints it. A tree that was given
 /// may be put into a stream again, which needs no proof here.
-fn each_alone(alloc: Global, stream: TokenStream) -> Result<String, AllocError> {
-    let mut all = String::new(alloc);
-    for tree in stream.into_iter()? {
-        let alone = one(alloc, tree)?;
-        let text = format!(in alloc; "<{alone}>")?;
-        all.push_str(text.as_str())?;
+fn each_alone(stream: TokenStream) -> Result<String, AllocError> {
+    let mut all = String::new();
+    for tree in stream.try_into_iter()? {
+        let alone = one(tree)?;
+        let text = format!("<{alone}>")?;
+        all.push_str_fallibly(text.as_str())?;
     }
     Ok(all)
 }
@@ -75,8 +72,7 @@ fn each_alone(alloc: Global, stream: TokenStream) -> Result<String, AllocError> 
 #[test]
 fn each_tree_may_stand_in_another_stream() -> Result<(), Fail> {
     let rt = HostRuntime;
-    let alloc = rt.alloc();
-    let all = each_alone(alloc, parsed(alloc, "a (b c) -1 'd \"\"")?)?;
+    let all = each_alone(parsed("a (b c) -1 'd \"\"")?)?;
     assert_eq!(all.as_str(), "<a><(b c)><-><1><'><d><\"\">");
     Ok(())
 }
@@ -84,7 +80,7 @@ fn each_tree_may_stand_in_another_stream() -> Result<(), Fail> {
 #[test]
 fn an_iterator_ends_again_after_its_end() -> Result<(), Fail> {
     let rt = HostRuntime;
-    let mut trees = parsed(rt.alloc(), "a")?.into_iter()?;
+    let mut trees = parsed("a")?.try_into_iter()?;
     assert!(trees.next().is_some());
     assert!(trees.next().is_none());
     assert!(trees.next().is_none());
@@ -94,12 +90,10 @@ fn an_iterator_ends_again_after_its_end() -> Result<(), Fail> {
 #[test]
 fn an_iterator_shows_the_trees_that_are_left() -> Result<(), Fail> {
     let rt = HostRuntime;
-    let alloc = rt.alloc();
-    let mut trees = parsed(alloc, "a (b) +")?.into_iter()?;
+    let mut trees = parsed("a (b) +")?.try_into_iter()?;
     let _ = trees.next();
     shows(
         &rt,
-        alloc,
         &trees,
         "TokenStream [Group { delimiter: Parenthesis, stream: TokenStream [\
          Ident { sym: b, span: bytes(4..5) }], span: bytes(3..6) }, \
@@ -107,31 +101,29 @@ fn an_iterator_shows_the_trees_that_are_left() -> Result<(), Fail> {
     )?;
     let _ = trees.next();
     let _ = trees.next();
-    shows(&rt, alloc, &trees, "TokenStream []")?;
+    shows(&rt, &trees, "TokenStream []")?;
     Ok(())
 }
 
 #[test]
 fn a_shared_stream_keeps_what_the_other_gives() -> Result<(), Fail> {
     let rt = HostRuntime;
-    let alloc = rt.alloc();
-    let stream = parsed(alloc, "a (b) +")?;
-    let mut trees = stream.clone()?.into_iter()?;
+    let stream = parsed("a (b) +")?;
+    let mut trees = stream.try_clone()?.try_into_iter()?;
     let _ = trees.next();
-    displays(&rt, alloc, &stream, "a (b) +")?;
-    gives(&rt, alloc, trees, "<(b)><+>")?;
-    displays(&rt, alloc, &stream, "a (b) +")?;
+    displays(&rt, &stream, "a (b) +")?;
+    gives(&rt, trees, "<(b)><+>")?;
+    displays(&rt, &stream, "a (b) +")?;
     Ok(())
 }
 
 #[test]
 fn an_iterator_over_deep_groups_is_dropped_in_little_stack() -> Result<(), Fail> {
     let rt = HostRuntime;
-    let alloc = rt.alloc();
-    let text = repeated(alloc, &[("[", 100_000), ("]", 100_000)])?;
-    let trees = parsed(alloc, text.as_str())?.into_iter()?;
+    let text = repeated(&[("[", 100_000), ("]", 100_000)])?;
+    let trees = parsed(text.as_str())?.try_into_iter()?;
     assert_eq!(trees.size_hint(), (1, Some(1)));
-    let mut given = parsed(alloc, text.as_str())?.into_iter()?;
+    let mut given = parsed(text.as_str())?.try_into_iter()?;
     assert!(given.next().is_some());
     Ok(())
 }
@@ -166,11 +158,11 @@ impl Iterator for Hinting {
 }
 
 /// Asserts what `x` is extended to by an iterator over the trees of the text that hints at this many.
-fn extends(rt: &impl Abort, alloc: Global, text: &str, most: Most, want: &str) -> Result<(), Fail> {
-    let mut stream = parsed(alloc, "x")?;
-    let trees = parsed(alloc, text)?.into_iter()?;
+fn extends(rt: &impl Abort, text: &str, most: Most, want: &str) -> Result<(), Fail> {
+    let mut stream = parsed("x")?;
+    let trees = parsed(text)?.try_into_iter()?;
     stream.extend_trees(Hinting { trees, most })?;
-    displays(rt, alloc, &stream, want)?;
+    displays(rt, &stream, want)?;
     Ok(())
 }
 
@@ -178,8 +170,8 @@ fn extends(rt: &impl Abort, alloc: Global, text: &str, most: Most, want: &str) -
 fn what_an_iterator_hints_at_changes_nothing() -> Result<(), Fail> {
     let rt = HostRuntime;
     for most in [Most::Unknown, Most::Greatest] {
-        extends(&rt, rt.alloc(), "a (b) +", most, "x a (b) +")?;
-        extends(&rt, rt.alloc(), "", most, "x")?;
+        extends(&rt, "a (b) +", most, "x a (b) +")?;
+        extends(&rt, "", most, "x")?;
     }
     Ok(())
 }

@@ -5,18 +5,15 @@ use crate::shim::prelude::HostRuntime;
 // Groups and trees that are made by hand.
 use crate::stream_tests::checks::{displays, parsed, prints, shows};
 use proved::proc_macro2::{Delimiter, Group, Ident, Literal, Punct, Spacing, Span, TokenStream, TokenTree};
-use crate::shim::alloc::Global;
 use crate::shim::test::Fail;
 
 #[test]
 fn a_new_group_stands_nowhere() -> Result<(), Fail> {
     let rt = HostRuntime;
-    let alloc = rt.alloc();
-    let group = Group::new(Delimiter::Brace, parsed(alloc, "x")?);
-    displays(&rt, alloc, &group, "{ x }")?;
+    let group = Group::new(Delimiter::Brace, parsed("x")?);
+    displays(&rt, &group, "{ x }")?;
     shows(
         &rt,
-        alloc,
         &group,
         "Group { delimiter: Brace, stream: TokenStream [Ident { sym: x, span: bytes(1..2) }] }",
     )?;
@@ -26,30 +23,28 @@ fn a_new_group_stands_nowhere() -> Result<(), Fail> {
 #[test]
 fn a_group_keeps_the_trees_of_its_stream() -> Result<(), Fail> {
     let rt = HostRuntime;
-    let alloc = rt.alloc();
-    let group = Group::new(Delimiter::Parenthesis, parsed(alloc, "x + y")?);
-    let mut trees = group.stream()?.into_iter()?;
+    let group = Group::new(Delimiter::Parenthesis, parsed("x + y")?);
+    let mut trees = group.stream()?.try_into_iter()?;
     let _ = trees.next();
-    displays(&rt, alloc, &group, "(x + y)")?;
-    displays(&rt, alloc, &group.stream()?, "x + y")?;
+    displays(&rt, &group, "(x + y)")?;
+    displays(&rt, &group.stream()?, "x + y")?;
     Ok(())
 }
 
 /// The raw identifier `r#fn`.
-fn raw_fn(alloc: Global) -> Result<TokenTree, Fail> {
-    Ok(TokenTree::from(Ident::new_raw(alloc, "fn", Span::call_site())?))
+fn raw_fn() -> Result<TokenTree, Fail> {
+    Ok(TokenTree::from(Ident::new_raw("fn", Span::call_site())?))
 }
 
 #[test]
 fn each_kind_of_token_becomes_a_tree() -> Result<(), Fail> {
     let rt = HostRuntime;
-    let alloc = rt.alloc();
-    let group = Group::new(Delimiter::Bracket, TokenStream::new(alloc));
-    prints(&rt, alloc, TokenTree::from(group), "[]")?;
-    prints(&rt, alloc, raw_fn(alloc)?, "r#fn")?;
+    let group = Group::new(Delimiter::Bracket, TokenStream::new());
+    prints(&rt, TokenTree::from(group), "[]")?;
+    prints(&rt, raw_fn()?, "r#fn")?;
     let punct = Punct::new('+', Spacing::Joint);
-    prints(&rt, alloc, TokenTree::from(punct), "+")?;
-    let literal = Literal::u8_suffixed(alloc, 7)?;
-    prints(&rt, alloc, TokenTree::from(literal), "7u8")?;
+    prints(&rt, TokenTree::from(punct), "+")?;
+    let literal = Literal::u8_suffixed(7)?;
+    prints(&rt, TokenTree::from(literal), "7u8")?;
     Ok(())
 }

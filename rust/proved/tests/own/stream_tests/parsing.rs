@@ -1,19 +1,19 @@
 // Made from crates/stream_tests/src/parsing.rt by rust/erase: change that file, not this one.
 
-use crate::shim::prelude::{AllocGlobal, HostRuntime, String, format};
+use crate::shim::prelude::{AllocGlobal, HostRuntime, format};
 
 use proved::pm_span::SourceMap;
 use proved::pm_span::parts::span_of;
 use proved::pm_stream::TokenStream;
 use proved::pm_stream::reprinting::reprint;
 use proved::pm_token::ParseError;
-use crate::shim::alloc::{AllocError, Global};
+use crate::shim::alloc::AllocError;
 use crate::shim::process::Abort;
 
 // Whether the text parses in a map of the limit, whether the map then holds its four characters,
 // whether it refuses the empty text, since it is full, and whether it holds one more position.
-fn at_limit(alloc: Global, text: &str, limit: u32) -> [bool; 4] {
-    let mut map = SourceMap::with_limit(alloc, limit);
+fn at_limit(text: &str, limit: u32) -> [bool; 4] {
+    let mut map = SourceMap::with_limit(limit);
     let parses = TokenStream::from_str(text, &mut map).is_ok();
     let holds = map.holds(span_of(1, 5));
     let full = matches!(
@@ -26,7 +26,7 @@ fn at_limit(alloc: Global, text: &str, limit: u32) -> [bool; 4] {
 /// Asserts that the text, which parses or not, stands in a map of the limit `limit`, and that the
 /// map is then full, or else holds one more position.
 fn check_limit(rt: &(impl Abort + AllocGlobal), text: &str, parses: bool, limit: u32, full: bool) {
-    let found = at_limit(rt.alloc(), text, limit);
+    let found = at_limit(text, limit);
     assert_eq!(found,
         [parses, true, full, !full],
         "of {text:?} at the limit {limit}"
@@ -43,18 +43,18 @@ fn a_file_stays_in_the_map_up_to_the_limit() {
 }
 
 // How Debug shows what the text parses to in a new map, and without a map.
-fn both_shown(alloc: Global, text: &str) -> Result<[String; 2], AllocError> {
-    let mapped = TokenStream::from_str(text, &mut SourceMap::new(alloc));
-    let unmapped = TokenStream::parse_unmapped(alloc, text);
+fn both_shown(text: &str) -> Result<[String; 2], AllocError> {
+    let mapped = TokenStream::from_str(text, &mut SourceMap::new());
+    let unmapped = TokenStream::parse_unmapped(text);
     Ok([
-        format!(in alloc; "{mapped:?}")?,
-        format!(in alloc; "{unmapped:?}")?,
+        format!("{mapped:?}")?,
+        format!("{unmapped:?}")?,
     ])
 }
 
 /// Asserts that the text is parsed without a map as it is in a new one, spans and faults too.
 fn check_unmapped(rt: &(impl Abort + AllocGlobal), text: &str) {
-    let [mapped, unmapped] = both_shown(rt.alloc(), text).expect(text);
+    let [mapped, unmapped] = both_shown(text).expect(text);
     assert_eq!(unmapped.as_str(), mapped.as_str(), "of {text:?}");
 }
 
@@ -68,21 +68,21 @@ fn a_text_is_parsed_without_a_map_as_in_a_new_one() {
 }
 
 // How Debug shows the printed text of what the text parses to, by its trees and with none made.
-fn both_printed(alloc: Global, text: &str) -> Result<[String; 2], AllocError> {
-    let by_trees = match TokenStream::parse_unmapped(alloc, text) {
-        Ok(stream) => Ok(format!(in alloc; "{stream}")?),
+fn both_printed(text: &str) -> Result<[String; 2], AllocError> {
+    let by_trees = match TokenStream::parse_unmapped(text) {
+        Ok(stream) => Ok(format!("{stream}")?),
         Err(error) => Err(error),
     };
-    let reprinted = reprint(alloc, text);
+    let reprinted = reprint(text);
     Ok([
-        format!(in alloc; "{by_trees:?}")?,
-        format!(in alloc; "{reprinted:?}")?,
+        format!("{by_trees:?}")?,
+        format!("{reprinted:?}")?,
     ])
 }
 
 /// Asserts that the text is printed with no trees made as its stream is, or has the same fault.
 fn check_reprinted(rt: &(impl Abort + AllocGlobal), text: &str) {
-    let [by_trees, reprinted] = both_printed(rt.alloc(), text).expect(text);
+    let [by_trees, reprinted] = both_printed(text).expect(text);
     assert_eq!(reprinted.as_str(), by_trees.as_str(), "of {text:?}");
 }
 

@@ -1,6 +1,6 @@
 // Made from crates/stream_tests/src/printing.rt by rust/erase: change that file, not this one.
 
-use crate::shim::prelude::{AllocGlobal, HostRuntime, Repeat, String};
+use crate::shim::prelude::{AllocGlobal, GrowText, HostRuntime, Repeat};
 
 // Display fails only where its writer does: no clause can say so, since the trait has no word for a write that fails.
 use crate::stream_tests::checks::{parsed, repeated};
@@ -11,7 +11,7 @@ use crate::shim::test::Fail;
 
 /// Asserts that the value is written as this text, without an error.
 fn is_written<D: Display>(rt: &(impl Abort + AllocGlobal), value: &D, text: &str) {
-    let mut found = String::new(rt.alloc());
+    let mut found = String::new();
     assert!(write!(&mut found, "{value}").is_ok());
     assert!(found.as_str() == text);
 }
@@ -19,7 +19,7 @@ fn is_written<D: Display>(rt: &(impl Abort + AllocGlobal), value: &D, text: &str
 /// Asserts that the text is one tree, and that the stream, this tree, and the tree as a group where it is one, are
 /// written as the text.
 fn one_tree_is_written(rt: &(impl Abort + AllocGlobal), text: &str) -> Result<(), Fail> {
-    let stream = parsed(rt.alloc(), text)?;
+    let stream = parsed(text)?;
     is_written(rt, &stream, text);
     let tree = stream.trees().first().expect("it has a tree");
     is_written(rt, tree, text);
@@ -32,29 +32,29 @@ fn one_tree_is_written(rt: &(impl Abort + AllocGlobal), text: &str) -> Result<()
 #[test]
 fn a_long_literal_is_printed_without_an_error() -> Result<(), Fail> {
     let rt = HostRuntime;
-    let text = repeated(rt.alloc(), &[("\"", 1), ("a", 1_100_000), ("\"", 1)])?;
+    let text = repeated(&[("\"", 1), ("a", 1_100_000), ("\"", 1)])?;
     one_tree_is_written(&rt, text.as_str())
 }
 
 #[test]
 fn deep_groups_are_printed_without_an_error() -> Result<(), Fail> {
     let rt = HostRuntime;
-    let text = repeated(rt.alloc(), &[("(", 70_000), ("x", 1), (")", 70_000)])?;
+    let text = repeated(&[("(", 70_000), ("x", 1), (")", 70_000)])?;
     one_tree_is_written(&rt, text.as_str())
 }
 
 #[test]
 fn a_long_name_is_printed_without_an_error() -> Result<(), Fail> {
     let rt = HostRuntime;
-    let text = repeated(rt.alloc(), &[("r#", 1), ("a", 1_100_000)])?;
+    let text = repeated(&[("r#", 1), ("a", 1_100_000)])?;
     one_tree_is_written(&rt, text.as_str())
 }
 
 #[test]
 fn a_long_list_is_printed_without_an_error() -> Result<(), Fail> {
     let rt = HostRuntime;
-    let text = repeated(rt.alloc(), &[("x + \"y\" (z) ", 70_000), ("'a", 1)])?;
-    is_written(&rt, &parsed(rt.alloc(), text.as_str())?, text.as_str());
+    let text = repeated(&[("x + \"y\" (z) ", 70_000), ("'a", 1)])?;
+    is_written(&rt, &parsed(text.as_str())?, text.as_str());
     Ok(())
 }
 
@@ -62,7 +62,7 @@ fn a_long_list_is_printed_without_an_error() -> Result<(), Fail> {
 fn a_long_list_in_a_group_is_printed_without_an_error() -> Result<(), Fail> {
     let rt = HostRuntime;
     for (front, back) in [("(x", ")"), ("[x", "]"), ("{ x", " }")] {
-        let text = repeated(rt.alloc(), &[(front, 1), (" x ;", 130_000), (back, 1)])?;
+        let text = repeated(&[(front, 1), (" x ;", 130_000), (back, 1)])?;
         one_tree_is_written(&rt, text.as_str())?;
     }
     Ok(())

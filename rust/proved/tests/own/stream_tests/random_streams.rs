@@ -1,6 +1,6 @@
 // Made from crates/stream_tests/src/random_streams.rt by rust/erase: change that file, not this one.
 
-use crate::shim::prelude::{AllocGlobal, HostRuntime, Vec, format};
+use crate::shim::prelude::{AllocGlobal, Grow, HostRuntime, format};
 
 // Streams of random trees: each comes back from its printed text exactly where it is well spaced.
 //
@@ -10,7 +10,7 @@ use proved::proc_macro2::{
     Delimiter, Group, Ident, Literal, ParseError, Punct, SourceMap, Spacing, Span, TokenStream,
     TokenTree,
 };
-use crate::shim::alloc::{AllocError, Global};
+use crate::shim::alloc::AllocError;
 use crate::shim::process::Abort;
 use crate::shim::test::Fail;
 
@@ -94,9 +94,9 @@ struct RandomTrees {
 impl RandomTrees {
     /// Up to 6 trees, in which groups nest 2 deep.
     fn trees(&mut self, rt: &(impl Abort + AllocGlobal)) -> Result<Vec<TokenTree>, Fail> {
-        let mut trees = Vec::new(rt.alloc());
+        let mut trees = Vec::new();
         for _ in 0..self.below(7) {
-            trees.push(self.tree(rt)?)?;
+            trees.push_fallibly(self.tree(rt)?)?;
         }
         Ok(trees)
     }
@@ -109,14 +109,14 @@ impl RandomTrees {
         }
         let delimiter = self.one_of(DELIMITERS);
         let inside = self.shallow_trees(rt)?;
-        Ok(grouped(rt.alloc(), delimiter, inside)?)
+        Ok(grouped(delimiter, inside)?)
     }
 
     /// Up to 3 trees, whose groups have no groups.
     fn shallow_trees(&mut self, rt: &(impl Abort + AllocGlobal)) -> Result<Vec<TokenTree>, Fail> {
-        let mut trees = Vec::new(rt.alloc());
+        let mut trees = Vec::new();
         for _ in 0..self.below(4) {
-            trees.push(self.shallow_tree(rt)?)?;
+            trees.push_fallibly(self.shallow_tree(rt)?)?;
         }
         Ok(trees)
     }
@@ -129,26 +129,24 @@ impl RandomTrees {
         }
         let delimiter = self.one_of(DELIMITERS);
         let inside = self.leaves(rt)?;
-        Ok(grouped(rt.alloc(), delimiter, inside)?)
+        Ok(grouped(delimiter, inside)?)
     }
 
     /// Up to 3 trees that are no groups.
     fn leaves(&mut self, rt: &(impl Abort + AllocGlobal)) -> Result<Vec<TokenTree>, Fail> {
-        let mut trees = Vec::new(rt.alloc());
+        let mut trees = Vec::new();
         for _ in 0..self.below(4) {
             let kind = self.below(11);
-            trees.push(self.leaf(rt, kind)?)?;
+            trees.push_fallibly(self.leaf(rt, kind)?)?;
         }
         Ok(trees)
     }
 
     /// A tree that is no group, of one of eleven kinds.
     fn leaf(&mut self, rt: &(impl Abort + AllocGlobal), kind: u64) -> Result<TokenTree, Fail> {
-        let alloc = rt.alloc();
         Ok(match kind {
-            0..=1 => TokenTree::Ident(Ident::new(alloc, self.one_of(NAMES), Span::call_site())?),
+            0..=1 => TokenTree::Ident(Ident::new(self.one_of(NAMES), Span::call_site())?),
             2 => TokenTree::Ident(Ident::new_raw(
-                alloc,
                 self.one_of(RAW_NAMES),
                 Span::call_site(),
             )?),
@@ -156,9 +154,9 @@ impl RandomTrees {
             5..=6 => TokenTree::Punct(self.mark(rt, Spacing::Joint)),
             7..=9 => {
                 let text = self.one_of(LITERALS);
-                TokenTree::Literal(Literal::from_str(text, &mut SourceMap::new(alloc))?)
+                TokenTree::Literal(Literal::from_str(text, &mut SourceMap::new())?)
             }
-            _ => TokenTree::Literal(self.integer(alloc)?),
+            _ => TokenTree::Literal(self.integer()?),
         })
     }
 
@@ -170,18 +168,18 @@ impl RandomTrees {
     }
 
     /// An integer that a constructor makes, mostly below zero.
-    fn integer(&mut self, alloc: Global) -> Result<Literal, AllocError> {
+    fn integer(&mut self) -> Result<Literal, AllocError> {
         match self.below(10) {
-            0 => Literal::i8_unsuffixed(alloc, -1),
-            1 => Literal::i8_unsuffixed(alloc, -128),
-            2 => Literal::i8_suffixed(alloc, -3),
-            3 => Literal::i16_suffixed(alloc, -3),
-            4 => Literal::i32_suffixed(alloc, -3),
-            5 => Literal::i64_suffixed(alloc, -3),
-            6 => Literal::i128_suffixed(alloc, -3),
-            7 => Literal::isize_suffixed(alloc, -3),
-            8 => Literal::i8_unsuffixed(alloc, 0),
-            _ => Literal::i32_suffixed(alloc, 127),
+            0 => Literal::i8_unsuffixed(-1),
+            1 => Literal::i8_unsuffixed(-128),
+            2 => Literal::i8_suffixed(-3),
+            3 => Literal::i16_suffixed(-3),
+            4 => Literal::i32_suffixed(-3),
+            5 => Literal::i64_suffixed(-3),
+            6 => Literal::i128_suffixed(-3),
+            7 => Literal::isize_suffixed(-3),
+            8 => Literal::i8_unsuffixed(0),
+            _ => Literal::i32_suffixed(127),
         }
     }
 
@@ -203,18 +201,17 @@ impl RandomTrees {
 
 /// The group of these trees.
 fn grouped(
-    alloc: Global,
     delimiter: Delimiter,
     trees: Vec<TokenTree>,
 ) -> Result<TokenTree, AllocError> {
-    let stream = TokenStream::from_trees(alloc, trees)?;
+    let stream = TokenStream::from_trees(trees)?;
     Ok(TokenTree::Group(Group::new(delimiter, stream)))
 }
 
 /// Whether the printed text parses, in a new map, to the same tokens.
-fn comes_back(alloc: Global, stream: &TokenStream) -> Result<bool, ParseError> {
-    let text = format!(in alloc; "{stream}")?;
-    match TokenStream::from_str(text.as_str(), &mut SourceMap::new(alloc)) {
+fn comes_back(stream: &TokenStream) -> Result<bool, ParseError> {
+    let text = format!("{stream}")?;
+    match TokenStream::from_str(text.as_str(), &mut SourceMap::new()) {
         Ok(back) => Ok(stream.same_tokens(&back)),
         Err(ParseError::Lex(_)) => Ok(false),
         Err(error) => Err(error),
@@ -227,7 +224,7 @@ fn check_spacing(
     stream: &TokenStream,
 ) -> Result<bool, ParseError> {
     let spaced = stream.is_well_spaced();
-    assert_eq!(comes_back(rt.alloc(), stream)?, spaced, "of {stream:?}");
+    assert_eq!(comes_back(stream)?, spaced, "of {stream:?}");
     Ok(spaced)
 }
 
@@ -238,7 +235,7 @@ fn what_is_well_spaced_comes_back_and_nothing_else() -> Result<(), Fail> {
     let mut come_back: u32 = 0;
     for _ in 0..STREAMS {
         let trees = random.trees(&rt)?;
-        let stream = TokenStream::from_trees(rt.alloc(), trees)?;
+        let stream = TokenStream::from_trees(trees)?;
         if check_spacing(&rt, &stream)? {
             come_back = come_back.saturating_add(1);
         }

@@ -15,7 +15,7 @@ fn check_fits(rt: &impl Abort, map: &mut SourceMap, limit: u32, text: &str, fits
 
 /// Asserts whether `z` and then the empty text fit behind `abcd`, which stands at 1..5.
 fn check_limit(rt: &(impl Abort + AllocGlobal), limit: u32, z: bool, empty: bool) {
-    let mut map = SourceMap::with_limit(rt.alloc(), limit);
+    let mut map = SourceMap::with_limit(limit);
     let abcd = TokenStream::from_str("abcd", &mut map).is_ok();
     assert!(abcd, "with the limit {limit}");
     check_fits(rt, &mut map, limit, "z", z);
@@ -25,7 +25,7 @@ fn check_limit(rt: &(impl Abort + AllocGlobal), limit: u32, z: bool, empty: bool
 #[test]
 fn the_empty_text_has_a_position_of_its_own() {
     let rt = HostRuntime;
-    let map = &mut SourceMap::new(rt.alloc());
+    let map = &mut SourceMap::new();
     check_shown(&rt, map, "", "TokenStream []");
     check_shown(
         &rt,
@@ -48,6 +48,6 @@ fn a_text_past_the_limit_leaves_the_map_as_it_was() {
     check_limit(&rt, 6, false, true);
     check_limit(&rt, 7, true, false);
     check_limit(&rt, 9, true, true);
-    check_fits(&rt, &mut SourceMap::with_limit(rt.alloc(), 0), 0, "", false);
-    check_fits(&rt, &mut SourceMap::with_limit(rt.alloc(), 1), 1, "", true);
+    check_fits(&rt, &mut SourceMap::with_limit(0), 0, "", false);
+    check_fits(&rt, &mut SourceMap::with_limit(1), 1, "", true);
 }

@@ -1,46 +1,42 @@
 // Made from crates/stream_tests/src/shown_trees.rt by rust/erase: change that file, not this one.
 
-use crate::shim::prelude::{HostRuntime, String, format};
+use crate::shim::prelude::{HostRuntime, format};
 
 // What streams and trees show of themselves, and what an empty stream prints.
 use crate::stream_tests::built_streams::{empty_group, grouped, one};
 use crate::stream_tests::checks::{displays, has_no_width, parsed, shows};
 use proved::proc_macro2::{Delimiter, Ident, Span, TokenStream, TokenTree};
-use crate::shim::alloc::{AllocError, Global};
+use crate::shim::alloc::AllocError;
 use crate::shim::process::Abort;
 use crate::shim::test::Fail;
 
 #[test]
 fn an_empty_stream_is_printed_as_nothing() -> Result<(), AllocError> {
     let rt = HostRuntime;
-    let alloc = rt.alloc();
-    let made = TokenStream::new(alloc);
-    displays(&rt, alloc, &made, "")?;
-    shows(&rt, alloc, &made, "TokenStream []")
+    let made = TokenStream::new();
+    displays(&rt, &made, "")?;
+    shows(&rt, &made, "TokenStream []")
 }
 
 /// The stream of a raw identifier that stands in no file.
-fn raw_name(alloc: Global, name: &str) -> Result<TokenStream, Fail> {
-    let ident = Ident::new_raw(alloc, name, Span::call_site())?;
-    Ok(one(alloc, TokenTree::Ident(ident))?)
+fn raw_name(name: &str) -> Result<TokenStream, Fail> {
+    let ident = Ident::new_raw(name, Span::call_site())?;
+    Ok(one(TokenTree::Ident(ident))?)
 }
 
 #[test]
 fn a_group_at_0_to_0_shows_no_span() -> Result<(), Fail> {
     let rt = HostRuntime;
-    let alloc = rt.alloc();
-    let nothing = empty_group(alloc, Delimiter::None);
+    let nothing = empty_group(Delimiter::None);
     shows(
         &rt,
-        alloc,
         &nothing,
         "Group { delimiter: None, stream: TokenStream [] }",
     )?;
-    let inside = raw_name(alloc, "ab")?;
+    let inside = raw_name("ab")?;
     let parentheses = grouped(Delimiter::Parenthesis, inside, Span::call_site());
     shows(
         &rt,
-        alloc,
         &parentheses,
         "Group { delimiter: Parenthesis, stream: TokenStream [Ident { sym: r#ab }] }",
     )?;
@@ -48,15 +44,15 @@ fn a_group_at_0_to_0_shows_no_span() -> Result<(), Fail> {
 }
 
 /// The stream of the text in a new map, as it is shown on lines.
-fn shown_on_lines(alloc: Global, text: &str) -> Result<String, Fail> {
-    let stream = parsed(alloc, text)?;
-    Ok(format!(in alloc; "{stream:#?}")?)
+fn shown_on_lines(text: &str) -> Result<String, Fail> {
+    let stream = parsed(text)?;
+    Ok(format!("{stream:#?}")?)
 }
 
 #[test]
 fn a_stream_is_shown_on_lines() -> Result<(), Fail> {
     let rt = HostRuntime;
-    let shown = shown_on_lines(rt.alloc(), "r#fn(b'x')")?;
+    let shown = shown_on_lines("r#fn(b'x')")?;
     let want = "TokenStream [
     Ident {
         sym: r#fn,
@@ -80,14 +76,13 @@ fn a_stream_is_shown_on_lines() -> Result<(), Fail> {
 /// Asserts that each tree of the text is displayed as these, whatever width is asked for.
 fn trees_have_no_width(
     rt: &impl Abort,
-    alloc: Global,
     text: &str,
     wanted: &[&str],
 ) -> Result<(), Fail> {
-    let stream = parsed(alloc, text)?;
-    has_no_width(rt, alloc, &stream, text)?;
+    let stream = parsed(text)?;
+    has_no_width(rt, &stream, text)?;
     for (tree, want) in stream.trees().iter().zip(wanted) {
-        has_no_width(rt, alloc, tree, want)?;
+        has_no_width(rt, tree, want)?;
     }
     Ok(())
 }
@@ -96,5 +91,5 @@ fn trees_have_no_width(
 fn a_width_or_a_precision_changes_no_stream() -> Result<(), Fail> {
     let rt = HostRuntime;
     let trees = &["r#ab", "1.5", "+", "(x)"];
-    trees_have_no_width(&rt, rt.alloc(), "r#ab 1.5 + (x)", trees)
+    trees_have_no_width(&rt, "r#ab 1.5 + (x)", trees)
 }

@@ -1,6 +1,6 @@
 // Made from crates/stream_tests/src/spans.rt by rust/erase: change that file, not this one.
 
-use crate::shim::prelude::{AllocGlobal, HostRuntime, Repeat, Vec, format};
+use crate::shim::prelude::{AllocGlobal, Grow, HostRuntime, Repeat, format};
 
 // What spans give back, of texts that were parsed into one map.
 use crate::stream_tests::checks::{held, repeated};
@@ -74,9 +74,9 @@ fn check_spans(
     text: &str,
     want: &[(u32, u32)],
 ) -> Result<(), Fail> {
-    let mut found = Vec::new(rt.alloc());
+    let mut found = Vec::new();
     for tree in TokenStream::from_str(text, map)?.trees() {
-        found.push(bounds(tree.span()))?;
+        found.push_fallibly(bounds(tree.span()))?;
     }
     assert_eq!(found.as_slice(), want, "of {text:?}");
     Ok(())
@@ -111,7 +111,7 @@ fn check_many(
 #[test]
 fn look_ups_are_the_same_in_every_order() -> Result<(), Fail> {
     let rt = HostRuntime;
-    let map = &mut SourceMap::new(rt.alloc());
+    let map = &mut SourceMap::new();
     check_spans(
         &rt,
         map,
@@ -144,7 +144,7 @@ fn check_only_file_0(rt: &impl Abort, map: &SourceMap, most: u32) {
 #[test]
 fn after_invalidate_texts_begin_at_1_again() -> Result<(), Fail> {
     let rt = HostRuntime;
-    let map = &mut SourceMap::with_limit(rt.alloc(), 5);
+    let map = &mut SourceMap::with_limit(5);
     check_spans(&rt, map, "1", &[(1, 2)])?;
     check_spans(&rt, map, "1", &[(3, 4)])?;
     map.invalidate();
@@ -161,7 +161,7 @@ fn after_invalidate_texts_begin_at_1_again() -> Result<(), Fail> {
 #[test]
 fn spans_of_one_file_join() -> Result<(), Fail> {
     let rt = HostRuntime;
-    let map = &mut SourceMap::new(rt.alloc());
+    let map = &mut SourceMap::new();
     check_spans(&rt, map, "aaa\nbbb", &[(1, 4), (5, 8)])?;
     check_spans(&rt, map, "ccc\nddd", &[(9, 12), (13, 16)])?;
     check_join(&rt, map, (1, 4), (5, 8), Some((1, 8)));
@@ -181,7 +181,7 @@ fn spans_of_one_file_join() -> Result<(), Fail> {
 #[test]
 fn a_span_of_no_text_has_none() -> Result<(), Fail> {
     let rt = HostRuntime;
-    let map = &mut SourceMap::new(rt.alloc());
+    let map = &mut SourceMap::new();
     check_spans(&rt, map, "a", &[(1, 2)])?;
     check_look_ups(&rt, map, (0, 0), [(1, 0), (1, 0), (0, 0)]);
     check_text(&rt, map, (0, 0), None)?;
@@ -192,7 +192,7 @@ fn a_span_of_no_text_has_none() -> Result<(), Fail> {
 #[test]
 fn lines_end_at_a_line_feed_alone() -> Result<(), Fail> {
     let rt = HostRuntime;
-    let map = &mut SourceMap::new(rt.alloc());
+    let map = &mut SourceMap::new();
     check_spans(&rt, map, "a\r\nb\n", &[(1, 2), (4, 5)])?;
     let rows = &[
         ((1, 2), [(1, 0), (1, 1), (0, 1)], "a"),
@@ -208,7 +208,7 @@ fn lines_end_at_a_line_feed_alone() -> Result<(), Fail> {
 #[test]
 fn bytes_are_counted_past_ascii() -> Result<(), Fail> {
     let rt = HostRuntime;
-    let map = &mut SourceMap::new(rt.alloc());
+    let map = &mut SourceMap::new();
     check_spans(
         &rt,
         map,
@@ -229,7 +229,7 @@ fn bytes_are_counted_past_ascii() -> Result<(), Fail> {
 #[test]
 fn a_border_is_in_one_file() -> Result<(), Fail> {
     let rt = HostRuntime;
-    let map = &mut SourceMap::new(rt.alloc());
+    let map = &mut SourceMap::new();
     check_spans(&rt, map, "é", &[(1, 2)])?;
     check_spans(&rt, map, "", &[])?;
     check_spans(&rt, map, "\na", &[(5, 6)])?;
@@ -245,7 +245,7 @@ fn a_border_is_in_one_file() -> Result<(), Fail> {
 #[test]
 fn many_files_stay_apart() -> Result<(), Fail> {
     let rt = HostRuntime;
-    let map = &mut SourceMap::new(rt.alloc());
+    let map = &mut SourceMap::new();
     check_many(&rt, map, 150)?;
     check_rows(&rt, map, &[((597, 598), [(1, 0), (1, 1), (0, 1)], "x")])?;
     check_name(&rt, map, (597, 598), "<parsed string 299>")?;
@@ -269,10 +269,10 @@ fn other_spans_are_made_from_spans() {
 #[test]
 fn a_map_shows_its_files() -> Result<(), Fail> {
     let rt = HostRuntime;
-    let map = &mut SourceMap::with_limit(rt.alloc(), 9);
+    let map = &mut SourceMap::with_limit(9);
     check_spans(&rt, map, "é\nb", &[(1, 2), (3, 4)])?;
-    let shown = format!(in rt.alloc(); "{map:?}")?;
-    let want = "SourceMap { alloc: Global, files: [FileInfo { text: \"é\\nb\", lo: 1, hi: 4, \
+    let shown = format!("{map:?}")?;
+    let want = "SourceMap { files: [FileInfo { text: \"é\\nb\", lo: 1, hi: 4, \
         line_starts: [2], non_ascii_bounds: [OffsetPair { chars: 0, bytes: 0 }, OffsetPair { chars: 2, bytes: 3 }], \
         byte_offsets: {}, used: OffsetPair { chars: 0, bytes: 0 } }], limit: 9 }";
     assert_eq!(shown.as_str(), want, "of one file");
@@ -286,8 +286,8 @@ const LONG_LINE: &str = "\u{e9}bcdefghijklmnopqrstuvwxyzabcdefghijklmnopqrstuvw\
 #[test]
 fn a_text_past_a_mebibyte_becomes_a_file() -> Result<(), Fail> {
     let rt = HostRuntime;
-    let mut map = SourceMap::new(rt.alloc());
-    let text = repeated(rt.alloc(), &[(LONG_LINE, 20_000)])?;
+    let mut map = SourceMap::new();
+    let text = repeated(&[(LONG_LINE, 20_000)])?;
     let stream = TokenStream::from_str(text.as_str(), &mut map)?;
     assert_eq!(stream.trees().len(), 20_000);
     // The first character of the last line.

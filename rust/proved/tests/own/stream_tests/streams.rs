@@ -14,10 +14,10 @@ const DEEPER: &[(&str, u32)] = &[("[", 100_001), ("+", 1), ("]", 100_001)];
 #[test]
 fn deep_groups_are_read_without_stack() -> Result<(), Fail> {
     let rt = HostRuntime;
-    let text = repeated(rt.alloc(), DEEP)?;
-    let trees = count_trees(rt.alloc(), text.as_str());
+    let text = repeated(DEEP)?;
+    let trees = count_trees(text.as_str());
     assert_eq!(trees, Some(1), "all stands in one group");
-    let printed = printed(rt.alloc(), text.as_str())?;
+    let printed = printed(text.as_str())?;
     assert!(printed.as_str() == text.as_str(), "no level has a space");
     Ok(())
 }
@@ -25,11 +25,11 @@ fn deep_groups_are_read_without_stack() -> Result<(), Fail> {
 #[test]
 fn deep_groups_are_compared_without_stack() -> Result<(), Fail> {
     let rt = HostRuntime;
-    let text = repeated(rt.alloc(), DEEP)?;
-    let other = repeated(rt.alloc(), DEEPER)?;
+    let text = repeated(DEEP)?;
+    let other = repeated(DEEPER)?;
     check_same(&rt, text.as_str(), text.as_str(), true);
     check_same(&rt, text.as_str(), other.as_str(), false);
-    let spaced = parses_well_spaced(rt.alloc(), text.as_str())?;
+    let spaced = parses_well_spaced(text.as_str())?;
     assert!(spaced, "each level is one group");
     Ok(())
 }

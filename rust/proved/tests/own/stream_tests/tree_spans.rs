@@ -47,7 +47,7 @@ fn start_of_literal(text: &str, map: &mut SourceMap) -> Result<LineColumn, Parse
 #[test]
 fn the_map_holds_each_span_of_what_was_read() -> Result<(), Fail> {
     let rt = HostRuntime;
-    let mut map = SourceMap::new(rt.alloc());
+    let mut map = SourceMap::new();
     let start = start_of_last("a\n (b\nc)", &mut map)?;
     assert_eq!(start, Some(LineColumn { line: 2, column: 1 }));
     let start = start_of_last_inside("a\n (b\nc)", &mut map)?;

@@ -5,7 +5,7 @@ use crate::shim::prelude::format;
 
 use proved::pm_span::{SourceMap, Span};
 use proved::pm_token::{Ident, IdentError, Literal, ParseError};
-use crate::shim::alloc::{AllocError, Global};
+use crate::shim::alloc::AllocError;
 use crate::shim::fmt::{Debug, Display};
 use crate::shim::process::Abort;
 
@@ -15,17 +15,17 @@ pub fn check_same<T: PartialEq + Debug>(rt: &impl Abort, row: &str, answer: &T, 
 }
 
 /// The literal of the text, as the first text of a new map.
-pub fn read(alloc: Global, text: &str) -> Result<Literal, ParseError> {
-    let mut map = SourceMap::new(alloc);
+pub fn read(text: &str) -> Result<Literal, ParseError> {
+    let mut map = SourceMap::new();
     Literal::from_str(text, &mut map)
 }
 
 /// The identifier of the name, which stands in no file.
-pub fn made(alloc: Global, name: &str, raw: bool) -> Result<Ident, IdentError> {
+pub fn made(name: &str, raw: bool) -> Result<Ident, IdentError> {
     if raw {
-        Ident::new_raw(alloc, name, Span::call_site())
+        Ident::new_raw(name, Span::call_site())
     } else {
-        Ident::new(alloc, name, Span::call_site())
+        Ident::new(name, Span::call_site())
     }
 }
 
@@ -45,11 +45,10 @@ pub fn is_written(rt: &impl Abort, literal: Result<Literal, AllocError>, want: &
 /// Asserts that the value is displayed as this text.
 pub fn displays<T: Display>(
     rt: &impl Abort,
-    alloc: Global,
     value: &T,
     want: &str,
 ) -> Result<(), AllocError> {
-    let shown = format!(in alloc; "{value}")?;
+    let shown = format!("{value}")?;
     check_same(rt, want, &shown.as_str(), &want);
     Ok(())
 }
@@ -57,11 +56,10 @@ pub fn displays<T: Display>(
 /// Asserts that the value shows its parts as this text.
 pub fn shows<T: Debug>(
     rt: &impl Abort,
-    alloc: Global,
     value: &T,
     want: &str,
 ) -> Result<(), AllocError> {
-    let shown = format!(in alloc; "{value:?}")?;
+    let shown = format!("{value:?}")?;
     check_same(rt, want, &shown.as_str(), &want);
     Ok(())
 }
@@ -69,11 +67,10 @@ pub fn shows<T: Debug>(
 /// Asserts what each value of the table shows of itself.
 pub fn are_shown<T: Debug>(
     rt: &impl Abort,
-    alloc: Global,
     rows: &[(T, &str)],
 ) -> Result<(), AllocError> {
     for (value, want) in rows {
-        shows(rt, alloc, value, want)?;
+        shows(rt, value, want)?;
     }
     Ok(())
 }
@@ -81,11 +78,10 @@ pub fn are_shown<T: Debug>(
 /// Asserts what each value of the table is displayed as.
 pub fn are_displayed<T: Display>(
     rt: &impl Abort,
-    alloc: Global,
     rows: &[(T, &str)],
 ) -> Result<(), AllocError> {
     for (value, want) in rows {
-        displays(rt, alloc, value, want)?;
+        displays(rt, value, want)?;
     }
     Ok(())
 }

@@ -1,11 +1,10 @@
 // Made from crates/token_tests/src/identifiers.rt by rust/erase: change that file, not this one.
 
-use crate::shim::prelude::{HostRuntime, Sort, String, Vec};
+use crate::shim::prelude::{Grow, GrowList, HostRuntime};
 
 use crate::token_tests::checks::{check_same, displays, made, shows};
 use proved::pm_span::parts::{bounds, span_of};
 use proved::pm_token::{Ident, IdentError};
-use crate::shim::alloc::Global;
 use crate::shim::collections::{BTreeMap, HashMap};
 use crate::shim::process::Abort;
 use crate::shim::test::Fail;
@@ -18,14 +17,15 @@ fn refusal(outcome: Result<Ident, IdentError>) -> &'static str {
         Err(IdentError::Invalid) => "invalid",
         Err(IdentError::Reserved) => "reserved",
         Err(IdentError::Memory(_)) => "memory",
-    }
+    _ => unreachable!("each case is above"),
+}
 }
 
 /// Asserts how each name is answered, as a plain identifier and as a raw one.
-fn are_answered(rt: &impl Abort, alloc: Global, rows: &[(&str, &str, &str)]) {
+fn are_answered(rt: &impl Abort, rows: &[(&str, &str, &str)]) {
     for &(name, plain, raw) in rows {
-        let as_plain = refusal(made(alloc, name, false));
-        let as_raw = refusal(made(alloc, name, true));
+        let as_plain = refusal(made(name, false));
+        let as_raw = refusal(made(name, true));
         check_same(rt, name, &(as_plain, as_raw), &(plain, raw));
     }
 }
@@ -33,19 +33,18 @@ fn are_answered(rt: &impl Abort, alloc: Global, rows: &[(&str, &str, &str)]) {
 /// Asserts that the identifier of the name, which is answered, is displayed as this text.
 fn displayed(
     rt: &impl Abort,
-    alloc: Global,
     name: &str,
     raw: bool,
     want: &str,
 ) -> Result<Ident, Fail> {
-    let ident = made(alloc, name, raw)?;
-    displays(rt, alloc, &ident, want)?;
+    let ident = made(name, raw)?;
+    displays(rt, &ident, want)?;
     Ok(ident)
 }
 
 /// Asserts that the identifier is equal to the plain one of the name that stands in no file.
-fn is_equal(rt: &impl Abort, alloc: Global, ident: &Ident, name: &str) -> Result<(), Fail> {
-    let other = made(alloc, name, false)?;
+fn is_equal(rt: &impl Abort, ident: &Ident, name: &str) -> Result<(), Fail> {
+    let other = made(name, false)?;
     check_same(rt, name, ident, &other);
     Ok(())
 }
@@ -59,12 +58,12 @@ fn stand_for(rt: &impl Abort, raw: &Ident, plain: &Ident, rows: &[(&str, bool, b
 }
 
 /// The identifiers of the names in their order.
-fn sorted(alloc: Global, rows: &[(&str, bool)]) -> Result<Vec<Ident>, Fail> {
-    let mut idents = Vec::new(alloc);
+fn sorted(rows: &[(&str, bool)]) -> Result<Vec<Ident>, Fail> {
+    let mut idents = Vec::new();
     for &(name, raw) in rows {
-        idents.push(made(alloc, name, raw)?)?;
+        idents.push_fallibly(made(name, raw)?)?;
     }
-    idents.sort()?;
+    idents.sort_fallibly()?;
     Ok(idents)
 }
 
@@ -78,14 +77,13 @@ fn are_written(rt: &impl Abort, idents: &[Ident], texts: &[&str]) {
 
 /// Puts the values of the rows into both maps.
 fn fill(
-    alloc: Global,
     hashed: &mut HashMap<Ident, i32>,
     ordered: &mut BTreeMap<Ident, i32>,
     rows: &[(&str, bool, i32)],
 ) -> Result<(), Fail> {
     for &(name, raw, value) in rows {
-        hashed.insert(made(alloc, name, raw)?, value)?;
-        ordered.insert(made(alloc, name, raw)?, value)?;
+        hashed.insert(made(name, raw)?, value)?;
+        ordered.insert(made(name, raw)?, value)?;
     }
     Ok(())
 }
@@ -93,13 +91,12 @@ fn fill(
 /// Asserts what both maps, the hashed one first, have at the keys, which are raw or not.
 fn values_are(
     rt: &impl Abort,
-    alloc: Global,
     hashed: &HashMap<Ident, i32>,
     ordered: &BTreeMap<Ident, i32>,
     rows: &[(&str, bool, Option<i32>)],
 ) -> Result<(), Fail> {
     for &(name, raw, want) in rows {
-        let key = made(alloc, name, raw)?;
+        let key = made(name, raw)?;
         let values = (raw, hashed.get(&key).copied(), ordered.get(&key).copied());
         check_same(rt, name, &values, &(raw, want, want));
     }
@@ -128,26 +125,26 @@ fn the_first_fault_of_a_name_is_answered() {
         ("fn", "made", "made"),
         ("\u{E9}t\u{E9}", "made", "made"),
     ];
-    are_answered(&rt, rt.alloc(), rows);
+    are_answered(&rt, rows);
 }
 
 // No clause can say that memory suffices for a name that doesn't stand in place.
 #[test]
 fn a_long_name_is_made_where_memory_suffices() -> Result<(), Fail> {
     let rt = HostRuntime;
-    let mut name = String::new(rt.alloc());
+    let mut name = String::new();
     for _ in 0..300 {
-        name.push('a')?;
+        name.push_fallibly('a')?;
     }
-    are_answered(&rt, rt.alloc(), &[(name.as_str(), "made", "made")]);
+    are_answered(&rt, &[(name.as_str(), "made", "made")]);
     Ok(())
 }
 
 #[test]
 fn an_identifier_is_written_with_its_front() -> Result<(), Fail> {
     let rt = HostRuntime;
-    let raw = displayed(&rt, rt.alloc(), "fn", true, "r#fn")?;
-    let plain = displayed(&rt, rt.alloc(), "fn", false, "fn")?;
+    let raw = displayed(&rt, "fn", true, "r#fn")?;
+    let plain = displayed(&rt, "fn", false, "fn")?;
     let rows = &[
         ("r#fn", true, false),
         ("fn", false, true),
@@ -162,7 +159,7 @@ fn an_identifier_is_written_with_its_front() -> Result<(), Fail> {
 #[test]
 fn identifiers_are_ordered_as_they_are_written() -> Result<(), Fail> {
     let rt = HostRuntime;
-    let idents = sorted(rt.alloc(), &[("a", true), ("ra", false), ("r", false)])?;
+    let idents = sorted(&[("a", true), ("ra", false), ("r", false)])?;
     are_written(&rt, idents.as_slice(), &["r", "r#a", "ra"]);
     Ok(())
 }
@@ -170,31 +167,31 @@ fn identifiers_are_ordered_as_they_are_written() -> Result<(), Fail> {
 #[test]
 fn a_map_keeps_raw_and_plain_keys_apart() -> Result<(), Fail> {
     let rt = HostRuntime;
-    let mut hashed = HashMap::new(rt.alloc());
-    let mut ordered = BTreeMap::new(rt.alloc());
+    let mut hashed = HashMap::new();
+    let mut ordered = BTreeMap::new();
     let rows = &[
         ("a", false, 1),
         ("a", true, 2),
         ("b", false, 3),
         ("a", false, 4),
     ];
-    fill(rt.alloc(), &mut hashed, &mut ordered, rows)?;
+    fill(&mut hashed, &mut ordered, rows)?;
     let rows = &[
         ("a", false, Some(4)),
         ("a", true, Some(2)),
         ("b", false, Some(3)),
         ("b", true, None),
     ];
-    values_are(&rt, rt.alloc(), &hashed, &ordered, rows)
+    values_are(&rt, &hashed, &ordered, rows)
 }
 
 #[test]
 fn a_span_is_set_and_does_not_count() -> Result<(), Fail> {
     let rt = HostRuntime;
-    let mut ident = Ident::new(rt.alloc(), "a", span_of(1, 2))?;
+    let mut ident = Ident::new("a", span_of(1, 2))?;
     let want = "Ident { sym: a, span: bytes(1..2) }";
-    shows(&rt, rt.alloc(), &ident, want)?;
+    shows(&rt, &ident, want)?;
     ident.set_span(span_of(3, 5));
     check_same(&rt, want, &bounds(ident.span()), &(3, 5));
-    is_equal(&rt, rt.alloc(), &ident, "a")
+    is_equal(&rt, &ident, "a")
 }

@@ -1,64 +1,64 @@
 // Made from crates/token_tests/src/lengths.rt by rust/erase: change that file, not this one.
 
-use crate::shim::prelude::{Clone, HostRuntime, String, format};
+use crate::shim::prelude::{GrowText, HostRuntime, TryClone, format};
 
 // A text of at most 22 bytes stands in its token, and a longer one behind a pointer. Both are kept and copied.
 use crate::token_tests::checks::{check_same, made};
 use proved::pm_token::{Ident, IdentError, Literal};
-use crate::shim::alloc::{AllocError, Global};
+use crate::shim::alloc::AllocError;
 use crate::shim::process::Abort;
 use crate::shim::test::Fail;
 
 /// A copy of the identifier of the name.
-fn copied(alloc: Global, name: &str, raw: bool) -> Result<Ident, IdentError> {
-    Ok(made(alloc, name, raw)?.clone()?)
+fn copied(name: &str, raw: bool) -> Result<Ident, IdentError> {
+    Ok(made(name, raw)?.try_clone()?)
 }
 
 /// A copy of the string literal of the text.
-fn copied_literal(alloc: Global, text: &str) -> Result<Literal, AllocError> {
-    let literal = Literal::string(alloc, text)?;
-    literal.clone()
+fn copied_literal(text: &str) -> Result<Literal, AllocError> {
+    let literal = Literal::string(text)?;
+    literal.try_clone()
 }
 
 /// What a copy of the identifier of the name is written as.
-fn written(alloc: Global, name: &str, raw: bool) -> Result<String, IdentError> {
-    let copy = copied(alloc, name, raw)?;
-    Ok(format!(in alloc; "{copy}")?)
+fn written(name: &str, raw: bool) -> Result<String, IdentError> {
+    let copy = copied(name, raw)?;
+    Ok(format!("{copy}")?)
 }
 
 /// What a copy of the string literal of the text is written as.
-fn written_literal(alloc: Global, text: &str) -> Result<String, AllocError> {
-    let copy = copied_literal(alloc, text)?;
-    format!(in alloc; "{copy}")
+fn written_literal(text: &str) -> Result<String, AllocError> {
+    let copy = copied_literal(text)?;
+    format!("{copy}")
 }
 
 /// Asserts how a copy of the plain identifier of the name is written.
-fn is_kept(rt: &impl Abort, alloc: Global, name: &str) -> Result<(), IdentError> {
-    let plain = written(alloc, name, false)?;
+fn is_kept(rt: &impl Abort, name: &str) -> Result<(), IdentError> {
+    let plain = written(name, false)?;
     check_same(rt, name, &plain.as_str(), &name);
     Ok(())
 }
 
 /// Asserts how a copy of the raw identifier of the name is written.
-fn is_kept_raw(rt: &impl Abort, alloc: Global, name: &str) -> Result<(), IdentError> {
-    let raw = written(alloc, name, true)?;
+fn is_kept_raw(rt: &impl Abort, name: &str) -> Result<(), IdentError> {
+    let raw = written(name, true)?;
     check_same(rt, name, &raw.as_str().strip_prefix("r#"), &Some(name));
     Ok(())
 }
 
 /// Asserts how a copy of the string literal of the text is written.
-fn is_quoted(rt: &impl Abort, alloc: Global, text: &str) -> Result<(), AllocError> {
-    let quoted = written_literal(alloc, text)?;
+fn is_quoted(rt: &impl Abort, text: &str) -> Result<(), AllocError> {
+    let quoted = written_literal(text)?;
     let inside = quoted.as_str().strip_prefix('"').unwrap_or("");
     check_same(rt, text, &inside.strip_suffix('"'), &Some(text));
     Ok(())
 }
 
 /// A text of 100,000 bytes.
-fn long_text(alloc: Global) -> Result<String, AllocError> {
-    let mut text = String::new(alloc);
+fn long_text() -> Result<String, AllocError> {
+    let mut text = String::new();
     for _ in 0..10_000 {
-        text.push_str("abcdefghij")?;
+        text.push_str_fallibly("abcdefghij")?;
     }
     Ok(text)
 }
@@ -75,8 +75,8 @@ fn a_name_of_any_length_is_kept() -> Result<(), Fail> {
         "a\u{E9}\u{E9}\u{E9}\u{E9}\u{E9}\u{E9}\u{E9}\u{E9}\u{E9}\u{E9}\u{E9}",
     ];
     for name in &names {
-        is_kept(&rt, rt.alloc(), name)?;
-        is_kept_raw(&rt, rt.alloc(), name)?;
+        is_kept(&rt, name)?;
+        is_kept_raw(&rt, name)?;
     }
     Ok(())
 }
@@ -85,7 +85,7 @@ fn a_name_of_any_length_is_kept() -> Result<(), Fail> {
 fn a_literal_of_any_length_is_kept() -> Result<(), AllocError> {
     let rt = HostRuntime;
     for text in &["", "abcdefghijklmnopqrst", "abcdefghijklmnopqrstu"] {
-        is_quoted(&rt, rt.alloc(), text)?;
+        is_quoted(&rt, text)?;
     }
     Ok(())
 }
@@ -93,9 +93,9 @@ fn a_literal_of_any_length_is_kept() -> Result<(), AllocError> {
 #[test]
 fn a_text_of_100000_bytes_is_kept() -> Result<(), Fail> {
     let rt = HostRuntime;
-    let text = long_text(rt.alloc())?;
-    is_kept(&rt, rt.alloc(), text.as_str())?;
-    is_kept_raw(&rt, rt.alloc(), text.as_str())?;
-    is_quoted(&rt, rt.alloc(), text.as_str())?;
+    let text = long_text()?;
+    is_kept(&rt, text.as_str())?;
+    is_kept_raw(&rt, text.as_str())?;
+    is_quoted(&rt, text.as_str())?;
     Ok(())
 }

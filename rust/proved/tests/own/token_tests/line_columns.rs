@@ -4,7 +4,7 @@ use crate::shim::prelude::HostRuntime;
 
 use crate::token_tests::checks::{check_same, shows};
 use proved::pm_span::{LineColumn, SourceMap};
-use crate::shim::alloc::{AllocFailed, Global};
+use crate::shim::alloc::AllocFailed;
 use crate::shim::cmp::Ordering;
 use crate::shim::collections::{BTreeMap, HashMap};
 use crate::shim::process::Abort;
@@ -26,11 +26,10 @@ fn are_compared(rt: &impl Abort, rows: &[((usize, usize), (usize, usize), Orderi
 
 /// How many of them differ, for a map that hashes them and one that orders them.
 fn count(
-    alloc: Global,
     numbers: &[(usize, usize)],
 ) -> Result<(usize, usize), AllocFailed<(LineColumn, ())>> {
-    let mut hashed = HashMap::new(alloc);
-    let mut ordered = BTreeMap::new(alloc);
+    let mut hashed = HashMap::new();
+    let mut ordered = BTreeMap::new();
     for &at in numbers {
         hashed.insert(line_column(at), ())?;
         ordered.insert(line_column(at), ())?;
@@ -56,7 +55,6 @@ fn lines_with_columns_are_ordered_by_line_and_then_by_column() {
 fn a_map_keys_them_by_line_and_column() -> Result<(), Fail> {
     let rt = HostRuntime;
     let counts = count(
-        rt.alloc(),
         &[(1, 2), (2, 1), (1, 2), (1, 1), (2, 2), (2, 1)],
     )?;
     check_same(&rt, "counts", &counts, &(4, 4));
@@ -67,14 +65,14 @@ fn a_map_keys_them_by_line_and_column() -> Result<(), Fail> {
 fn they_show_their_line_and_their_column() -> Result<(), Fail> {
     let rt = HostRuntime;
     let want = "LineColumn { line: 2, column: 3 }";
-    shows(&rt, rt.alloc(), &line_column((2, 3)), want)?;
+    shows(&rt, &line_column((2, 3)), want)?;
     Ok(())
 }
 
 #[test]
 fn a_source_map_shows_its_files_and_its_limit() -> Result<(), Fail> {
     let rt = HostRuntime;
-    let want = "SourceMap { alloc: Global, files: [], limit: 7 }";
-    shows(&rt, rt.alloc(), &SourceMap::with_limit(rt.alloc(), 7), want)?;
+    let want = "SourceMap { files: [], limit: 7 }";
+    shows(&rt, &SourceMap::with_limit(7), want)?;
     Ok(())
 }

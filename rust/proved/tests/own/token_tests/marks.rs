@@ -37,8 +37,7 @@ fn no_character_past_ascii_is_a_mark() {
 #[test]
 fn a_new_mark_stands_nowhere() -> Result<(), AllocError> {
     let rt = HostRuntime;
-    let alloc = rt.alloc();
     let mark = Punct::new('\'', Spacing::Joint);
-    displays(&rt, alloc, &mark, "'")?;
-    shows(&rt, alloc, &mark, "Punct { char: '\\'', spacing: Joint }")
+    displays(&rt, &mark, "'")?;
+    shows(&rt, &mark, "Punct { char: '\\'', spacing: Joint }")
 }

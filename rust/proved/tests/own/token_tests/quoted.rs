@@ -9,30 +9,29 @@ use proved::pm_token::Literal;
 #[test]
 fn bytes_that_are_no_text_are_written_with_escapes() {
     let rt = HostRuntime;
-    let alloc = rt.alloc();
-    is_written(&rt, Literal::byte_character(alloc, 0xAB), "b'\\xAB'");
+    is_written(&rt, Literal::byte_character(0xAB), "b'\\xAB'");
     let bytes = b"\x1F ~\x7F\x80\xFF";
     is_written(
         &rt,
-        Literal::byte_string(alloc, bytes),
+        Literal::byte_string(bytes),
         "b\"\\x1F ~\\x7F\\x80\\xFF\"",
     );
     let bytes = b"\x7F\xFF\xFE\xCC\xB3";
     is_written(
         &rt,
-        Literal::c_string(alloc, bytes),
+        Literal::c_string(bytes),
         "c\"\\u{7f}\\xFF\\xFE\\u{333}\"",
     );
     let bytes = b"\xE2\x82a\xF0\x9F\x98";
     is_written(
         &rt,
-        Literal::c_string(alloc, bytes),
+        Literal::c_string(bytes),
         "c\"\\xE2\\x82a\\xF0\\x9F\\x98\"",
     );
     let bytes = b"\xC3\xA9\x80\xC0\x80";
     is_written(
         &rt,
-        Literal::c_string(alloc, bytes),
+        Literal::c_string(bytes),
         "c\"\u{E9}\\x80\\xC0\\x80\"",
     );
 }

@@ -9,14 +9,14 @@ use proved::pm_span::parts::span_of;
 use proved::pm_span::{SourceMap, Span};
 use proved::pm_token::parts::fault;
 use proved::pm_token::{ConversionErrorKind, IdentError, Literal, ParseError};
-use crate::shim::alloc::{AllocError, Global};
+use crate::shim::alloc::AllocError;
 use crate::shim::process::Abort;
 
 /// Asserts what the error of a text that is no literal shows of itself.
-fn is_refused_as(rt: &impl Abort, alloc: Global, text: &str, want: &str) -> Result<(), AllocError> {
-    let mut map = SourceMap::new(alloc);
+fn is_refused_as(rt: &impl Abort, text: &str, want: &str) -> Result<(), AllocError> {
+    let mut map = SourceMap::new();
     let refused = Literal::from_str(text, &mut map).err();
-    shows(rt, alloc, &refused, want)
+    shows(rt, &refused, want)
 }
 
 #[test]
@@ -27,9 +27,9 @@ fn a_fault_shows_its_span_wherever_it_is() -> Result<(), AllocError> {
         (fault(span_of(1, 1)), "LexError { span: bytes(1..1) }"),
         (fault(span_of(28, 30)), "LexError { span: bytes(28..30) }"),
     ];
-    are_shown(&rt, rt.alloc(), &rows)?;
+    are_shown(&rt, &rows)?;
     let want = "Some(Lex(LexError { span: bytes(0..0) }))";
-    is_refused_as(&rt, rt.alloc(), "- 1", want)
+    is_refused_as(&rt, "- 1", want)
 }
 
 #[test]
@@ -42,19 +42,19 @@ fn an_error_of_parsing_shows_its_kind() -> Result<(), AllocError> {
         ),
         (ParseError::MapFull, "MapFull"),
         ];
-    are_shown(&rt, rt.alloc(), &rows)
+    are_shown(&rt, &rows)
 }
 
 #[test]
 fn an_error_of_parsing_says_what_is_wrong() -> Result<(), AllocError> {
     let rt = HostRuntime;
     let fault_says = "cannot parse string into token stream";
-    displays(&rt, rt.alloc(), &fault(span_of(2, 2)), fault_says)?;
+    displays(&rt, &fault(span_of(2, 2)), fault_says)?;
     let rows = [
         (ParseError::Lex(fault(Span::call_site())), fault_says),
         (ParseError::MapFull, "map full"),
         ];
-    are_displayed(&rt, rt.alloc(), &rows)
+    are_displayed(&rt, &rows)
 }
 
 #[test]
@@ -66,7 +66,7 @@ fn an_error_of_a_name_shows_its_kind() -> Result<(), AllocError> {
         (IdentError::Invalid, "Invalid"),
         (IdentError::Reserved, "Reserved"),
         ];
-    are_shown(&rt, rt.alloc(), &rows)
+    are_shown(&rt, &rows)
 }
 
 #[test]
@@ -84,7 +84,7 @@ fn an_error_of_a_name_says_what_is_wrong() -> Result<(), AllocError> {
             "this name is reserved, and can't be raw",
         ),
         ];
-    are_displayed(&rt, rt.alloc(), &rows)
+    are_displayed(&rt, &rows)
 }
 
 #[test]
@@ -100,5 +100,31 @@ fn a_refusal_of_a_value_shows_its_fault() -> Result<(), AllocError> {
             "InvalidLiteralKind",
         ),
         ];
-    are_shown(&rt, rt.alloc(), &rows)
+    are_shown(&rt, &rows)
+}
+
+#[test]
+fn a_refusal_of_a_value_says_what_is_wrong() -> Result<(), AllocError> {
+    let rt = HostRuntime;
+    let rows = [
+        (
+            ConversionErrorKind::FailedToUnescape(EscapeError::LoneSlash),
+            "cannot unescape the literal",
+        ),
+        (
+            ConversionErrorKind::InvalidLiteralKind,
+            "the literal is of another kind or has a suffix",
+        ),
+        ];
+    are_displayed(&rt, &rows)
+}
+
+#[test]
+fn an_error_of_a_content_says_what_is_wrong() -> Result<(), AllocError> {
+    let rt = HostRuntime;
+    let rows = [
+        (EscapeError::LoneSlash, "nothing follows the backslash"),
+        (EscapeError::NulInCStr, "a zero in a C string"),
+    ];
+    are_displayed(&rt, &rows)
 }

@@ -1,6 +1,6 @@
 // Made from crates/token_tests/src/shown_parts.rt by rust/erase: change that file, not this one.
 
-use crate::shim::prelude::{HostRuntime, String, format};
+use crate::shim::prelude::{HostRuntime, format};
 
 // What the parts of tokens show of themselves, and tokens without a span.
 use crate::token_tests::checks::{are_shown, check_same, read, shows};
@@ -8,7 +8,7 @@ use proved::pm_span::parts::span_of;
 use proved::pm_span::{LineColumn, SourceMap, Span};
 use proved::pm_token::parts::punct;
 use proved::pm_token::{Delimiter, Ident, Literal, ParseError, Spacing};
-use crate::shim::alloc::{AllocError, Global};
+use crate::shim::alloc::AllocError;
 use crate::shim::process::Abort;
 use crate::shim::test::Fail;
 
@@ -21,37 +21,35 @@ fn a_delimiter_shows_its_name() -> Result<(), AllocError> {
         (Delimiter::Bracket, "Bracket"),
         (Delimiter::None, "None"),
     ];
-    are_shown(&rt, rt.alloc(), &rows)
+    are_shown(&rt, &rows)
 }
 
 #[test]
 fn a_spacing_shows_its_name() -> Result<(), AllocError> {
     let rt = HostRuntime;
     let rows = [(Spacing::Alone, "Alone"), (Spacing::Joint, "Joint")];
-    are_shown(&rt, rt.alloc(), &rows)
+    are_shown(&rt, &rows)
 }
 
 /// Asserts what the raw identifier of the name shows of itself.
 fn raw_shows(
     rt: &impl Abort,
-    alloc: Global,
     name: &str,
     span: Span,
     want: &str,
 ) -> Result<(), Fail> {
-    let ident = Ident::new_raw(alloc, name, span)?;
-    shows(rt, alloc, &ident, want)?;
+    let ident = Ident::new_raw(name, span)?;
+    shows(rt, &ident, want)?;
     Ok(())
 }
 
 #[test]
 fn a_raw_identifier_shows_its_front() -> Result<(), Fail> {
     let rt = HostRuntime;
-    let alloc = rt.alloc();
     let nowhere = Span::call_site();
-    raw_shows(&rt, alloc, "ab", nowhere, "Ident { sym: r#ab }")?;
+    raw_shows(&rt, "ab", nowhere, "Ident { sym: r#ab }")?;
     let want = "Ident { sym: r#fn, span: bytes(34..38) }";
-    raw_shows(&rt, alloc, "fn", span_of(34, 38), want)
+    raw_shows(&rt, "fn", span_of(34, 38), want)
 }
 
 #[test]
@@ -72,52 +70,46 @@ fn a_mark_without_a_place_shows_no_span() -> Result<(), AllocError> {
             "Punct { char: '+', spacing: Alone, span: bytes(0..1) }",
         ),
     ];
-    are_shown(&rt, rt.alloc(), &rows)
+    are_shown(&rt, &rows)
 }
 
 /// Asserts what the literal shows of itself, if it was made.
 fn made_shows(
     rt: &impl Abort,
-    alloc: Global,
     made: Result<Literal, AllocError>,
     want: &str,
 ) -> Result<(), AllocError> {
     let literal = made?;
-    shows(rt, alloc, &literal, want)
+    shows(rt, &literal, want)
 }
 
 /// Asserts what the literal of the text shows of itself.
-fn read_shows(rt: &impl Abort, alloc: Global, text: &str, want: &str) -> Result<(), ParseError> {
-    let literal = read(alloc, text)?;
-    shows(rt, alloc, &literal, want)?;
+fn read_shows(rt: &impl Abort, text: &str, want: &str) -> Result<(), ParseError> {
+    let literal = read(text)?;
+    shows(rt, &literal, want)?;
     Ok(())
 }
 
 #[test]
 fn a_literal_shows_its_text_as_it_is_written() -> Result<(), Fail> {
     let rt = HostRuntime;
-    let alloc = rt.alloc();
     made_shows(
         &rt,
-        alloc,
-        Literal::string(alloc, "a\n"),
+        Literal::string("a\n"),
         "Literal { lit: \"a\\n\" }",
     )?;
     made_shows(
         &rt,
-        alloc,
-        Literal::i8_suffixed(alloc, -1),
+        Literal::i8_suffixed(-1),
         "Literal { lit: -1i8 }",
     )?;
     read_shows(
         &rt,
-        alloc,
         "b'x'",
         "Literal { lit: b'x', span: bytes(1..5) }",
     )?;
     read_shows(
         &rt,
-        alloc,
         "-1u12",
         "Literal { lit: -1u12, span: bytes(1..6) }",
     )?;
@@ -128,16 +120,16 @@ fn a_literal_shows_its_text_as_it_is_written() -> Result<(), Fail> {
 fn a_place_shows_its_line_and_column() -> Result<(), AllocError> {
     let rt = HostRuntime;
     let value = LineColumn { line: 3, column: 0 };
-    shows(&rt, rt.alloc(), &value, "LineColumn { line: 3, column: 0 }")
+    shows(&rt, &value, "LineColumn { line: 3, column: 0 }")
 }
 
 /// What a map of these texts, with the limit 100, shows of itself.
-fn map_shown(alloc: Global, texts: &[&str]) -> Result<String, AllocError> {
-    let mut map = SourceMap::with_limit(alloc, 100);
+fn map_shown(texts: &[&str]) -> Result<String, AllocError> {
+    let mut map = SourceMap::with_limit(100);
     for text in texts {
         let _ = Literal::from_str(text, &mut map);
     }
-    format!(in alloc; "{map:?}")
+    format!("{map:?}")
 }
 
 /// Asserts that the text has each of these parts.
@@ -150,8 +142,7 @@ fn has_parts(rt: &impl Abort, text: &str, parts: &[&str]) {
 #[test]
 fn a_map_shows_its_texts_and_its_limit() -> Result<(), AllocError> {
     let rt = HostRuntime;
-    let alloc = rt.alloc();
-    let shown = map_shown(alloc, &["1", "\"a\n\"", "x y"])?;
+    let shown = map_shown(&["1", "\"a\n\"", "x y"])?;
     let parts = [
         "SourceMap {",
         "\"1\"",
@@ -160,7 +151,7 @@ fn a_map_shows_its_texts_and_its_limit() -> Result<(), AllocError> {
         "limit: 100",
     ];
     has_parts(&rt, shown.as_str(), &parts);
-    let again = map_shown(alloc, &["1", "\"a\n\"", "x y"])?;
+    let again = map_shown(&["1", "\"a\n\"", "x y"])?;
     check_same(&rt, "the same texts", &again.as_str(), &shown.as_str());
     Ok(())
 }

@@ -62,7 +62,7 @@ fn an_error_shows_its_name() -> Result<(), AllocError> {
             "MultipleSkippedLinesWarning",
         ),
     ];
-    are_shown(&rt, rt.alloc(), &rows)
+    are_shown(&rt, &rows)
 }
 
 #[test]
@@ -78,7 +78,7 @@ fn a_kind_of_literal_shows_its_name() -> Result<(), AllocError> {
         (Mode::CStr, "CStr"),
         (Mode::RawCStr, "RawCStr"),
     ];
-    are_shown(&rt, rt.alloc(), &rows)
+    are_shown(&rt, &rows)
 }
 
 #[test]
@@ -89,12 +89,12 @@ fn a_unit_shows_its_type_and_value() -> Result<(), AllocError> {
         (NonZeroChar::new('\''), "Some(NonZeroChar('\\''))"),
         (NonZeroChar::new('\0'), "None"),
     ];
-    are_shown(&rt, rt.alloc(), &characters)?;
+    are_shown(&rt, &characters)?;
     let bytes = [
         (NonZeroU8::new(5), "Some(NonZeroU8(5))"),
         (NonZeroU8::new(0), "None"),
     ];
-    are_shown(&rt, rt.alloc(), &bytes)?;
+    are_shown(&rt, &bytes)?;
     let units = [
         (MixedUnit::try_from('a'), "Ok(Char(NonZeroChar('a')))"),
         (
@@ -114,5 +114,5 @@ fn a_unit_shows_its_type_and_value() -> Result<(), AllocError> {
         (MixedUnit::try_from(0x80), "Ok(HighByte(NonZeroU8(128)))"),
         (MixedUnit::try_from(0), "Err(NulInCStr)"),
     ];
-    are_shown(&rt, rt.alloc(), &units)
+    are_shown(&rt, &units)
 }

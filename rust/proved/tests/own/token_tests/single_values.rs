@@ -4,15 +4,14 @@ use crate::shim::prelude::HostRuntime;
 
 use crate::token_tests::checks::{check_same, read};
 use proved::pm_token::{ConversionErrorKind, ParseError};
-use crate::shim::alloc::Global;
 use crate::shim::process::Abort;
 use crate::shim::test::Fail;
 
 type Value<T> = Result<T, ConversionErrorKind>;
 
 /// The value as a character and as a byte of the literal of the text.
-fn single_values(alloc: Global, text: &str) -> Result<(Value<char>, Value<u8>), ParseError> {
-    let literal = read(alloc, text)?;
+fn single_values(text: &str) -> Result<(Value<char>, Value<u8>), ParseError> {
+    let literal = read(text)?;
     Ok((literal.char_value(), literal.byte_value()))
 }
 
@@ -28,11 +27,10 @@ fn wanted<T>(value: Option<T>) -> Value<T> {
 /// to be of another kind.
 fn single_values_are(
     rt: &impl Abort,
-    alloc: Global,
     rows: &[(&str, Option<char>, Option<u8>)],
 ) -> Result<(), Fail> {
     for &(text, character, byte) in rows {
-        let values = single_values(alloc, text)?;
+        let values = single_values(text)?;
         check_same(rt, text, &values, &(wanted(character), wanted(byte)));
     }
     Ok(())
@@ -51,7 +49,7 @@ fn a_character_has_the_character_between_its_quotes() -> Result<(), Fail> {
         ("'\\x7F'", Some('\u{7F}'), None),
         ("'\\u{10_FFFF}'", Some('\u{10FFFF}'), None),
     ];
-    single_values_are(&rt, rt.alloc(), rows)
+    single_values_are(&rt, rows)
 }
 
 #[test]
@@ -63,7 +61,7 @@ fn a_byte_has_the_byte_between_its_quotes() -> Result<(), Fail> {
         ("b'\\''", None, Some(b'\'')),
         ("b'\\0'", None, Some(0)),
     ];
-    single_values_are(&rt, rt.alloc(), rows)
+    single_values_are(&rt, rows)
 }
 
 #[test]
@@ -77,5 +75,5 @@ fn other_literals_are_of_another_kind() -> Result<(), Fail> {
         ("1", None, None),
         ("-1", None, None),
     ];
-    single_values_are(&rt, rt.alloc(), rows)
+    single_values_are(&rt, rows)
 }

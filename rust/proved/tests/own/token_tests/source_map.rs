@@ -5,7 +5,7 @@ use crate::shim::prelude::HostRuntime;
 use crate::token_tests::checks::{check_same, shows};
 use proved::pm_span::parts::{add_file, fits, span_of};
 use proved::pm_span::{LineColumn, SourceMap, Span};
-use crate::shim::alloc::{AllocError, Global};
+use crate::shim::alloc::AllocError;
 use crate::shim::process::Abort;
 use crate::shim::test::Fail;
 
@@ -29,11 +29,10 @@ fn is_added(rt: &impl Abort, map: &mut SourceMap, text: &str, lo: u32) -> Result
 /// Asserts where an empty text begins that is added after `abcd`, under the limit.
 fn second_is(
     rt: &impl Abort,
-    alloc: Global,
     limit: u32,
     second: Option<u32>,
 ) -> Result<(), AllocError> {
-    let mut map = SourceMap::with_limit(alloc, limit);
+    let mut map = SourceMap::with_limit(limit);
     is_added(rt, &mut map, "abcd", 1)?;
     let added = (limit, add(&mut map, "")?);
     check_same(rt, "limit and start", &added, &(limit, second));
@@ -70,7 +69,7 @@ fn are_held(rt: &impl Abort, map: &SourceMap, rows: &[(u32, u32, bool)]) {
 fn a_file_fits_up_to_the_limit() -> Result<(), Fail> {
     let rt = HostRuntime;
     for (limit, second) in [(5, None), (6, Some(6))] {
-        second_is(&rt, rt.alloc(), limit, second)?;
+        second_is(&rt, limit, second)?;
     }
     Ok(())
 }
@@ -78,7 +77,7 @@ fn a_file_fits_up_to_the_limit() -> Result<(), Fail> {
 #[test]
 fn a_span_starts_at_a_line_and_a_column() -> Result<(), Fail> {
     let rt = HostRuntime;
-    let mut map = SourceMap::new(rt.alloc());
+    let mut map = SourceMap::new();
     is_added(&rt, &mut map, "aaa\nbbb", 1)?;
     is_added(&rt, &mut map, "é\r𓀕\nz\n", 9)?;
     let rows = &[
@@ -101,7 +100,7 @@ fn a_span_starts_at_a_line_and_a_column() -> Result<(), Fail> {
 #[test]
 fn a_held_span_lies_in_one_file() -> Result<(), Fail> {
     let rt = HostRuntime;
-    let mut map = SourceMap::new(rt.alloc());
+    let mut map = SourceMap::new();
     is_added(&rt, &mut map, "aaa\nbbb", 1)?;
     is_added(&rt, &mut map, "ccc\nddd", 9)?;
     let rows = &[
@@ -122,7 +121,7 @@ fn a_held_span_lies_in_one_file() -> Result<(), Fail> {
 #[test]
 fn a_call_site_starts_at_the_first_line() {
     let rt = HostRuntime;
-    let map = SourceMap::new(rt.alloc());
+    let map = SourceMap::new();
     let want = LineColumn { line: 1, column: 0 };
     check_same(
         &rt,
@@ -135,6 +134,6 @@ fn a_call_site_starts_at_the_first_line() {
 #[test]
 fn a_span_shows_its_positions() -> Result<(), Fail> {
     let rt = HostRuntime;
-    shows(&rt, rt.alloc(), &span_of(1, 2), "bytes(1..2)")?;
+    shows(&rt, &span_of(1, 2), "bytes(1..2)")?;
     Ok(())
 }

@@ -38,7 +38,7 @@ fn a_part_lies_between_two_counts_of_characters() -> Result<(), ParseError> {
         (Included(2), Excluded(1), None),
         (Included(2), Included(1), Some((3, 3))),
     ];
-    parts_are(&rt, &read(rt.alloc(), "0.1")?, rows);
+    parts_are(&rt, &read("0.1")?, rows);
     Ok(())
 }
 
@@ -46,7 +46,7 @@ fn a_part_lies_between_two_counts_of_characters() -> Result<(), ParseError> {
 fn a_part_counts_characters_and_not_bytes() -> Result<(), ParseError> {
     let rt = HostRuntime;
     let rows = &[(Included(2), Included(2), Some((3, 4)))];
-    parts_are(&rt, &read(rt.alloc(), "\"é.\"")?, rows);
+    parts_are(&rt, &read("\"é.\"")?, rows);
     Ok(())
 }
 
@@ -63,14 +63,14 @@ fn no_part_begins_or_ends_at_a_huge_count() -> Result<(), ParseError> {
         (Unbounded, Included(4294967295), None),
         (Unbounded, Excluded(4294967297), None),
     ];
-    parts_are(&rt, &read(rt.alloc(), "0.1")?, rows);
+    parts_are(&rt, &read("0.1")?, rows);
     Ok(())
 }
 
 #[test]
 fn a_part_lies_in_the_span_that_was_set() -> Result<(), ParseError> {
     let rt = HostRuntime;
-    let mut literal = read(rt.alloc(), "0.1")?;
+    let mut literal = read("0.1")?;
     literal.set_span(span_of(4294967294, 4294967295));
     let rows = &[
         (Included(1), Unbounded, Some((4294967295, 4294967295))),
@@ -95,12 +95,11 @@ fn a_span_that_is_set_is_all_that_changes() -> Result<(), ParseError> {
     let mut mark = punct('+', Spacing::Joint, span_of(3, 4));
     mark.set_span(span_of(7, 8));
     let want = "Punct { char: '+', spacing: Joint, span: bytes(7..8) }";
-    shows(&rt, rt.alloc(), &mark, want)?;
-    let mut literal = read(rt.alloc(), "0.1")?;
+    shows(&rt, &mark, want)?;
+    let mut literal = read("0.1")?;
     literal.set_span(span_of(7, 9));
     shows(
         &rt,
-        rt.alloc(),
         &literal,
         "Literal { lit: 0.1, span: bytes(7..9) }",
     )?;

@@ -6,12 +6,12 @@ use crate::token_tests::checks::check_same;
 use proved::pm_span::SourceMap;
 use proved::pm_span::parts::{bounds, span_of};
 use proved::pm_token::{Literal, ParseError};
-use crate::shim::alloc::{AllocError, Global};
+use crate::shim::alloc::AllocError;
 use crate::shim::process::Abort;
 
 // Where the literal of the text stands in a new map, if it is one with this text.
-fn literal_bounds(alloc: Global, text: &str) -> Option<(u32, u32)> {
-    let mut map = SourceMap::new(alloc);
+fn literal_bounds(text: &str) -> Option<(u32, u32)> {
+    let mut map = SourceMap::new();
     let parsed = Literal::from_str(text, &mut map);
     match &parsed {
         Ok(literal) if literal.text() == text => Some(bounds(literal.span())),
@@ -20,8 +20,8 @@ fn literal_bounds(alloc: Global, text: &str) -> Option<(u32, u32)> {
 }
 
 // Where the fault of the text stands.
-fn fault_bounds(alloc: Global, text: &str) -> Option<(u32, u32)> {
-    let mut map = SourceMap::new(alloc);
+fn fault_bounds(text: &str) -> Option<(u32, u32)> {
+    let mut map = SourceMap::new();
     let parsed = Literal::from_str(text, &mut map);
     match &parsed {
         Err(ParseError::Lex(fault)) => Some(bounds(fault.span())),
@@ -30,25 +30,25 @@ fn fault_bounds(alloc: Global, text: &str) -> Option<(u32, u32)> {
 }
 
 /// Asserts that each text is a whole literal, which stands in a new map from 1 up to `end`.
-fn are_whole(rt: &impl Abort, alloc: Global, rows: &[(&str, u32)]) {
+fn are_whole(rt: &impl Abort, rows: &[(&str, u32)]) {
     for &(text, end) in rows {
-        let answers = (literal_bounds(alloc, text), Literal::is_whole(text));
+        let answers = (literal_bounds(text), Literal::is_whole(text));
         check_same(rt, text, &answers, &(Some((1, end)), true));
     }
 }
 
 /// Asserts that no text is a whole literal, and that the fault of each stands nowhere.
-fn are_refused(rt: &impl Abort, alloc: Global, texts: &[&str]) {
+fn are_refused(rt: &impl Abort, texts: &[&str]) {
     for text in texts {
-        let answers = (fault_bounds(alloc, text), Literal::is_whole(text));
+        let answers = (fault_bounds(text), Literal::is_whole(text));
         check_same(rt, text, &answers, &(Some((0, 0)), false));
     }
 }
 
 /// Asserts that a literal that is made of the text, which has to be one, has it and stands nowhere.
-fn is_made(rt: &impl Abort, alloc: Global, text: &str) -> Result<(), AllocError> {
+fn is_made(rt: &impl Abort, text: &str) -> Result<(), AllocError> {
     assert!(Literal::is_whole(text), "of {text:?}");
-    let literal = Literal::from_str_unchecked(alloc, text)?;
+    let literal = Literal::from_str_unchecked(text)?;
     let answers = (literal.text(), bounds(literal.span()));
     check_same(rt, text, &answers, &(text, (0, 0)));
     Ok(())
@@ -56,17 +56,17 @@ fn is_made(rt: &impl Abort, alloc: Global, text: &str) -> Result<(), AllocError>
 
 // Whether a map with this limit was full for the text, and whether it then holds the first three
 // characters.
-fn outcome(alloc: Global, text: &str, limit: u32) -> (bool, bool) {
-    let mut map = SourceMap::with_limit(alloc, limit);
+fn outcome(text: &str, limit: u32) -> (bool, bool) {
+    let mut map = SourceMap::with_limit(limit);
     let parsed = Literal::from_str(text, &mut map);
     let full = matches!(parsed, Err(ParseError::MapFull));
     (full, map.holds(span_of(1, 4)))
 }
 
 /// Asserts that a map with this limit is full for the text, or that the text's file is added.
-fn are_full(rt: &impl Abort, alloc: Global, rows: &[(&str, u32, bool)]) {
+fn are_full(rt: &impl Abort, rows: &[(&str, u32, bool)]) {
     for &(text, limit, full) in rows {
-        let answers = (limit, outcome(alloc, text, limit));
+        let answers = (limit, outcome(text, limit));
         check_same(rt, text, &answers, &(limit, (full, !full)));
     }
 }
@@ -87,14 +87,14 @@ fn a_whole_literal_is_accepted() {
         ("cr##\"Hello \"world\"!\"##", 23),
         ("'a'u8", 6),
     ];
-    are_whole(&rt, rt.alloc(), rows);
+    are_whole(&rt, rows);
 }
 
 #[test]
 fn a_literal_is_made_of_a_text_that_is_known_to_be_one() -> Result<(), AllocError> {
     let rt = HostRuntime;
     for text in ["1.5", "-3i32", "\"a\""] {
-        is_made(&rt, rt.alloc(), text)?;
+        is_made(&rt, text)?;
     }
     Ok(())
 }
@@ -125,7 +125,7 @@ fn any_other_text_is_refused_nowhere() {
         "(/*ERROR*/)",
         "'a",
     ];
-    are_refused(&rt, rt.alloc(), texts);
+    are_refused(&rt, texts);
 }
 
 #[test]
@@ -137,5 +137,5 @@ fn a_file_is_added_where_the_text_was_read() {
         ("123", 3, true),
         ("123", 4, false),
     ];
-    are_full(&rt, rt.alloc(), rows);
+    are_full(&rt, rows);
 }

@@ -1,13 +1,13 @@
 // Made from crates/pretty_tests/src/rows.rt by rust/erase: change that file, not this one.
 //! Rows of streams, and what is written of each.
 
-use proved::shim::prelude::{Clone, String, Vec};
+use proved::shim::prelude::{Grow, GrowText, TryClone};
 
 use proved::literal_escaper::unescape_str;
 use proved::pretty_printer::to_pretty_string;
 use proved::proc_macro2::{ParseError, Punct, Spacing, TokenStream, TokenTree};
 use proved::quoting::QuoteError;
-use proved::shim::alloc::{AllocError, Global};
+use proved::shim::alloc::AllocError;
 use proved::shim::io;
 use proved::shim::io::Write;
 
@@ -23,7 +23,6 @@ bench/pretty_record/remake.py makes it anew, tells how many streams moved, and s
 /// the stream that the text is, `joint` that of the stream whose outermost marks are all Joint, and `digest` a digest
 /// of the pretty text, but where `whole` wants all as they are.
 pub fn write_rows<W: Write>(
-    alloc: Global,
     lines: &str,
     whole: bool,
     writer: &mut W,
@@ -34,10 +33,10 @@ pub fn write_rows<W: Write>(
     for line in lines.lines() {
         number = number.saturating_add(1);
         let (word, content) = line.split_once(' ').unwrap_or((line, ""));
-        match stream_of(alloc, word, content)? {
+        match stream_of(word, content)? {
             Some(stream) => {
                 let digest = word == "digest" && !whole;
-                write_row(alloc, number, &stream, digest, writer)?;
+                write_row(number, &stream, digest, writer)?;
             }
             None => {
                 wrong = wrong.saturating_add(1);
@@ -49,50 +48,49 @@ pub fn write_rows<W: Write>(
 }
 
 // The stream of a row.
-fn stream_of(alloc: Global, word: &str, content: &str) -> Result<Option<TokenStream>, AllocError> {
-    let mut text = String::new(alloc);
+fn stream_of(word: &str, content: &str) -> Result<Option<TokenStream>, AllocError> {
+    let mut text = String::new();
     for (_, unit) in unescape_str(content) {
         match unit {
-            Ok(character) => text.push(character)?,
+            Ok(character) => text.push_fallibly(character)?,
             Err(_) => return Ok(None),
         }
     }
-    let stream = match TokenStream::parse_unmapped(alloc, text.as_str()) {
+    let stream = match TokenStream::parse_unmapped(text.as_str()) {
         Ok(stream) => stream,
         Err(ParseError::Memory(error)) => return Err(error),
         Err(_) => return Ok(None),
     };
     match word {
         "text" | "digest" => Ok(Some(stream)),
-        "joint" => Ok(Some(joint(alloc, &stream)?)),
+        "joint" => Ok(Some(joint(&stream)?)),
         _ => Ok(None),
     }
 }
 
 // The stream whose outermost marks are all Joint.
-fn joint(alloc: Global, stream: &TokenStream) -> Result<TokenStream, AllocError> {
-    let mut trees = Vec::new(alloc);
+fn joint(stream: &TokenStream) -> Result<TokenStream, AllocError> {
+    let mut trees = Vec::new();
     for tree in stream.trees() {
         let tree = match tree {
             TokenTree::Punct(punct) if Punct::is_punct_char(punct.as_char()) => {
                 TokenTree::Punct(Punct::new(punct.as_char(), Spacing::Joint))
             }
-            _ => tree.clone()?,
+            _ => tree.try_clone()?,
         };
-        trees.push(tree)?;
+        trees.push_fallibly(tree)?;
     }
-    TokenStream::from_trees(alloc, trees)
+    TokenStream::from_trees(trees)
 }
 
 // Writes the number of a row, and what is answered of its stream.
 fn write_row<W: Write>(
-    alloc: Global,
     number: usize,
     stream: &TokenStream,
     digest: bool,
     writer: &mut W,
 ) -> io::Result<()> {
-    match to_pretty_string(alloc, stream) {
+    match to_pretty_string(stream) {
         Ok(text) if digest => writeln!(writer, "== {number} {}", digest_of(text.as_bytes())),
         Ok(text) => write!(writer, "== {number}\n{text}"),
         Err(QuoteError::Memory(error)) => Err(io::Error::from(error)),
@@ -101,7 +99,8 @@ fn write_row<W: Write>(
             "== {number} has a group with no delimiters"
         ),
         Err(QuoteError::LoneQuote) => writeln!(writer, "== {number} has a lone quote"),
-    }
+    _ => unreachable!("each case is above"),
+}
 }
 
 // FNV-1a of 64 bits.

@@ -1,11 +1,11 @@
 // Made from crates/pm_token/src/literals/values/unescaped.rt by rust/erase: change that file, not this one.
 //! The values of contents with escapes.
 
-use crate::shim::prelude::{String, Vec};
+use crate::shim::prelude::{Grow, GrowList};
 
 use crate::pm_token::literals::conversion::ConversionErrorKind;
 use crate::literal_escaper::{EscapeError, MixedUnit, unescape_byte_str, unescape_c_str, unescape_str};
-use crate::shim::alloc::{AllocError, Global};
+use crate::shim::alloc::AllocError;
 
 /// The fault, if it is one and no warning, or else the one before.
 fn last_fault(before: Option<EscapeError>, fault: EscapeError) -> Option<EscapeError>
@@ -20,13 +20,13 @@ fn last_fault(before: Option<EscapeError>, fault: EscapeError) -> Option<EscapeE
 /// Puts a character at the end of the text.
 fn push_char(text: &mut String, c: char) -> Result<(), AllocError>
 {
-    text.push(c)
+    text.push_fallibly(c)
 }
 
 /// The characters of a string's content, joined.
-pub fn unescaped_string(alloc: Global, content: &str) -> Result<String, ConversionErrorKind>
+pub fn unescaped_string(content: &str) -> Result<String, ConversionErrorKind>
 {
-    let mut value = String::new(alloc);
+    let mut value = String::new();
     let mut fault = None;
     for (_, unit) in unescape_str(content) {
         match unit {
@@ -41,13 +41,13 @@ pub fn unescaped_string(alloc: Global, content: &str) -> Result<String, Conversi
 }
 
 /// The bytes of a byte string's content, joined.
-pub fn unescaped_bytes(alloc: Global, content: &str) -> Result<Vec<u8>, ConversionErrorKind>
+pub fn unescaped_bytes(content: &str) -> Result<Vec<u8>, ConversionErrorKind>
 {
-    let mut value = Vec::new(alloc);
+    let mut value = Vec::new();
     let mut fault = None;
     for (_, unit) in unescape_byte_str(content) {
         match unit {
-            Ok(byte) => value.push(byte)?,
+            Ok(byte) => value.push_fallibly(byte)?,
             Err(e) => fault = last_fault(fault, e),
         }
     }
@@ -63,16 +63,16 @@ fn push_unit(bytes: &mut Vec<u8>, unit: MixedUnit) -> Result<(), AllocError>
     match unit {
         MixedUnit::Char(c) => {
             let mut encoded = [0; 4];
-            bytes.extend_from_slice(c.get().encode_utf8(&mut encoded).as_bytes())
+            bytes.extend_from_slice_fallibly(c.get().encode_utf8(&mut encoded).as_bytes())
         }
-        MixedUnit::HighByte(byte) => Ok(bytes.push(byte.get())?),
+        MixedUnit::HighByte(byte) => Ok(bytes.push_fallibly(byte.get())?),
     }
 }
 
 /// The bytes of a C string's content, joined, and a zero byte.
-pub fn unescaped_c_string(alloc: Global, content: &str) -> Result<Vec<u8>, ConversionErrorKind>
+pub fn unescaped_c_string(content: &str) -> Result<Vec<u8>, ConversionErrorKind>
 {
-    let mut value = Vec::with_capacity(alloc, content.len().saturating_add(1))?;
+    let mut value = Vec::with_capacity_fallibly(content.len().saturating_add(1))?;
     let mut fault = None;
     for (_, unit) in unescape_c_str(content) {
         match unit {
@@ -83,6 +83,6 @@ pub fn unescaped_c_string(alloc: Global, content: &str) -> Result<Vec<u8>, Conve
     if let Some(fault) = fault {
         return Err(ConversionErrorKind::from(fault));
     }
-    value.push(0)?;
+    value.push_fallibly(0)?;
     Ok(value)
 }
