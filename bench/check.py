@@ -1,10 +1,11 @@
 #!/usr/bin/env python3
-"""Measures rust_check against `tokens print` over the Rust files of a folder.
+"""Measures `tokens check` against `tokens print` over the Rust files of a folder.
 
-Usage: bench/check.py TOKENS RUST_CHECK FOLDER
+Usage: bench/check.py TOKENS FOLDER
 
-Each program is run once for each file, in turn with the other, five times over. What is printed is the processor time
-of each over all files, the least of five, and the ratio.
+TOKENS is the program that `cargo build --release` in rust/tools makes. Each command is run once for each file, in turn
+with the others, five times over. What is printed is the processor time of each over all files, the least of five, and
+the ratio.
 """
 import os
 import pathlib
@@ -23,11 +24,11 @@ def spent(words, file):
 
 
 def main(words):
-    if len(words) != 3:
+    if len(words) != 2:
         sys.exit(__doc__)
-    tokens, check, folder = words
+    tokens, folder = words
     files = sorted(pathlib.Path(folder).rglob("*.rs"))
-    runs = {"tokens print": [tokens, "print"], "rust_check": [check], "rust_check --hidden": [check, "--hidden"]}
+    runs = {f"tokens {words}": [tokens, *words.split()] for words in ("print", "check", "check --hidden")}
     least = dict.fromkeys(runs, float("inf"))
     for _ in range(5):
         total = dict.fromkeys(runs, 0.0)

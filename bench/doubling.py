@@ -1,12 +1,13 @@
 #!/usr/bin/env python3
-"""Counts how many instructions each program and each call takes on texts of each shape, and on texts twice as long.
+"""Counts the instructions of each command of `tokens` and of each call on texts of each shape, and on texts twice as
+long.
 
 Usage: bench/doubling.py [--named] [--jobs N] [--size BYTES] [--only NAME..]
 
-The programs are those of rust/tools, the calls those of the program in bench/doubling, over rust/proved: both as Cargo
-builds them, into CARGO_TARGET_DIR where that is set. bench/doubling/shapes.py has the shapes. `--named` takes the named
-shapes alone, on `pretty` and twelve calls; `--only` takes the programs and calls of these names. BYTES is 50,000 if
-left out. All take about two hours of one processor, the named shapes a minute.
+The programs are the commands of `tokens`, of rust/tools, the calls those of the program in bench/doubling, over
+rust/proved: both as Cargo builds them, into CARGO_TARGET_DIR where that is set. bench/doubling/shapes.py has the
+shapes. `--named` takes the named shapes alone, on `pretty`, `outline` and eleven calls; `--only` takes the commands and
+calls of these names. BYTES is 50,000 if left out. All take about two hours of one processor, the named shapes a minute.
 
 valgrind counts: of a program, by cachegrind with no caches, all that it runs less what it runs on an empty text; of a
 call, by callgrind, what is within it, on a heap on which no count depends on what was freed before. A row is over the
@@ -29,19 +30,14 @@ sys.path.insert(0, str(HERE / "doubling"))
 from shapes import shapes, text_of  # noqa: E402
 
 LIMIT = 2.1
-# The words of each program; `-` is the text's path, and with none the text is standard input.
+# The words after `tokens`; `-` is the text's path, and with none the text is standard input.
 PROGRAMS = {
-    "tokens print": ["tokens", "print"], "tokens spans": ["tokens", "spans"], "pretty": ["pretty", "-"],
-    "indent": ["indent", "-"], "rust_check": ["rust_check", "-"], "same": ["same", "-", "-"],
-    "highlight html": ["highlight", "html", "-"], "highlight term": ["highlight", "term", "-"],
-    "outline": ["outline", "-"], "outline --json": ["outline", "--json", "-"],
-    "outline --ctags": ["outline", "--ctags", "-"], "find_calls": ["find_calls", "a", "-"],
+    "print": ["print"], "spans": ["spans"], "pretty": ["pretty", "-"], "indent": ["indent", "-"],
+    "check": ["check", "-"], "same": ["same", "-", "-"], "highlight html": ["highlight", "html", "-"],
+    "highlight term": ["highlight", "term", "-"], "outline": ["outline", "-"],
+    "outline --json": ["outline", "--json", "-"], "outline --ctags": ["outline", "--ctags", "-"],
+    "find": ["find", "a", "-"],
 }
-# Rows that are over the limit for a cause not found yet, and the limit that they keep. They count as neither passed nor
-# failed, and are printed each time.
-KNOWN_LIMIT = 2.2
-KNOWN = {("outline", "if in a value"), ("outline", "macro arms with if"), ("outline", "await and index"),
-         ("outline", "wide roots of chains")}
 # What `--named` takes.
 QUICK = ["pretty", "to_pretty_string", "text_with", "from_str", "reprint", "place_trees", "token_buffer", "explain",
          "relayout", "with_doc_comments", "quote_parse", "quote_finish", "outline"]
@@ -91,7 +87,7 @@ class Table:
             output = f"{self.room}/{name.replace(' ', '_')}.{at}"
             words = [path if word == "-" else word for word in PROGRAMS[name]]
             run(["--tool=cachegrind", "--cache-sim=no", f"--cachegrind-out-file={output}",
-                 f"{self.built}/{words[0]}", *words[1:]], path, output)
+                 f"{self.built}/tokens", *words], path, output)
             counts.append(total(output))
             os.unlink(output)
         return self.rows(name, [count - counts[0] for count in counts[1:]])
@@ -135,10 +131,7 @@ def main() -> None:
             over = [row for row in rows if table.is_over(*row[2:])]
             for name, shape, once, twice in over:
                 print(f"{name}, {shape}: {once} and {twice} instructions, {twice / max(1, once):.2f} times")
-            known = [row for row in over if row[:2] in KNOWN and row[3] <= KNOWN_LIMIT * row[2]]
-            for name, shape, _, _ in known:
-                print(f"known to be over the limit, not passed: {name}, {shape}")
-            passed, failed = passed + len(rows) - len(over), failed + len(over) - len(known)
+            passed, failed = passed + len(rows) - len(over), failed + len(over)
             print(f"{rows[0][0] if rows else 'a call'}: {len(rows)} rows, {len(over)} over {LIMIT}", flush=True)
     print(f"{passed} passed, {failed} failed")
     sys.exit(1 if failed else 0)

@@ -8,7 +8,8 @@
 Takes files of Rust below FOLDER at random. Of each, rustfmt formats the text without its plain comments; `pretty`
 reads that and prints its tokens. Printed are the share of rustfmt's lines that stand in that order in the program's
 text, and the files with the most lines that don't. Blank lines and those of doc comments don't count. All files go
-through one run of the program, with a statement between two.
+through one run of the program, with a statement between two. PROGRAM is that of crates/pretty where it isn't given, or
+`'FOLDER/tokens pretty'`, with the program of rust/tools.
 """
 import argparse
 import difflib
@@ -122,7 +123,7 @@ def main():
     elif asked.compare:
         compare(found, asked.compare.read_text())
     else:
-        run = subprocess.run([asked.program], input=source.encode(), capture_output=True, check=True)
+        run = subprocess.run(asked.program.split(), input=source.encode(), capture_output=True, check=True)
         compare(found, run.stdout.decode())
 
 

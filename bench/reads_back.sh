@@ -1,14 +1,14 @@
 #!/usr/bin/env bash
-# Checks that pretty texts read back: that the program `same` finds the tokens of a Rust file in what `pretty` writes
+# Checks that pretty texts read back: that `tokens same` finds the tokens of a Rust file in what `tokens pretty` writes
 # for it.
 #
-#   bench/reads_back.sh PROGRAMS FOLDER
+#   bench/reads_back.sh TOKENS FOLDER
 #
-# PROGRAMS is a folder of the two programs, as `cargo build --release` in rust/tools makes it. Every file below FOLDER
-# is read whose name ends with `.rs`. The last line is `N read back, M don't, K don't parse`, and the status is 0 only
-# if all files read back, and there are some.
+# TOKENS is the program that `cargo build --release` in rust/tools makes. Every file below FOLDER is read whose name
+# ends with `.rs`. The last line is `N read back, M don't, K don't parse`, and the status is 0 only if all files read
+# back, and there are some.
 set -u
-programs=$(cd "$1" && pwd) || exit 1
+tokens=$(realpath "$1") || exit 1
 text=$(mktemp)
 trap 'rm -f "$text"' EXIT
 same=0
@@ -17,11 +17,11 @@ faulty=0
 
 while IFS= read -r -d '' file; do
     status=0
-    "$programs/pretty" "$file" > "$text" 2> /dev/null || status=$?
+    "$tokens" pretty -- "$file" > "$text" 2> /dev/null || status=$?
     if [ "$status" -eq 1 ]; then
         faulty=$((faulty + 1))
         echo "doesn't parse: $file"
-    elif [ "$status" -eq 0 ] && "$programs/same" "$file" "$text"; then
+    elif [ "$status" -eq 0 ] && "$tokens" same -- "$file" "$text"; then
         same=$((same + 1))
     else
         differ=$((differ + 1))

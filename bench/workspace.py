@@ -7,6 +7,7 @@ import pathlib
 import re
 import shutil
 import subprocess
+import sys
 
 TOP = pathlib.Path(__file__).resolve().parent.parent
 # Variables that would change what is built.
@@ -16,11 +17,14 @@ CHANGING = ("RUSTFLAGS", "CARGO_ENCODED_RUSTFLAGS", "CARGO_BUILD_RUSTFLAGS", "CA
 def lay_out(room: pathlib.Path, members: list[str], others: list[str] = (), library: pathlib.Path = TOP) -> None:
     """Copies these packages and the library of a checkout, rust/proved, to the same places in a room.
 
-    The others are files and folders that no member of the workspace is in, but that the members name.
+    The library of another checkout is made of its proved sources by this checkout's rust/erase, so that both have the
+    same calls. The others are files and folders that no member of the workspace is in, but that the members name.
     """
     for name in [*members, *others, "rust/proved"]:
-        source = (library if name == "rust/proved" else TOP) / name
-        if source.is_dir():
+        source = TOP / name
+        if name == "rust/proved" and library != TOP:
+            subprocess.run([sys.executable, TOP / "rust/erase", "--library", library, room / name], check=True)
+        elif source.is_dir():
             shutil.copytree(source, room / name, ignore=shutil.ignore_patterns("target", "Cargo.lock"))
         else:
             shutil.copy(source, room / name)

@@ -3,7 +3,6 @@ use crate::noted::Noted;
 use crate::prettifying::pretty;
 use crate::trees::{ask_span, ask_values, note, parsed};
 use proved::proc_macro2::{place_trees, reprint, Literal, SourceMap, Span, TokenStream, TokenTree};
-use proved::shim::alloc::Global;
 use workloads::random::Random;
 
 const ROUNDS: u64 = 4;
@@ -25,7 +24,7 @@ pub fn ask(random: &mut Random, size: u64, _: &[&str], noted: &mut Noted) {
 
 fn line(random: &mut Random, words: u64, noted: &mut Noted) {
     let text: String = (0..words).map(|_| format!("{} ", random.one_of(WORDS))).collect();
-    let mut map = SourceMap::new(Global);
+    let mut map = SourceMap::new();
     let stream = TokenStream::from_str(&text, &mut map).expect("the text parses");
     note(&stream, noted);
     let spans: Vec<Span> = stream.trees().iter().map(TokenTree::span).collect();
@@ -49,8 +48,8 @@ fn nested(random: &mut Random, groups: u64, noted: &mut Noted) {
     }
     closers.iter().rev().for_each(|close| text.push_str(close));
     note(&parsed(&text), noted);
-    noted.text(reprint(Global, &text).expect("the text parses").as_str());
-    for place in place_trees(Global, &text).expect("the text parses") {
+    noted.text(reprint(&text).expect("the text parses").as_str());
+    for place in place_trees(&text).expect("the text parses") {
         noted.shown(&place);
     }
 }
@@ -76,10 +75,10 @@ fn literal(random: &mut Random, escapes: u64, noted: &mut Noted) {
     for tree in stream.trees() {
         let TokenTree::Literal(literal) = tree else { continue };
         ask_values(literal, noted);
-        let value = literal.str_value(Global).expect("the literal is a string");
-        let Ok(again) = Literal::string(Global, value.as_str());
+        let value = literal.str_value().expect("the literal is a string");
+        let Ok(again) = Literal::string(value.as_str());
         noted.shown(&again);
-        let Ok(bytes) = Literal::byte_string(Global, value.as_bytes());
+        let Ok(bytes) = Literal::byte_string(value.as_bytes());
         noted.shown(&bytes);
     }
 }
@@ -91,6 +90,6 @@ fn floats(random: &mut Random, rows: u64, noted: &mut Noted) {
         let row = format!("[{whole}.{part}, -0.{part}e{power}, {whole}., 1e-{power}f64, {part}],\n");
         text.push_str(&row);
     }
-    noted.text(reprint(Global, &text).expect("the text parses").as_str());
+    noted.text(reprint(&text).expect("the text parses").as_str());
     note(&parsed(&text), noted);
 }

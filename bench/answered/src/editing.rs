@@ -4,7 +4,6 @@ use crate::trees::{note, parsed};
 use proved::explain::{advice, explain, Explained, Hint, Stretch};
 use proved::proc_macro2::{pieces, PieceKind, TokenStream};
 use proved::relayout::{relayout, White};
-use proved::shim::alloc::Global;
 use workloads::random::Random;
 use workloads::texts::{size, source};
 
@@ -23,14 +22,14 @@ const FAULTS: &[&str] = &[
 pub fn ask(random: &mut Random, files: u64, items: &[&str], noted: &mut Noted) {
     for _ in 0..files {
         let bytes = size(random);
-        let Ok(text) = source(Global, random, items, bytes);
+        let Ok(text) = source(random, items, bytes);
         let text = text.as_str();
         list(text, noted);
         check(text, noted);
         let faulty = format!("{text}{}", random.one_of(FAULTS));
         list(&faulty, noted);
         check(&faulty, noted);
-        let indented = relayout(Global, text, &indentation(text)).expect("the text has pieces");
+        let indented = relayout(text, &indentation(text)).expect("the text has pieces");
         noted.text(indented.as_str());
         let (before, after) = (parsed(text), parsed(indented.as_str()));
         noted.flag(before.same_tokens(&after));
@@ -51,11 +50,11 @@ fn list(text: &str, noted: &mut Noted) {
 
 /// Notes why the text doesn't parse, and what helps; and the error of parsing it.
 fn check(text: &str, noted: &mut Noted) {
-    let found = explain(Global, text).expect("the text fits a map");
+    let found = explain(text).expect("the text fits a map");
     noted.flag(found.is_some());
     if let Some(found) = found {
         explained(&found, noted);
-        let Ok(hint) = advice(Global, text, &found);
+        let Ok(hint) = advice(text, &found);
         match hint {
             None => noted.text("no hint"),
             Some(Hint::Quote(at)) => stretch(at, noted),
@@ -66,7 +65,7 @@ fn check(text: &str, noted: &mut Noted) {
             }
         }
     }
-    noted.shown(&TokenStream::parse_unmapped(Global, text).map(|stream| stream.trees().len()));
+    noted.shown(&TokenStream::parse_unmapped(text).map(|stream| stream.trees().len()));
 }
 
 fn explained(found: &Explained, noted: &mut Noted) {

@@ -5,8 +5,6 @@ use proved::proc_macro2::{
     Delimiter, Group, Ident, Literal, Punct, SourceMap, Spacing, Span, TokenStream, TokenTree,
 };
 use proved::quoting::{Hole, Quote};
-use proved::shim::alloc::Global;
-use proved::shim::clone::Clone as _;
 use workloads::random::Random;
 
 const FIELD: &str = "pub #field: #of";
@@ -26,9 +24,9 @@ const IN_A_MAP: u64 = 500;
 type Fields = [Vec<TokenStream>; 4];
 
 pub fn ask(random: &mut Random, structs: u64, items: &[&str], noted: &mut Noted) {
-    let mut map = SourceMap::new(Global);
+    let mut map = SourceMap::new();
     // The job's templates have no places. Here they have, so that what keeps or loses a span is seen.
-    let mut of_templates = SourceMap::new(Global);
+    let mut of_templates = SourceMap::new();
     let templates = [FIELD, GETTER, SETTER].map(|text| {
         TokenStream::from_str(text, &mut of_templates).expect("the template parses")
     });
@@ -55,7 +53,7 @@ fn write_struct(
     }
     let id = random.below(1_000_000);
     let name = ident(&format!("Record{id}"));
-    let Ok(text) = Literal::string(Global, &format!("record \"{id}\""));
+    let Ok(text) = Literal::string(&format!("record \"{id}\""));
     let text = alone(TokenTree::Literal(text));
     let [names, fields, getters, setters] = &parts;
     let holes = [
@@ -66,7 +64,7 @@ fn write_struct(
         Hole::each("getters", getters),
         Hole::each("setters", setters),
     ];
-    let mut quote = Quote::new(Global);
+    let mut quote = Quote::new();
     quote.parse(STRUCT, map, &holes).expect("the template is filled");
     quote.finish().expect("the quote is well spaced")
 }
@@ -78,7 +76,7 @@ fn push_field(random: &mut Random, templates: &[TokenStream; 3], parts: &mut Fie
     let value = value(random, noted);
     let holes = [Hole::one("field", &field), Hole::one("of", &of), Hole::one("value", &value)];
     for (template, filled) in templates.iter().zip(&mut parts[1..]) {
-        let mut quote = Quote::new(Global);
+        let mut quote = Quote::new();
         quote.fill(template, &holes).expect("the template is filled");
         let stream = quote.finish().expect("the quote is well spaced");
         note(&stream, noted);
@@ -89,7 +87,7 @@ fn push_field(random: &mut Random, templates: &[TokenStream; 3], parts: &mut Fie
 }
 
 fn alone(tree: TokenTree) -> TokenStream {
-    let Ok(stream) = TokenStream::from_tree(Global, tree);
+    let Ok(stream) = TokenStream::from_tree(tree);
     stream
 }
 
@@ -98,7 +96,7 @@ fn ident(text: &str) -> TokenStream {
 }
 
 fn name(text: &str) -> Ident {
-    Ident::new(Global, text, Span::call_site()).expect("the text is a name")
+    Ident::new(text, Span::call_site()).expect("the text is a name")
 }
 
 fn mark(mark: char, spacing: Spacing) -> TokenTree {
@@ -107,7 +105,7 @@ fn mark(mark: char, spacing: Spacing) -> TokenTree {
 
 /// A type, tree by tree, as the job writes it.
 fn type_of(random: &mut Random) -> TokenStream {
-    let mut of = TokenStream::new(Global);
+    let mut of = TokenStream::new();
     for part in ["std", "vec"] {
         let trees = [mark(':', Spacing::Joint), mark(':', Spacing::Alone), TokenTree::Ident(name(part))];
         let Ok(()) = of.extend_trees(trees);
@@ -127,13 +125,13 @@ fn type_of(random: &mut Random) -> TokenStream {
 fn value(random: &mut Random, noted: &mut Noted) -> TokenStream {
     let number = random.next();
     let Ok(literal) = match random.below(7) {
-        0 => Literal::u64_suffixed(Global, number),
-        1 => Literal::usize_unsuffixed(Global, number as usize),
-        2 => Literal::u8_suffixed(Global, (number & 0xff) as u8),
-        3 => Literal::string(Global, "a text\twith \"escapes\"\n"),
-        4 => Literal::byte_string(Global, &number.to_le_bytes()),
-        5 => Literal::character(Global, if number & 1 == 0 { 'é' } else { '\'' }),
-        _ => Literal::u128_unsuffixed(Global, number as u128 * 10_000_000_000),
+        0 => Literal::u64_suffixed(number),
+        1 => Literal::usize_unsuffixed(number as usize),
+        2 => Literal::u8_suffixed((number & 0xff) as u8),
+        3 => Literal::string("a text\twith \"escapes\"\n"),
+        4 => Literal::byte_string(&number.to_le_bytes()),
+        5 => Literal::character(if number & 1 == 0 { 'é' } else { '\'' }),
+        _ => Literal::u128_unsuffixed(number as u128 * 10_000_000_000),
     };
     ask_values(&literal, noted);
     alone(TokenTree::Literal(literal))
@@ -142,9 +140,9 @@ fn value(random: &mut Random, noted: &mut Noted) -> TokenStream {
 /// Takes an item's trees apart, puts them into a new stream one by one, and compares the two.
 fn rebuild(text: &str, noted: &mut Noted) {
     let stream = parsed(text);
-    let mut copy = TokenStream::new(Global);
-    let Ok(shared) = stream.clone();
-    let Ok(trees) = shared.into_iter();
+    let mut copy = TokenStream::new();
+    let shared = stream.clone();
+    let trees = shared.into_iter();
     for tree in trees {
         let Ok(()) = copy.extend_trees([opened(tree)]);
     }
@@ -157,8 +155,8 @@ fn rebuild(text: &str, noted: &mut Noted) {
 fn opened(tree: TokenTree) -> TokenTree {
     let TokenTree::Group(group) = tree else { return tree };
     let Ok(shared) = group.stream();
-    let Ok(trees) = shared.into_iter();
-    let Ok(inside) = TokenStream::from_trees(Global, trees);
+    let trees = shared.into_iter();
+    let Ok(inside) = TokenStream::from_trees(trees);
     let mut copy = Group::new(group.delimiter(), inside);
     copy.set_span(group.span());
     TokenTree::Group(copy)
@@ -169,7 +167,7 @@ fn refused(map: &mut SourceMap, noted: &mut Noted) {
     let (one, two) = (ident("one"), [ident("a"), ident("b")]);
     let holes = [Hole::one("one", &one), Hole::each("two", &two), Hole::each("none", &[])];
     for template in ["#other", "#two", "#(#one)*", "#(#two #none),*", "#(#(#two)*)*", "a (", "0x", "#one '"] {
-        let mut quote = Quote::new(Global);
+        let mut quote = Quote::new();
         noted.shown(&quote.parse(template, map, &holes));
         noted.shown(&quote.finish().map(|stream| stream.to_string()));
     }

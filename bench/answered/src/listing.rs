@@ -2,7 +2,6 @@
 use crate::noted::Noted;
 use crate::trees::{ask_values, note, parsed};
 use proved::proc_macro2::{place_trees, reprint, TokenTree};
-use proved::shim::alloc::Global;
 use proved::token_buffer::{Cursor, LiteralText, TokenBuffer, TokenText};
 use workloads::random::Random;
 use workloads::texts::{size, source, table};
@@ -11,28 +10,28 @@ pub fn ask(random: &mut Random, files: u64, items: &[&str], noted: &mut Noted) {
     for number in 0..files {
         let bytes = size(random);
         let Ok(text) = if number % 4 == 3 {
-            table(Global, random, bytes / 200)
+            table(random, bytes / 200)
         } else {
-            source(Global, random, items, bytes)
+            source(random, items, bytes)
         };
         list(text.as_str(), noted);
     }
 }
 
 fn list(text: &str, noted: &mut Noted) {
-    noted.text(reprint(Global, text).expect("the text parses").as_str());
-    let places = place_trees(Global, text).expect("the text parses");
+    noted.text(reprint(text).expect("the text parses").as_str());
+    let places = place_trees(text).expect("the text parses");
     noted.number(places.len());
     for place in places {
         noted.shown(&place);
     }
-    let buffer = TokenBuffer::new(Global, text).expect("the text parses");
+    let buffer = TokenBuffer::new(text).expect("the text parses");
     read(buffer.begin(), noted);
-    let Ok(stream) = buffer.begin().to_stream(Global);
+    let Ok(stream) = buffer.begin().to_stream();
     note(&stream, noted);
     let stream = parsed(text);
     let mut walk = stream.walk();
-    while let Ok(Some(tree)) = walk.next() {
+    while let Some(tree) = walk.next() {
         noted.shown(&tree.span());
         if let TokenTree::Literal(literal) = tree {
             ask_values(literal, noted);

@@ -14,7 +14,6 @@ mod reading;
 mod trees;
 
 use noted::Noted;
-use proved::shim::alloc::Global;
 use std::error::Error;
 use std::io::Read;
 use workloads::digest::Digest;
@@ -24,7 +23,7 @@ use workloads::random::Random;
 /// What makes a job's texts and notes all answers about them.
 type Asking = fn(&mut Random, u64, &[&str], &mut Noted);
 /// A job of the workloads.
-type Job = fn(Global, &mut Random, u64, &[&str], &mut Digest) -> Result<(), Fail>;
+type Job = fn(&mut Random, u64, &[&str], &mut Digest) -> Result<(), Fail>;
 
 fn main() -> Result<(), Box<dyn Error>> {
     let words: Vec<String> = std::env::args().skip(1).collect();
@@ -47,7 +46,7 @@ fn main() -> Result<(), Box<dyn Error>> {
     let (mut here, mut there) = (Random::new(seed), Random::new(seed));
     let mut noted = Noted::new();
     asking(&mut here, size, &items, &mut noted);
-    job(Global, &mut there, size, &items, &mut Digest::new()).map_err(|fail| format!("{fail:?}"))?;
+    job(&mut there, size, &items, &mut Digest::new()).map_err(|fail| format!("{fail:?}"))?;
     if here.next() != there.next() {
         return Err(format!("{name} draws other random numbers: its texts aren't these").into());
     }

@@ -3,16 +3,15 @@ use crate::noted::Noted;
 use crate::trees::{ask_span, ask_spans, note};
 use proved::declarations::{parse_file, split_attributes, split_visibility, AnyItem};
 use proved::proc_macro2::{SourceMap, Span, TokenStream, TokenTree};
-use proved::shim::alloc::Global;
 use workloads::random::Random;
 use workloads::texts::{size, source};
 
 pub fn ask(random: &mut Random, files: u64, items: &[&str], noted: &mut Noted) {
-    let mut map = SourceMap::new(Global);
+    let mut map = SourceMap::new();
     let mut streams = Vec::new();
     for _ in 0..files {
         let bytes = size(random);
-        let Ok(text) = source(Global, random, items, bytes);
+        let Ok(text) = source(random, items, bytes);
         let stream = TokenStream::from_str(text.as_str(), &mut map).expect("the text parses");
         note(&stream, noted);
         ask_spans(&stream, &mut map, noted);

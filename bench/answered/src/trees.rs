@@ -2,11 +2,10 @@
 use crate::noted::Noted;
 use proved::proc_macro2::{Literal, SourceMap, Span, TokenStream, TokenTree};
 use proved::pm_stream::Step;
-use proved::shim::alloc::Global;
 
 /// The trees of a text that parses.
 pub fn parsed(text: &str) -> TokenStream {
-    TokenStream::parse_unmapped(Global, text).expect("the text parses")
+    TokenStream::parse_unmapped(text).expect("the text parses")
 }
 
 /// Notes the printed stream, and each tree with all of its parts and its span.
@@ -15,7 +14,7 @@ pub fn note(stream: &TokenStream, noted: &mut Noted) {
     noted.flag(stream.is_well_spaced());
     let mut steps = stream.steps();
     loop {
-        let Ok(step) = steps.next();
+        let step = steps.next();
         match step {
             None => return,
             Some(Step::Enter(group, after)) => {
@@ -52,7 +51,7 @@ fn token(tree: &TokenTree, noted: &mut Noted) {
 pub fn ask_spans(stream: &TokenStream, map: &mut SourceMap, noted: &mut Noted) {
     let mut before = Span::call_site();
     let mut walk = stream.walk();
-    while let Ok(Some(tree)) = walk.next() {
+    while let Some(tree) = walk.next() {
         ask_span(tree.span(), before, map, noted);
         if let TokenTree::Group(group) = tree {
             ask_span(group.span_open(), tree.span(), map, noted);
@@ -80,9 +79,9 @@ pub fn ask_span(span: Span, other: Span, map: &mut SourceMap, noted: &mut Noted)
 
 /// Notes what a literal stands for, or why it stands for nothing of that kind.
 pub fn ask_values(literal: &Literal, noted: &mut Noted) {
-    noted.shown(&literal.str_value(Global));
+    noted.shown(&literal.str_value());
     noted.shown(&literal.char_value());
     noted.shown(&literal.byte_value());
-    noted.shown(&literal.byte_str_value(Global));
-    noted.shown(&literal.cstr_value(Global));
+    noted.shown(&literal.byte_str_value());
+    noted.shown(&literal.cstr_value());
 }

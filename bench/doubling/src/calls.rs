@@ -11,8 +11,6 @@ use proved::pretty_printer::to_pretty_string;
 use proved::proc_macro2::{place_trees, reprint, Ident, Literal, SourceMap, Span, TokenStream, TokenTree};
 use proved::quoting::{Hole, Quote};
 use proved::relayout::{relayout, with_doc_comments, White};
-use proved::shim::alloc::Global;
-use proved::shim::prelude::Clone as _;
 use proved::token_buffer::TokenBuffer;
 use std::hint::black_box;
 use std::sync::atomic::{AtomicUsize, Ordering};
@@ -39,14 +37,14 @@ fn count<T>(call: impl FnOnce() -> T) {
 
 /// Counts a call on the stream that the text is, if it is one.
 fn on_stream(text: &str, call: impl FnOnce(&TokenStream)) {
-    if let Ok(stream) = TokenStream::parse_unmapped(Global, text) {
+    if let Ok(stream) = TokenStream::parse_unmapped(text) {
         measured(|| call(&stream));
     }
 }
 
 /// Counts a call on the stream of a text and on the map that it is in, if it is one.
 fn on_map(text: &str, call: impl FnOnce(&TokenStream, &mut SourceMap)) {
-    let mut map = SourceMap::new(Global);
+    let mut map = SourceMap::new();
     if let Ok(stream) = TokenStream::from_str(text, &mut map) {
         measured(|| call(&stream, &mut map));
     }
@@ -56,7 +54,7 @@ fn on_map(text: &str, call: impl FnOnce(&TokenStream, &mut SourceMap)) {
 fn on_spans(text: &str, mut call: impl FnMut(Span, &mut SourceMap)) {
     on_map(text, |stream, map| {
         let mut walk = stream.walk();
-        while let Ok(Some(tree)) = walk.next() {
+        while let Some(tree) = walk.next() {
             call(tree.span(), map);
         }
     });
@@ -129,73 +127,73 @@ type Call = (&'static str, fn(&str));
 
 /// All calls.
 pub const CALLS: &[Call] = &[
-    ("from_str", |text| count(|| TokenStream::from_str(text, &mut SourceMap::new(Global)))),
-    ("parse_unmapped", |text| count(|| TokenStream::parse_unmapped(Global, text))),
+    ("from_str", |text| count(|| TokenStream::from_str(text, &mut SourceMap::new()))),
+    ("parse_unmapped", |text| count(|| TokenStream::parse_unmapped(text))),
     ("to_string", |text| on_stream(text, |stream| keep(stream.to_string()))),
     ("debug", |text| on_stream(text, |stream| keep(format!("{stream:?}")))),
-    ("reprint", |text| count(|| reprint(Global, text))),
-    ("place_trees", |text| count(|| place_trees(Global, text))),
+    ("reprint", |text| count(|| reprint(text))),
+    ("place_trees", |text| count(|| place_trees(text))),
     ("pieces", |text| count(|| {
         let mut walk = pieces(text);
         while let Some(piece) = walk.next_piece() {
             black_box(piece.text);
         }
     })),
-    ("token_buffer", |text| count(|| TokenBuffer::new(Global, text).map(|buffer| {
+    ("token_buffer", |text| count(|| TokenBuffer::new(text).map(|buffer| {
         let mut cursor = buffer.begin();
         while let Some((token, after)) = cursor.next() {
             black_box(token);
             cursor = after;
         }
     }))),
-    ("to_stream", |text| count(|| TokenBuffer::new(Global, text).map(|buffer| buffer.begin().to_stream(Global)))),
-    ("skip_and_turbofish", |text| count(|| TokenBuffer::new(Global, text).map(|buffer| {
+    ("to_stream", |text| count(|| TokenBuffer::new(text).map(|buffer| buffer.begin().to_stream()))),
+    ("skip_and_turbofish", |text| count(|| TokenBuffer::new(text).map(|buffer| {
         let mut cursor = buffer.begin();
         while let Some(after) = cursor.skip() {
             black_box(cursor.span());
             cursor = after;
         }
     }))),
-    ("explain", |text| count(|| explain(Global, text))),
-    ("advice", |text| count(|| match explain(Global, text) {
-        Ok(Some(explained)) => black_box(advice(Global, text, &explained)).is_ok(),
+    ("explain", |text| count(|| explain(text))),
+    ("advice", |text| count(|| match explain(text) {
+        Ok(Some(explained)) => black_box(advice(text, &explained)).is_ok(),
         _ => false,
     })),
     ("relayout", |text| {
         let choices = choices(text);
-        count(|| relayout(Global, text, &choices));
+        count(|| relayout(text, &choices));
     }),
-    ("with_doc_comments", |text| count(|| with_doc_comments(Global, text))),
-    ("to_pretty_string", |text| on_stream(text, |stream| keep(to_pretty_string(Global, stream)))),
-    ("text_with", |text| on_stream(text, |stream| keep(text_with(stream, &mut Turns(0), Global)))),
+    ("with_doc_comments", |text| count(|| with_doc_comments(text))),
+    ("to_pretty_string", |text| on_stream(text, |stream| keep(to_pretty_string(stream)))),
+    ("text_with", |text| on_stream(text, |stream| keep(text_with(stream, &mut Turns(0))))),
     ("walk", |text| on_stream(text, |stream| {
         let mut walk = stream.walk();
-        while let Ok(Some(tree)) = walk.next() {
+        while let Some(tree) = walk.next() {
             black_box(tree);
         }
     })),
     ("steps", |text| on_stream(text, |stream| {
         let mut steps = stream.steps();
-        while let Ok(Some(step)) = steps.next() {
+        while let Some(step) = steps.next() {
             black_box(step);
         }
     })),
     ("into_iter", |text| on_stream(text, |stream| {
-        let Ok(copy) = stream.clone();
-        let Ok(trees) = copy.into_iter();
+        let copy = stream.clone();
+        let trees = copy.into_iter();
         for tree in trees {
             black_box(tree);
         }
     })),
     ("is_well_spaced", |text| on_stream(text, |stream| keep(stream.is_well_spaced()))),
     ("same_tokens", |text| {
-        let other = TokenStream::parse_unmapped(Global, text);
+        let other = TokenStream::parse_unmapped(text);
         on_stream(text, |stream| keep(other.is_ok_and(|other| stream.same_tokens(&other))));
     }),
     ("extend", |text| on_stream(text, |stream| {
-        let mut built = TokenStream::new(Global);
+        let mut built = TokenStream::new();
         for tree in stream.trees() {
-            let Ok(tree) = tree.clone();
+            let tree = tree.clone();
             let Ok(()) = built.extend_trees([tree]);
         }
         keep(built);
@@ -211,27 +209,27 @@ pub const CALLS: &[Call] = &[
         keep(joined);
     })),
     ("quote_parse", |text| count(|| {
-        let one = TokenStream::parse_unmapped(Global, "one").expect("a name is a stream");
-        let mut quote = Quote::new(Global);
-        quote.parse(text, &mut SourceMap::new(Global), &[Hole::one("a", &one), Hole::one("b", &one)])
+        let one = TokenStream::parse_unmapped("one").expect("a name is a stream");
+        let mut quote = Quote::new();
+        quote.parse(text, &mut SourceMap::new(), &[Hole::one("a", &one), Hole::one("b", &one)])
     })),
     ("quote_fill", |text| on_stream(text, |stream| {
-        let mut quote = Quote::new(Global);
-        let one = TokenStream::parse_unmapped(Global, "one").expect("a name is a stream");
-        let streams = [TokenStream::new(Global), TokenStream::new(Global)];
+        let mut quote = Quote::new();
+        let one = TokenStream::parse_unmapped("one").expect("a name is a stream");
+        let streams = [TokenStream::new(), TokenStream::new()];
         let holes = [Hole::one("a", &one), Hole::each("b", &streams), Hole::one("m", &one)];
         keep(quote.fill(stream, &holes));
     })),
     ("quote_finish", |text| on_stream(text, |stream| {
-        let mut quote = Quote::new(Global);
-        let Ok(copy) = stream.clone();
+        let mut quote = Quote::new();
+        let copy = stream.clone();
         let Ok(()) = quote.push_stream(copy);
         keep(quote.finish());
     })),
     ("quote_push", |text| on_stream(text, |stream| {
-        let mut quote = Quote::new(Global);
+        let mut quote = Quote::new();
         for tree in stream.trees() {
-            let Ok(tree) = tree.clone();
+            let tree = tree.clone();
             let Ok(()) = quote.push(tree);
         }
         keep(quote.finish());
@@ -240,15 +238,15 @@ pub const CALLS: &[Call] = &[
     ("fronts", |text| on_stream(text, fronts)),
     ("split_any_item", |text| on_stream(text, |stream| split(stream, |trees| split_any_item(trees).ok()))),
     ("split_attribute", |text| on_stream(text, |stream| split(stream, |trees| split_attribute(trees)))),
-    ("string", |text| count(|| Literal::string(Global, text))),
-    ("byte_string", |text| count(|| Literal::byte_string(Global, text.as_bytes()))),
+    ("string", |text| count(|| Literal::string(text))),
+    ("byte_string", |text| count(|| Literal::byte_string(text.as_bytes()))),
     ("str_value", |text| {
-        let Ok(literal) = Literal::string(Global, text);
-        count(|| literal.str_value(Global));
+        let Ok(literal) = Literal::string(text);
+        count(|| literal.str_value());
     }),
-    ("literal_from_str", |text| count(|| Literal::from_str(text, &mut SourceMap::new(Global)))),
+    ("literal_from_str", |text| count(|| Literal::from_str(text, &mut SourceMap::new()))),
     ("is_whole", |text| count(|| Literal::is_whole(text))),
-    ("ident", |text| count(|| Ident::new(Global, text, Span::call_site()))),
+    ("ident", |text| count(|| Ident::new(text, Span::call_site()))),
     ("unescape_str", |text| count(|| unescape_str(text).filter(|(_, unit)| unit.is_ok()).count())),
     ("unescape_byte_str", |text| count(|| unescape_byte_str(text).filter(|(_, unit)| unit.is_ok()).count())),
 ];

@@ -1,7 +1,6 @@
 //! Reading pieces of one kind, and short texts.
 use crate::calls::{repeat, Row};
 use proved::proc_macro2::{pieces, Ident, Literal, Span, TokenStream};
-use proved::shim::alloc::Global;
 use std::hint::black_box;
 
 const DIGITS: &str = "1234567890123456789012345678901234567890123456789012345678901234567890.5 ";
@@ -36,11 +35,11 @@ pub const ROWS: &[Row] = &[
     ("parse_names", |calls| parse(calls, "alpha beta gamma delta")),
     ("parse_line", |calls| parse(calls, LINE)),
     ("print_line", |calls| {
-        let stream = TokenStream::parse_unmapped(Global, LINE).expect("the text parses");
+        let stream = TokenStream::parse_unmapped(LINE).expect("the text parses");
         repeat(calls, || black_box(&stream).to_string());
     }),
-    ("ident_new", |calls| repeat(calls, || Ident::new(Global, black_box("identifier"), Span::call_site()))),
-    ("literal_string", |calls| repeat(calls, || Literal::string(Global, black_box("a text")))),
+    ("ident_new", |calls| repeat(calls, || Ident::new(black_box("identifier"), Span::call_site()))),
+    ("literal_string", |calls| repeat(calls, || Literal::string(black_box("a text")))),
 ];
 
 /// Reads all pieces of a text.
@@ -56,5 +55,5 @@ fn walk(calls: u32, text: &str) {
 
 /// Reads a text into trees.
 fn parse(calls: u32, text: &str) {
-    repeat(calls, || TokenStream::parse_unmapped(Global, black_box(text)));
+    repeat(calls, || TokenStream::parse_unmapped(black_box(text)));
 }

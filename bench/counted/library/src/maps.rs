@@ -2,7 +2,6 @@
 use crate::calls::{repeat, Row};
 use proved::pm_span::parts::add_file;
 use proved::proc_macro2::{SourceMap, Span, TokenStream};
-use proved::shim::alloc::Global;
 use std::hint::black_box;
 
 pub const ROWS: &[Row] = &[
@@ -26,7 +25,7 @@ pub const ROWS: &[Row] = &[
     ("byte_range_past_ascii", |calls| ask(&mut past_ascii(), calls, |span, map| span.byte_range(map))),
     ("fill_and_drop_map_of_10_files", |calls| {
         repeat(calls, || {
-            let mut map = SourceMap::new(Global);
+            let mut map = SourceMap::new();
             (0..10).for_each(|_| add_file(&mut map, black_box("fn f() {\n    g(1)\n}\n")).expect("there is memory"));
             map
         })
@@ -58,7 +57,7 @@ fn read(map: &mut SourceMap, text: &str) -> Vec<Span> {
 
 /// A map of so many small files, of each of which one span is asked.
 fn any_of(files: usize) -> Asked {
-    let mut map = SourceMap::new(Global);
+    let mut map = SourceMap::new();
     let spans = (0..files).map(|file| read(&mut map, &format!("fn f_{file}() {{\n    g({file})\n}}\n"))[1]).collect();
     Asked { map, spans: mixed(spans) }
 }
@@ -72,7 +71,7 @@ fn first_of(files: usize) -> Asked {
 
 /// A map of one file of so many short lines. All of its spans are asked.
 fn in_lines(lines: usize) -> Asked {
-    let mut map = SourceMap::new(Global);
+    let mut map = SourceMap::new();
     let text: String = (0..lines).map(|line| format!("let x = {};\n", line % 10)).collect();
     let spans = read(&mut map, &text);
     Asked { map, spans: mixed(spans) }
@@ -80,7 +79,7 @@ fn in_lines(lines: usize) -> Asked {
 
 /// A map of one file of 50 lines with characters past ASCII. All of its spans are asked.
 fn past_ascii() -> Asked {
-    let mut map = SourceMap::new(Global);
+    let mut map = SourceMap::new();
     let spans = read(&mut map, &"let größe = \"naïve\"; // é\n".repeat(50));
     Asked { map, spans: mixed(spans) }
 }

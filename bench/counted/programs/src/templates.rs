@@ -3,7 +3,6 @@ use crate::calls::{repeat, Row};
 use crate::texts::parsed;
 use proved::proc_macro2::{Punct, Spacing, TokenStream, TokenTree};
 use proved::quoting::{Hole, Quote};
-use proved::shim::alloc::Global;
 use std::hint::black_box;
 
 const FUNCTION: &str = "pub fn #one(x: &str) -> Vec<u8> { let y = #many; x.bytes().map(|b| b + 1).collect() }";
@@ -26,7 +25,7 @@ fn filled<T>(calls: u32, template: &str, then: impl Fn(Quote) -> T) {
     let (one, nil, many) = (parsed("a b c"), parsed(""), parsed(&"word ".repeat(30)));
     let holes = [Hole::one("one", &one), Hole::one("nil", &nil), Hole::one("many", &many)];
     repeat(calls, || {
-        let mut quote = Quote::new(Global);
+        let mut quote = Quote::new();
         quote.fill(black_box(&template), black_box(&holes)).expect("the template is filled");
         then(quote)
     });
@@ -42,7 +41,7 @@ fn fill_and_finish(calls: u32, template: &str) {
 
 /// Finishes a quote of so many joint marks, each before a name, and of the last mark, if there is one.
 fn finish(calls: u32, marks: usize, last: Option<char>) {
-    let mut quote = Quote::new(Global);
+    let mut quote = Quote::new();
     let name = parsed("a");
     for _ in 0..marks {
         let Ok(()) = quote.push(TokenTree::Punct(Punct::new('+', Spacing::Joint)));
@@ -55,6 +54,6 @@ fn finish(calls: u32, marks: usize, last: Option<char>) {
 }
 
 fn copied(stream: &TokenStream) -> TokenStream {
-    let Ok(copy) = proved::shim::clone::Clone::clone(stream);
+    let copy = stream.clone();
     copy
 }

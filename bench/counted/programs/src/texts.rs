@@ -5,7 +5,6 @@ use proved::explain::explain;
 use proved::pretty_printer::to_pretty_string;
 use proved::proc_macro2::{place_trees, reprint, SourceMap, TokenStream};
 use proved::relayout::{relayout, with_doc_comments, White};
-use proved::shim::alloc::Global;
 use proved::token_buffer::TokenBuffer;
 use std::hint::black_box;
 
@@ -27,37 +26,37 @@ fn total(items: &[Item]) -> u64 {
 const DOCS: &str = "#[doc = \" A line of text.\"]\n#[doc = \" Another with \\\"quotes\\\".\"]\nstruct S;\n";
 
 pub const ROWS: &[Row] = &[
-    ("parse_names", |calls| repeat(calls, || TokenStream::parse_unmapped(Global, black_box("alpha beta gamma delta")))),
-    ("parse_item", |calls| repeat(calls, || TokenStream::parse_unmapped(Global, black_box(ITEM)))),
+    ("parse_names", |calls| repeat(calls, || TokenStream::parse_unmapped(black_box("alpha beta gamma delta")))),
+    ("parse_item", |calls| repeat(calls, || TokenStream::parse_unmapped(black_box(ITEM)))),
     ("parse_item_into_map", |calls| {
-        repeat(calls, || TokenStream::from_str(black_box(ITEM), &mut SourceMap::new(Global)))
+        repeat(calls, || TokenStream::from_str(black_box(ITEM), &mut SourceMap::new()))
     }),
-    ("reprint_item", |calls| repeat(calls, || reprint(Global, black_box(ITEM)))),
-    ("place_trees_of_item", |calls| repeat(calls, || place_trees(Global, black_box(ITEM)))),
-    ("buffer_item", |calls| repeat(calls, || TokenBuffer::new(Global, black_box(ITEM)))),
-    ("explain_item", |calls| repeat(calls, || explain(Global, black_box(ITEM)))),
-    ("explain_fault", |calls| repeat(calls, || explain(Global, black_box("fn f() { g(1] }\n")))),
+    ("reprint_item", |calls| repeat(calls, || reprint(black_box(ITEM)))),
+    ("place_trees_of_item", |calls| repeat(calls, || place_trees(black_box(ITEM)))),
+    ("buffer_item", |calls| repeat(calls, || TokenBuffer::new(black_box(ITEM)))),
+    ("explain_item", |calls| repeat(calls, || explain(black_box(ITEM)))),
+    ("explain_fault", |calls| repeat(calls, || explain(black_box("fn f() { g(1] }\n")))),
     ("list_items", |calls| {
         let stream = parsed(ITEM);
         repeat(calls, || parse_file(black_box(&stream).trees()).map(|file| file.items.count()));
     }),
     ("to_pretty_string_of_item", |calls| {
         let stream = parsed(ITEM);
-        repeat(calls, || to_pretty_string(Global, black_box(&stream)));
+        repeat(calls, || to_pretty_string(black_box(&stream)));
     }),
-    ("relayout_item", |calls| repeat(calls, || relayout(Global, black_box(ITEM), &[White::Space; 60]))),
-    ("doc_comments", |calls| repeat(calls, || with_doc_comments(Global, black_box(DOCS)))),
+    ("relayout_item", |calls| repeat(calls, || relayout(black_box(ITEM), &[White::Space; 60]))),
+    ("doc_comments", |calls| repeat(calls, || with_doc_comments(black_box(DOCS)))),
     ("doc_comments_of_suffixed", |calls| {
         let text = DOCS.replace("\"]", "\"s]");
-        repeat(calls, || with_doc_comments(Global, black_box(&text)));
+        repeat(calls, || with_doc_comments(black_box(&text)));
     }),
     ("doc_comments_of_unclosed", |calls| {
         let text = format!("#[doc = \"{}", "a".repeat(1_000));
-        repeat(calls, || with_doc_comments(Global, black_box(&text)).is_err());
+        repeat(calls, || with_doc_comments(black_box(&text)).is_err());
     }),
 ];
 
 /// The trees of a text.
 pub fn parsed(text: &str) -> TokenStream {
-    TokenStream::parse_unmapped(Global, text).expect("the text parses")
+    TokenStream::parse_unmapped(text).expect("the text parses")
 }

@@ -14,7 +14,6 @@ mod times;
 use parts::Part;
 use proved::pm_span::SourceMap;
 use proved::pm_stream::TokenStream as OwnStream;
-use proved::shim::alloc::Global;
 use std::collections::BTreeMap;
 use std::path::{Path, PathBuf};
 use std::{env, fs, io, process, thread};
@@ -55,7 +54,7 @@ impl Counts {
 
     /// The items of the file at all depths.
     fn entries(&mut self, path: &Path, text: &str, file: &syn::File) {
-        let mut map = SourceMap::new(Global);
+        let mut map = SourceMap::new();
         let ours = match OwnStream::from_str(text, &mut map) {
             Ok(ours) => ours,
             Err(fault) => return self.differ(None, path, "", &format!("ours doesn't lex it: {fault}")),
@@ -79,7 +78,7 @@ impl Counts {
     }
 
     fn items(&mut self, path: &Path, texts: Vec<String>) {
-        let mut map = SourceMap::new(Global);
+        let mut map = SourceMap::new();
         let mut lexed = Vec::new();
         for text in texts {
             self.items += 1;
