@@ -32,3 +32,10 @@ pub use over::to_proved;
 pub use pretty::{pretty, PrettyError};
 pub use proved;
 pub use spans::{NoToken, Spans};
+
+/// The examples of the page that describes this package, and of the repository's page on moving here, which is not in
+/// the package.
+#[cfg(all(doctest, feature = "pretty_printer"))]
+#[doc = include_str!("../README.md")]
+#[doc = include_str!("../../../docs/MOVING.md")]
+struct Pages;

@@ -1,125 +1,236 @@
-//! Each call that `docs/MOVING.md` names, made once.
+//! Each call that `docs/MOVING.md` and the READMEs of the packages show, made as they show it, with `?`. The last test
+//! reads the pages, so that a page shows no other call. Blocks of code on the pages are compiled as their examples.
 #![cfg(feature = "item_headers")]
 #![cfg(feature = "token_buffer")]
 #![cfg(feature = "quoting")]
 #![cfg(feature = "pretty_printer")]
-use proved::declarations::{
-    compile_error, parse_file, parse_param, parse_type_item, within_generics, Attributes, Body, ParamKind,
+use proved::cursor::TokenBuffer;
+use proved::items::{
+    compile_error, impl_generics, impl_header, impl_header_where, parse_file, parse_param, parse_type_item,
+    type_generics, where_clause, where_clause_with_bound, within_generics, Attributes, Body, ParamKind,
 };
-use proved::item_headers::{
-    impl_generics, impl_header, impl_header_where, type_generics, where_clause, where_clause_with_bound,
-};
-use proved::pretty_printer::to_pretty_string;
-use proved::proc_macro2::rustc_literal_escaper::unescape_str;
-use proved::proc_macro2::{
-    pieces, reprint, Delimiter, Ident, Literal, PieceKind, SourceMap, Span, TokenStream, TokenTree,
-};
-use proved::quoting::{Hole, Quote};
-use proved::token_buffer::TokenBuffer;
+use proved::print::to_pretty_string;
+use proved::quote::{Hole, Quote};
+use proved::text::{pieces, reprint, unescape_str, PieceKind};
+use proved::{Delimiter, Ident, Literal, SourceMap, Span, TokenStream, TokenTree};
+use std::error::Error;
+
+type Outcome = Result<(), Box<dyn Error>>;
 
 const TEXT: &str = "fn f(x: u8) -> u8 { x + 1 }";
 
 #[test]
-fn calls_in_place_of_proc_macro2s() {
+fn calls_in_place_of_proc_macro2s_on_streams() -> Outcome {
+    let text = TEXT;
     let mut map = SourceMap::new();
-    let stream = TokenStream::from_str(TEXT, &mut map).unwrap();
-    assert_eq!(*reprint(TEXT).unwrap(), *stream.to_string());
-    let Ok(empty) = TokenStream::from_trees([]);
-    let mut built = TokenStream::new();
-    assert!(empty.is_empty() && built.same_tokens(&empty));
+    let mut stream = TokenStream::from_str(text, &mut map)?;
+    assert!(text.parse::<TokenStream>()?.same_tokens(&stream));
+    assert_eq!(text.parse::<TokenStream>()?.to_string(), reprint(text)?);
+    let trees = stream.clone();
+    let collected = trees.into_iter();
+    let trees = collected.clone();
+    assert!(trees.collect::<TokenStream>().same_tokens(&stream));
+    let trees = collected.clone();
+    let mut built = TokenStream::from_trees(trees)?;
+    let Ok(x) = TokenStream::from_trees([]);
+    assert!(x.same_tokens(&TokenStream::new()) && built.same_tokens(&stream));
 
-    let trees = stream.into_iter();
-    let Ok(()) = built.extend_trees(trees);
-    assert_eq!(built.trees().len(), 7);
+    let trees = collected.clone();
+    stream.extend(trees);
+    let trees = collected;
+    stream.extend_trees(trees)?;
+    assert_eq!(stream.trees().len(), 21);
+    let mut count = 0;
+    for tree in &stream {
+        count += usize::from(tree.clone().to_string() == tree.to_string());
+    }
+    for tree in stream {
+        count += usize::from(!tree.to_string().is_empty());
+    }
+    assert_eq!(count, 42);
+
+    let stream = TokenStream::from_str(text, &mut map)?;
     let mut names = Vec::new();
-    for tree in built.walk() {
-        if let TokenTree::Ident(name) = tree {
-            names.push(name.to_string());
+    for tree in stream.walk() {
+        if let TokenTree::Ident(ident) = tree.clone() {
+            assert_eq!(ident == "fn", ident.to_string() == "fn");
+            names.push(ident.to_string());
         }
     }
     assert_eq!(names, ["fn", "f", "x", "u8", "u8", "x"]);
-
+    built.extend(stream);
     let TokenTree::Group(group) = &built.trees()[6] else { panic!("it is the body") };
-    let Ok(inside) = group.stream();
-    assert!(inside.same_tokens(group.stream_ref()));
-    let copy = built.trees()[0].clone();
-    let TokenTree::Ident(keyword) = &copy else { panic!("it is a keyword") };
-    assert!(keyword.eq_str("fn"));
+    assert!(group.stream()?.same_tokens(group.stream_ref()));
+    Ok(())
+}
 
-    let (first, last) = (built.trees()[0].span(), built.trees()[6].span());
-    assert!(map.holds(first) && map.holds(last));
-    assert_eq!(first.start(&map).line, 1);
-    let Ok(file) = first.file(&map);
-    assert_eq!(*file, *"<parsed string 1>");
-    let whole = first.join(last, &map).unwrap();
-    assert_eq!(whole.source_str(&map), Some(TEXT));
-    let Ok(text) = whole.source_text(&mut map);
-    assert_eq!(text.as_deref(), Some(TEXT));
-    assert_eq!(whole.byte_range(&mut map), 0..TEXT.len());
+#[test]
+fn calls_in_place_of_proc_macro2s_on_spans_and_literals() -> Outcome {
+    let text = TEXT;
+    let mut map = SourceMap::new();
+    let stream = TokenStream::from_str(text, &mut map)?;
+    let (span, other) = (stream.trees()[0].span(), stream.trees()[6].span());
+    assert!(map.holds(span) && map.holds(other));
+    assert_eq!(span.start(&map).line, 1);
+    assert_eq!(span.file(&map)?, "<parsed string 1>");
+    let span = span.join(other, &map).ok_or("both are in one text")?;
+    assert_eq!(span.source_str(&map), Some(text));
+    assert_eq!(span.source_text(&mut map)?.as_deref(), Some(text));
+    assert_eq!(span.byte_range(&mut map), 0..text.len());
     map.invalidate();
-    assert!(!map.holds(first));
+    assert!(!map.holds(span));
 
-    let literal = Literal::from_str("\"a\"", &mut map).unwrap();
-    assert_eq!(literal.text(), "\"a\"");
-    assert_eq!(*literal.str_value().unwrap(), *"a");
-    let Ok(string) = Literal::string("a");
-    assert_eq!(string.text(), literal.text());
+    let literal = Literal::from_str("\"a\"", &mut map)?;
+    assert_eq!(literal.text(), literal.to_string());
+    assert_eq!("\"a\"".parse::<Literal>()?.to_string(), "\"a\"");
+    let text = literal.str_value()?;
+    assert_eq!(text, "a");
+    assert_eq!(Literal::string(&text)?.text(), literal.text());
+    let text = "b";
+    assert_eq!(Literal::string(text)?.text(), "\"b\"");
+    Ok(())
 }
 
 #[test]
-fn calls_in_place_of_quotes_and_syns() {
+fn calls_in_place_of_quotes() -> Outcome {
+    let text = TEXT;
     let mut map = SourceMap::new();
-    let name = Ident::new("g", Span::call_site()).unwrap();
-    let Ok(name) = TokenStream::from_trees([TokenTree::Ident(name)]);
+    let name = TokenStream::from(Ident::new("g", Span::call_site())?);
     let mut quote = Quote::new();
-    quote.parse("fn #name() {}", &mut map, &[Hole::one("name", &name)]).unwrap();
-    assert_eq!(quote.finish().unwrap().to_string(), "fn g () { }");
+    quote.parse("fn #name() {}", &mut map, &[Hole::one("name", &name)])?;
+    assert_eq!(quote.finish()?.to_string(), "fn g () { }");
 
-    let buffer = TokenBuffer::new(TEXT).unwrap();
-    let (keyword, after) = buffer.begin().ident().unwrap();
+    assert!(TokenBuffer::new(text)?.begin().ident().is_some());
+    let buffer = TokenBuffer::new(text)?;
+    let (keyword, after) = buffer.begin().ident().ok_or("no keyword")?;
     assert_eq!(keyword.text, "fn");
-    let (_, after) = after.ident().unwrap();
-    assert!(after.group(Delimiter::Parenthesis).is_some());
+    let (_, cursor) = after.ident().ok_or("no name")?;
+    let delimiter = Delimiter::Parenthesis;
+    assert!(cursor.ident().is_none() && cursor.group(delimiter).is_some());
+    Ok(())
 }
 
 #[test]
-fn calls_in_place_of_syns_items() {
+fn calls_in_place_of_syns() -> Outcome {
     let mut map = SourceMap::new();
-    let stream = TokenStream::from_str("#[a] struct S<T: A = B>(T) where T: C;", &mut map).unwrap();
-    assert_eq!(parse_file(stream.trees()).unwrap().items.count(), 1);
-    let item = parse_type_item(stream.trees()).unwrap();
+    let stream = TokenStream::from_str("#[a] struct S<T: A = B>(T) where T: C;", &mut map)?;
+    assert_eq!(parse_file(stream.trees())?.items.count(), 1);
+    let item = parse_type_item(stream.trees())?;
     let Body::Struct(fields) = item.body else { panic!("it is a struct") };
     assert_eq!(fields.list().count(), 1);
     assert!(Attributes::new(item.attributes).all(|attribute| attribute.is("a")));
-    let params = within_generics(item.generics).unwrap();
-    assert_eq!(parse_param(params).unwrap().0.kind, ParamKind::Type);
+    let params = within_generics(item.generics)?;
+    assert_eq!(parse_param(params)?.0.kind, ParamKind::Type);
 
-    let path = TokenStream::from_str("Clone", &mut map).unwrap();
-    assert_eq!(impl_generics(&item).unwrap().to_string(), "< T : A >");
-    let header = impl_header(&item, &path).unwrap();
+    let path = TokenStream::from_str("Clone", &mut map)?;
+    assert_eq!(impl_generics(&item)?.to_string(), "< T : A >");
+    let header = impl_header(&item, &path)?;
     assert_eq!(header.to_string(), "impl < T : A > Clone for S < T > where T : C");
-    assert_eq!(type_generics(&item).unwrap().to_string(), "< T >");
-    assert_eq!(where_clause(&item).unwrap().to_string(), "where T : C");
-    let clause = where_clause_with_bound(&item, &path).unwrap();
-    let header = impl_header_where(&item, &path, &clause).unwrap();
+    assert_eq!(type_generics(&item)?.to_string(), "< T >");
+    assert_eq!(where_clause(&item)?.to_string(), "where T : C");
+    let header = impl_header_where(&item, &path, &where_clause_with_bound(&item, &path)?)?;
     assert_eq!(header.to_string(), "impl < T : A > Clone for S < T > where T : C , T : Clone");
-    let Ok(told) = compile_error("a", item.name.span());
-    assert_eq!(told.to_string(), ":: core :: compile_error ! { \"a\" }");
-    let Ok(told) = parse_type_item(path.trees()).unwrap_err().to_compile_error();
-    assert_eq!(told.to_string(), ":: core :: compile_error ! { \"not expected here\" }");
+    let (text, span) = ("a", item.name.span());
+    assert_eq!(compile_error(text, span)?.to_string(), ":: core :: compile_error ! { \"a\" }");
+    let fault = parse_type_item(path.trees()).err().ok_or("it is no item")?;
+    assert_eq!(fault.to_compile_error()?.to_string(), ":: core :: compile_error ! { \"not expected here\" }");
+    Ok(())
 }
 
 #[test]
-fn calls_in_place_of_rustc_lexers_and_prettypleases() {
-    let mut walk = pieces("a+=1");
-    let first = walk.next_piece().unwrap();
-    assert_eq!((first.text, first.piece.bytes), ("a", 1));
-    let mark = walk.next_piece().unwrap();
-    assert_eq!(mark.piece.kind, PieceKind::Mark { mark: '+', joint: true });
-    assert!(unescape_str("a").all(|(_, read)| read == Ok('a')));
+fn calls_in_place_of_rustc_lexers_and_prettypleases() -> Outcome {
+    let text = "a+=1";
+    let mut walk = pieces(text);
+    let placed = walk.next_piece().ok_or("no piece")?;
+    assert_eq!((placed.text, placed.piece.bytes), ("a", 1));
+    let placed = walk.next_piece().ok_or("no piece")?;
+    assert_eq!(placed.piece.kind, PieceKind::Mark { mark: '+', joint: true });
+    assert!(unescape_str(text).map(|(_, read)| read).eq(text.chars().map(Ok)));
 
-    let mut map = SourceMap::new();
-    let stream = TokenStream::from_str(TEXT, &mut map).unwrap();
-    let text = to_pretty_string(&stream).unwrap();
-    assert_eq!(*text, *"fn f(x: u8) -> u8 {\n    x + 1\n}\n");
+    let stream = TokenStream::from_str(TEXT, &mut SourceMap::new())?;
+    assert_eq!(to_pretty_string(&stream)?, "fn f(x: u8) -> u8 {\n    x + 1\n}\n");
+    Ok(())
+}
+
+/// The pages that show calls to users of Cargo. The blocks of code on them are compiled as the examples of
+/// `src/lib.rs` here and in the bridge.
+const PAGES: [(&str, &str); 7] = [
+    ("docs/MOVING.md", include_str!("../../../docs/MOVING.md")),
+    ("README.md", include_str!("../../../README.md")),
+    ("rust/README.md", include_str!("../../README.md")),
+    ("rust/proved/README.md", include_str!("../README.md")),
+    ("rust/bridge/README.md", include_str!("../../bridge/README.md")),
+    ("rust/proc-macro2/README.md", include_str!("../../proc-macro2/README.md")),
+    ("rust/tools/README.md", include_str!("../../tools/README.md")),
+];
+
+/// The blocks of Rust on a page, and the rest of it without any blocks.
+fn blocks(page: &str) -> (String, String) {
+    let (mut code, mut rest, mut fence) = (String::new(), String::new(), None);
+    for line in page.lines() {
+        match (fence, line.strip_prefix("```")) {
+            (None, Some(kind)) => fence = Some(kind),
+            (Some(_), Some(_)) => fence = None,
+            (Some("rust"), None) => code += &format!("{line}\n"),
+            (Some(_), None) => {}
+            (None, None) => rest += &format!("{line}\n"),
+        }
+    }
+    assert!(fence.is_none(), "a block that nothing closes");
+    (code, rest)
+}
+
+/// The text without comments and white space, as a page may break lines otherwise.
+fn squeezed(code: &str) -> String {
+    code.lines().flat_map(|line| line.split("// ").next()).flat_map(str::chars).filter(|c| !c.is_whitespace()).collect()
+}
+
+/// The pieces of code in a line of text, or of the parts of it that show our calls: of a table's row that is the last
+/// cell, and the first too where the last says that the call is the same.
+fn shown(line: &str) -> Vec<&str> {
+    let cells: Vec<&str> = line.split(" | ").collect();
+    let skipped = match cells[..] {
+        [_, last] => usize::from(!last.starts_with("the same")),
+        _ => 0,
+    };
+    cells[skipped..].iter().flat_map(|cell| cell.split('`').skip(1).step_by(2)).collect()
+}
+
+/// Whether a piece of code is a call or another expression, and no name, path, attribute, command or text of a program.
+fn is_expression(code: &str) -> bool {
+    let call = code.split_once('(').is_some_and(|(name, _)| {
+        !name.is_empty() && name.chars().all(|c| c.is_alphanumeric() || "_:.<>& ".contains(c)) && !name.contains("  ")
+    });
+    call || code.contains(" == ") || code.starts_with("for ") || code.contains('.') && code.contains("piece.")
+}
+
+/// Whether the code has this piece, of which a page leaves open what it writes as `..`.
+fn has(code: &str, piece: &str) -> bool {
+    let Some((front, back)) = piece.split_once("..") else {
+        return code.contains(piece);
+    };
+    code.match_indices(front).any(|(at, _)| code[at + front.len()..].split(';').next().is_some_and(|rest| has(rest, back)))
+}
+
+#[test]
+fn each_call_that_a_page_shows_is_made_above() {
+    let own = include_str!("moving.rs");
+    let end = own.find("const PAGES").expect("it is above");
+    let mut code = squeezed(&own[..end]);
+    for (_, page) in PAGES {
+        code += &squeezed(&blocks(page).0);
+    }
+    let (mut count, mut missing) = (0, Vec::new());
+    for (name, page) in PAGES {
+        let text = blocks(page).1;
+        let calls = text.lines().flat_map(shown).filter(|call| is_expression(call));
+        for call in calls {
+            count += 1;
+            if !has(&code, &squeezed(call)) {
+                missing.push(format!("{name}: `{call}`"));
+            }
+        }
+    }
+    assert!(missing.is_empty(), "calls that pages show, and that no test makes:\n{}", missing.join("\n"));
+    assert!(count > 40, "the pages show {count} calls alone");
 }
