@@ -70,7 +70,7 @@ JOB_METHODS = set('to_le_bytes wrapping_add'.split())
 class Names:
     """What a package may name besides the items, methods and macros above, and where it finds its shim.
 
-    `shim` is empty where the package has none of its own, but takes that of `proved`.
+    `shim` is empty where the package has none of its own, but takes that of `proved-tokens`.
     """
 
     items: frozenset = frozenset()

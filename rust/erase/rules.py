@@ -40,7 +40,7 @@ class Package:
         self.below = set(below)
         self.names = names
         self.tests = names.tests
-        self.shim = names.shim or ('proved::shim' if self.below else 'crate::shim')
+        self.shim = names.shim or ('proved_tokens::shim' if self.below else 'crate::shim')
         self.destructors = {}
         self.functions = set()
         self.growing = set()
@@ -906,7 +906,7 @@ def paths(file):
         fn f() { crate::lexical::is_mark('+'); }
     """
     package, tokens, edits = file.package, file.tokens, {}
-    root = 'proved' if package.below else 'crate'
+    root = 'proved_tokens' if package.below else 'crate'
     for at, token in enumerate(tokens):
         if token.kind == 'comment':
             token.text = linked(token.text, file.crate, package.erased)

@@ -2,7 +2,7 @@
 use crate::noted::Noted;
 use crate::prettifying::pretty;
 use crate::trees::{ask_span, ask_values, note, parsed};
-use proved::proc_macro2::{place_trees, reprint, Literal, SourceMap, Span, TokenStream, TokenTree};
+use proved_tokens::proc_macro2::{place_trees, reprint, Literal, SourceMap, Span, TokenStream, TokenTree};
 use workloads::random::Random;
 
 const ROUNDS: u64 = 4;

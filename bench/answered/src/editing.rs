@@ -1,9 +1,9 @@
 //! Looking over files: pieces, faults, indentation, changes.
 use crate::noted::Noted;
 use crate::trees::{note, parsed};
-use proved::explain::{advice, explain, Explained, Hint, Stretch};
-use proved::proc_macro2::{pieces, PieceKind, TokenStream};
-use proved::relayout::{relayout, White};
+use proved_tokens::explain::{advice, explain, Explained, Hint, Stretch};
+use proved_tokens::proc_macro2::{pieces, PieceKind, TokenStream};
+use proved_tokens::relayout::{relayout, White};
 use workloads::random::Random;
 use workloads::texts::{size, source};
 

@@ -1,10 +1,10 @@
 //! Writing code by templates, and items taken apart and put together.
 use crate::noted::Noted;
 use crate::trees::{ask_values, note, parsed};
-use proved::proc_macro2::{
+use proved_tokens::proc_macro2::{
     Delimiter, Group, Ident, Literal, Punct, SourceMap, Spacing, Span, TokenStream, TokenTree,
 };
-use proved::quoting::{Hole, Quote};
+use proved_tokens::quoting::{Hole, Quote};
 use workloads::random::Random;
 
 const FIELD: &str = "pub #field: #of";

@@ -1,8 +1,8 @@
 //! Printing and listing the tokens of files, and values.
 use crate::noted::Noted;
 use crate::trees::{ask_values, note, parsed};
-use proved::proc_macro2::{place_trees, reprint, TokenTree};
-use proved::token_buffer::{Cursor, LiteralText, TokenBuffer, TokenText};
+use proved_tokens::proc_macro2::{place_trees, reprint, TokenTree};
+use proved_tokens::token_buffer::{Cursor, LiteralText, TokenBuffer, TokenText};
 use workloads::random::Random;
 use workloads::texts::{size, source, table};
 

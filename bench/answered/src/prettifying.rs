@@ -1,8 +1,8 @@
 //! Making generated code readable.
 use crate::noted::Noted;
 use crate::trees::{note, parsed};
-use proved::pretty_printer::to_pretty_string;
-use proved::relayout::with_doc_comments;
+use proved_tokens::pretty_printer::to_pretty_string;
+use proved_tokens::relayout::with_doc_comments;
 use workloads::random::Random;
 use workloads::texts::{size, source};
 
@@ -18,7 +18,7 @@ pub fn ask(random: &mut Random, files: u64, items: &[&str], noted: &mut Noted) {
 }
 
 /// Notes the stream's pretty text, and that with doc comments.
-pub fn pretty(stream: &proved::proc_macro2::TokenStream, noted: &mut Noted) {
+pub fn pretty(stream: &proved_tokens::proc_macro2::TokenStream, noted: &mut Noted) {
     let pretty = to_pretty_string(stream).expect("the stream can be laid out");
     noted.text(pretty.as_str());
     noted.shown(&with_doc_comments(pretty.as_str()));

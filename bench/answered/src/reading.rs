@@ -1,8 +1,8 @@
 //! Reading files into one map: trees, spans, items.
 use crate::noted::Noted;
 use crate::trees::{ask_span, ask_spans, note};
-use proved::declarations::{parse_file, split_attributes, split_visibility, AnyItem};
-use proved::proc_macro2::{SourceMap, Span, TokenStream, TokenTree};
+use proved_tokens::declarations::{parse_file, split_attributes, split_visibility, AnyItem};
+use proved_tokens::proc_macro2::{SourceMap, Span, TokenStream, TokenTree};
 use workloads::random::Random;
 use workloads::texts::{size, source};
 

@@ -1,7 +1,7 @@
 //! All that trees and spans answer.
 use crate::noted::Noted;
-use proved::proc_macro2::{Literal, SourceMap, Span, TokenStream, TokenTree};
-use proved::pm_stream::Step;
+use proved_tokens::proc_macro2::{Literal, SourceMap, Span, TokenStream, TokenTree};
+use proved_tokens::pm_stream::Step;
 
 /// The trees of a text that parses.
 pub fn parsed(text: &str) -> TokenStream {

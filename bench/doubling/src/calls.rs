@@ -1,17 +1,17 @@
 //! The calls that take a text or a stream. What drops an answer is counted with the call.
-use proved::declarations::{
+use proved_tokens::declarations::{
     parse_file, split_any_item, split_attribute, split_attributes, split_bounds, split_expression,
     split_field, split_fields, split_generics, split_item, split_type, split_variants, split_where,
 };
-use proved::explain::{advice, explain};
-use proved::layout::{text_with, Chooser, Gap, Place};
-use proved::lexical::pieces;
-use proved::literal_escaper::{unescape_byte_str, unescape_str};
-use proved::pretty_printer::to_pretty_string;
-use proved::proc_macro2::{place_trees, reprint, Ident, Literal, SourceMap, Span, TokenStream, TokenTree};
-use proved::quoting::{Hole, Quote};
-use proved::relayout::{relayout, with_doc_comments, White};
-use proved::token_buffer::TokenBuffer;
+use proved_tokens::explain::{advice, explain};
+use proved_tokens::layout::{text_with, Chooser, Gap, Place};
+use proved_tokens::lexical::pieces;
+use proved_tokens::literal_escaper::{unescape_byte_str, unescape_str};
+use proved_tokens::pretty_printer::to_pretty_string;
+use proved_tokens::proc_macro2::{place_trees, reprint, Ident, Literal, SourceMap, Span, TokenStream, TokenTree};
+use proved_tokens::quoting::{Hole, Quote};
+use proved_tokens::relayout::{relayout, with_doc_comments, White};
+use proved_tokens::token_buffer::TokenBuffer;
 use std::hint::black_box;
 use std::sync::atomic::{AtomicUsize, Ordering};
 

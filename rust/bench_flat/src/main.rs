@@ -6,7 +6,7 @@
 mod measure;
 
 use proc_macro2::{TokenStream, TokenTree};
-use proved::token_buffer::{Cursor, TokenBuffer, TokenText};
+use proved_tokens::token_buffer::{Cursor, TokenBuffer, TokenText};
 use std::env;
 use std::error::Error;
 use std::hint::black_box;
@@ -99,10 +99,10 @@ fn main() -> Result<(), Box<dyn Error>> {
 }
 
 /// The same, of the trees that are made of a buffer.
-fn walk_made(trees: &[proved::proc_macro2::TokenTree]) -> usize {
+fn walk_made(trees: &[proved_tokens::proc_macro2::TokenTree]) -> usize {
     let mut count = trees.len();
     for tree in trees {
-        if let proved::proc_macro2::TokenTree::Group(group) = tree {
+        if let proved_tokens::proc_macro2::TokenTree::Group(group) = tree {
             count += walk_made(group.stream_ref().trees());
         }
     }

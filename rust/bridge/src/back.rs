@@ -1,8 +1,8 @@
 //! From proved tokens back to the caller's.
 use crate::spans::{NoToken, Spans};
 use proc_macro2::{Delimiter, Group, Ident, Literal, Punct, Spacing, Span, TokenTree};
-use proved::pm_stream::{Group as OwnGroup, TokenStream, TokenTree as OwnTree};
-use proved::pm_token::{Delimiter as OwnDelimiter, Spacing as OwnSpacing};
+use proved_tokens::pm_stream::{Group as OwnGroup, TokenStream, TokenTree as OwnTree};
+use proved_tokens::pm_token::{Delimiter as OwnDelimiter, Spacing as OwnSpacing};
 use std::fmt::Write;
 use std::mem;
 use std::slice;

@@ -1,10 +1,10 @@
-//! Token streams of any `proc-macro2` as those of [`proved`], and back, each token with its caller's span.
+//! Token streams of any `proc-macro2` as those of [`proved_tokens`], and back, each token with its caller's span.
 //!
 //! What the public crate lacks can be asked of the proved stream, whichever `proc-macro2` a project has: no dependency
 //! is replaced. It is so inside macros too, where the tokens are the compiler's.
 //!
 //! ```
-//! use proved_bridge::{from_proved, to_proved, Spans};
+//! use proved_macros::{from_proved, to_proved, Spans};
 //!
 //! let input: proc_macro2::TokenStream = "fn f(x: u8) -> u8 { x + 1 }".parse()?;
 //! let mut spans = Spans::new();
@@ -30,7 +30,7 @@ pub use back::from_proved;
 pub use over::to_proved;
 #[cfg(feature = "pretty_printer")]
 pub use pretty::{pretty, PrettyError};
-pub use proved;
+pub use proved_tokens;
 pub use spans::{NoToken, Spans};
 
 /// The examples of the page that describes this package, and of the repository's page on moving here, which is not in

@@ -1,9 +1,9 @@
 //! From the caller's tokens to proved ones.
 use crate::spans::{NoToken, Spans};
 use proc_macro2::{token_stream, Delimiter, Spacing};
-use proved::pm_span::Span;
-use proved::pm_stream::{Group, TokenStream, TokenTree};
-use proved::pm_token::{Delimiter as OwnDelimiter, Ident, Literal, Punct, Spacing as OwnSpacing};
+use proved_tokens::pm_span::Span;
+use proved_tokens::pm_stream::{Group, TokenStream, TokenTree};
+use proved_tokens::pm_token::{Delimiter as OwnDelimiter, Ident, Literal, Punct, Spacing as OwnSpacing};
 use std::fmt::Write;
 use std::mem;
 
@@ -22,8 +22,8 @@ struct Open {
 ///
 /// # Errors
 ///
-/// The first token that isn't one of the grammar of `proved`, as a literal that only the caller's crate reads: of the
-/// public crate `'''`. The table then keeps the spans of the trees before it.
+/// The first token that isn't one of the grammar of `proved-tokens`, as a literal that only the caller's crate reads: of
+/// the public crate `'''`. The table then keeps the spans of the trees before it.
 pub fn to_proved(stream: &proc_macro2::TokenStream, spans: &mut Spans) -> Result<TokenStream, NoToken> {
     let mut open: Vec<Open> = Vec::new();
     let mut trees = TokenStream::new();

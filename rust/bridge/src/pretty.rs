@@ -1,8 +1,8 @@
 //! Streams printed for people.
 use crate::{to_proved, NoToken, Spans};
-use proved::pretty_printer::to_pretty_string;
-use proved::quoting::QuoteError;
-use proved::relayout::{with_doc_comments, RelayoutError};
+use proved_tokens::pretty_printer::to_pretty_string;
+use proved_tokens::quoting::QuoteError;
+use proved_tokens::relayout::{with_doc_comments, RelayoutError};
 use std::error::Error;
 use std::fmt::{self, Display};
 
@@ -14,14 +14,15 @@ use std::fmt::{self, Display};
 /// ```
 /// let code: proc_macro2::TokenStream = "/** Of x.*/fn f(x:u8)->u8{match x{0=>1,_=>x}}".parse()?;
 /// let text = "/// Of x.\nfn f(x: u8) -> u8 {\n    match x {\n        0 => 1,\n        _ => x\n    }\n}\n";
-/// assert_eq!(proved_bridge::pretty(&code)?, text);
+/// assert_eq!(proved_macros::pretty(&code)?, text);
 /// # Ok::<(), Box<dyn std::error::Error>>(())
 /// ```
 ///
 /// # Errors
 ///
-/// `NoToken` where a token isn't one of the grammar of `proved`, and `Quote` where no spacing of the marks lets the
-/// stream come back from a text: a group without delimiters, as macros by example make, or a `'` with nothing after it.
+/// `NoToken` where a token isn't one of the grammar of `proved-tokens`, and `Quote` where no spacing of the marks lets
+/// the stream come back from a text: a group without delimiters, as macros by example make, or a `'` with nothing after
+/// it.
 pub fn pretty(stream: &proc_macro2::TokenStream) -> Result<String, PrettyError> {
     let stream = to_proved(stream, &mut Spans::new()).map_err(PrettyError::NoToken)?;
     let text = to_pretty_string(&stream).map_err(PrettyError::Quote)?;

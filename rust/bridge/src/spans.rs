@@ -1,12 +1,12 @@
 //! The caller's spans, by number.
 use proc_macro2::{Group, Span, TokenTree};
-use proved::pm_span::parts::{bounds, span_of};
-use proved::pm_span::Span as Place;
+use proved_tokens::pm_span::parts::{bounds, span_of};
+use proved_tokens::pm_span::Span as Place;
 use std::error::Error;
 use std::fmt::{self, Display};
 
-/// The first number. The positions of texts that are read into a map of `proved` are below it, so that the spans of a
-/// template's tokens stand for no token of the caller.
+/// The first number. The positions of texts that are read into a map of `proved-tokens` are below it, so that the spans of
+/// a template's tokens stand for no token of the caller.
 const FIRST: u32 = 1 << 31;
 
 /// The caller's spans, each of which a span of a proved token stands for.

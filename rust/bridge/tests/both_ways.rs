@@ -1,9 +1,9 @@
 //! Streams go over to proved ones and come back, over whichever `proc-macro2` this is built with.
 use proc_macro2::{Delimiter, Group, Ident, Literal, Punct, Spacing, Span, TokenStream, TokenTree};
-use proved::pm_stream::{TokenStream as Own, TokenTree as OwnTree};
-use proved::pm_token::Ident as OwnIdent;
-use proved::proc_macro2::SourceMap;
-use proved_bridge::{from_proved, proved, to_proved, NoToken, Spans};
+use proved_macros::{from_proved, proved_tokens, to_proved, NoToken, Spans};
+use proved_tokens::pm_stream::{TokenStream as Own, TokenTree as OwnTree};
+use proved_tokens::pm_token::Ident as OwnIdent;
+use proved_tokens::proc_macro2::SourceMap;
 use std::error::Error;
 
 const TEXTS: [&str; 12] = [
@@ -127,7 +127,7 @@ fn a_group_in_which_something_was_changed_keeps_its_span() -> Result<(), Box<dyn
     };
     let Ok(mut inside) = group.stream();
     let Ok(()) = inside.extend_streams([Own::parse_unmapped("d")?]);
-    let mut changed = proved::pm_stream::Group::new(group.delimiter(), inside);
+    let mut changed = proved_tokens::pm_stream::Group::new(group.delimiter(), inside);
     changed.set_span(group.span());
     let Ok(changed) = Own::from_tree(changed.into());
     let (back, was) = (facts(&from_proved(&changed, &spans)?), facts(&stream));
@@ -204,7 +204,7 @@ fn a_token_that_the_caller_lacks_is_an_error() -> Result<(), Box<dyn Error>> {
 #[test]
 #[cfg(feature = "quoting")]
 fn a_template_takes_tokens_of_the_caller() -> Result<(), Box<dyn Error>> {
-    use proved::quoting::{Hole, Quote};
+    use proved_tokens::quoting::{Hole, Quote};
     let name: TokenStream = "\n\n name".parse()?;
     let mut spans = Spans::new();
     let name = to_proved(&name, &mut spans)?;
@@ -224,7 +224,7 @@ fn a_template_takes_tokens_of_the_caller() -> Result<(), Box<dyn Error>> {
 #[test]
 #[cfg(feature = "pretty_printer")]
 fn a_stream_is_printed_for_people_where_it_comes_back_from_a_text() {
-    use proved_bridge::{pretty, PrettyError};
+    use proved_macros::{pretty, PrettyError};
 
     // `+` can't be joined with a name, and is printed apart from it.
     let plus = TokenTree::Punct(Punct::new('+', Spacing::Joint));

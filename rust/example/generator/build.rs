@@ -1,6 +1,6 @@
 //! Writes an enum from the lines of a table.
 use proc_macro2::{Ident, Literal, Span, TokenStream};
-use proved_bridge::pretty;
+use proved_macros::pretty;
 use quote::quote;
 use std::error::Error;
 use std::path::Path;

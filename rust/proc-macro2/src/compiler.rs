@@ -2,7 +2,7 @@
 #[cfg(span_locations)]
 use crate::LineColumn;
 use crate::{LexError, TokenTree};
-use proved::pm_span::Span as Place;
+use proved_tokens::pm_span::Span as Place;
 use std::fmt::{self, Debug};
 use std::panic;
 use std::str::FromStr;

@@ -5,7 +5,7 @@ use crate::repr::{show, token, Repr};
 use crate::span::Repr as SpanRepr;
 use crate::{compiler, print, Delimiter, Span, TokenStream};
 use proc_macro::Delimiter as CompilerDelimiter;
-use proved::pm_stream::Group as Own;
+use proved_tokens::pm_stream::Group as Own;
 use std::fmt::{self, Debug, Display};
 
 /// Trees between delimiters.

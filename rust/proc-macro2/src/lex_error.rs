@@ -1,7 +1,7 @@
 //! Why a text is refused.
 use crate::repr::{show, Repr};
 use crate::Span;
-use proved::pm_span::Span as Place;
+use proved_tokens::pm_span::Span as Place;
 use std::error::Error;
 use std::fmt::{self, Debug, Display};
 

@@ -1,8 +1,8 @@
 //! Token streams, as the crate `proc-macro2` offers them to macros, build scripts, generators and tests: read, built,
 //! printed and compared by proved functions.
 //!
-//! Outside of macros all tokens are those of the package `proved`, whose functions were made from proved ones. What is
-//! left to this package is to have a source map for each thread, to write floats, to show tokens without their spans,
+//! Outside of macros all tokens are those of the package `proved-tokens`, whose functions were made from proved ones. What
+//! is left to this package is to have a source map for each thread, to write floats, to show tokens without their spans,
 //! and to panic where the public crate does. Inside a macro the tokens are the compiler's own.
 //!
 //! ```
@@ -40,12 +40,12 @@ pub use literal::ConversionErrorKind;
 pub use literal::Literal;
 #[cfg(procmacro2_semver_exempt)]
 #[doc(inline)]
-pub use proved::literal_escaper::EscapeError;
+pub use proved_tokens::literal_escaper::EscapeError;
 #[cfg(span_locations)]
 #[doc(inline)]
-pub use proved::pm_span::LineColumn;
+pub use proved_tokens::pm_span::LineColumn;
 #[doc(inline)]
-pub use proved::pm_token::{Delimiter, Spacing};
+pub use proved_tokens::pm_token::{Delimiter, Spacing};
 pub use punct::Punct;
 pub use span::Span;
 pub use stream::TokenStream;

@@ -3,11 +3,11 @@ use crate::map::{self, sure};
 use crate::repr::{show, token, Repr};
 use crate::span::Repr as SpanRepr;
 use crate::{compiler, print, LexError, Span};
-use proved::pm_span::Span as Place;
-use proved::pm_token::Literal as Own;
-use proved::shim;
+use proved_tokens::pm_span::Span as Place;
+use proved_tokens::pm_token::Literal as Own;
+use proved_tokens::shim;
 #[cfg(procmacro2_semver_exempt)]
-use proved::{literal_escaper::EscapeError, pm_token::ConversionErrorKind as OwnErrorKind};
+use proved_tokens::{literal_escaper::EscapeError, pm_token::ConversionErrorKind as OwnErrorKind};
 use std::ffi::CStr;
 use std::fmt::{self, Debug, Display};
 use std::ops::RangeBounds;

@@ -1,9 +1,9 @@
 //! The source map of the thread, and answers that can't be errors.
-pub(crate) use proved::pm_span::SourceMap;
-use proved::pm_span::Span;
-use proved::pm_stream::TokenStream;
-use proved::pm_token::ParseError;
-use proved::shim::alloc::AllocError;
+pub(crate) use proved_tokens::pm_span::SourceMap;
+use proved_tokens::pm_span::Span;
+use proved_tokens::pm_stream::TokenStream;
+use proved_tokens::pm_token::ParseError;
+use proved_tokens::shim::alloc::AllocError;
 use std::cell::RefCell;
 
 thread_local! {

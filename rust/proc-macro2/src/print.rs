@@ -1,6 +1,6 @@
 //! How streams and tokens are shown without spans.
-use proved::pm_stream::{Group, TokenStream, TokenTree};
-use proved::pm_token::{Ident, Literal};
+use proved_tokens::pm_stream::{Group, TokenStream, TokenTree};
+use proved_tokens::pm_token::{Ident, Literal};
 use std::fmt::{Debug, Formatter, Result};
 
 /// Shows a value with its spans, where there are span locations, and else without, by `show`.

@@ -2,7 +2,7 @@
 use crate::repr::{token, Repr};
 use crate::span::Repr as SpanRepr;
 use crate::{compiler, Spacing, Span};
-use proved::pm_token::Punct as Own;
+use proved_tokens::pm_token::Punct as Own;
 use std::fmt::{self, Debug, Display};
 
 /// A punctuation mark, which is one character.

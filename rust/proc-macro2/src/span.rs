@@ -1,8 +1,8 @@
 //! Where tokens stand.
 use crate::compiler;
 use crate::map::{self, sure};
-use proved::pm_span::Span as Place;
-use proved::pm_token::parts::show_span;
+use proved_tokens::pm_span::Span as Place;
+use proved_tokens::pm_token::parts::show_span;
 use std::fmt::{self, Debug};
 
 /// Where a token stands, and inside a macro how its names are resolved.

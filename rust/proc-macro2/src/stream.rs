@@ -4,7 +4,7 @@ use crate::map::{self, sure};
 use crate::print::ShownStream;
 use crate::repr::{show, Repr};
 use crate::{Group, Ident, LexError, Literal, Punct, TokenTree};
-use proved::pm_stream::{parts, token_stream::IntoIter as OwnIter, TokenStream as Own, TokenTree as OwnTree};
+use proved_tokens::pm_stream::{parts, token_stream::IntoIter as OwnIter, TokenStream as Own, TokenTree as OwnTree};
 use std::fmt::{self, Debug, Display};
 use std::str::FromStr;
 

@@ -4,7 +4,7 @@
 //! the delimiter that was open there. [`advice`] finds a change that helps, if there is one.
 //!
 //! ```
-//! use proved::check::{explain, Reason};
+//! use proved_tokens::check::{explain, Reason};
 //!
 //! assert!(explain("f(x)")?.is_none());
 //! let explained = explain("f(\"x)")?.ok_or("it does not parse")?;

@@ -4,7 +4,7 @@
 //! token with the text that it has in the source and the cursor after it.
 //!
 //! ```
-//! use proved::cursor::TokenBuffer;
+//! use proved_tokens::cursor::TokenBuffer;
 //!
 //! let buffer = TokenBuffer::new("f(x, 1)")?;
 //! let (name, after) = buffer.begin().ident().ok_or("no name")?;

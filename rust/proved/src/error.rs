@@ -4,8 +4,8 @@
 //! text or a stream is wrong have `span`.
 //!
 //! ```
-//! use proved::error::{IdentError, ParseError};
-//! use proved::{Ident, SourceMap, Span, TokenStream};
+//! use proved_tokens::error::{IdentError, ParseError};
+//! use proved_tokens::{Ident, SourceMap, Span, TokenStream};
 //!
 //! let mut map = SourceMap::new();
 //! let fault = TokenStream::from_str("f(\n  ]", &mut map).unwrap_err();

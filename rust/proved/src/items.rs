@@ -6,8 +6,8 @@
 //! are not read. The functions named `split` cut off the part that stands first.
 //!
 //! ```
-//! use proved::items::{parse_file, ItemKind};
-//! use proved::{SourceMap, TokenStream};
+//! use proved_tokens::items::{parse_file, ItemKind};
+//! use proved_tokens::{SourceMap, TokenStream};
 //!
 //! let mut map = SourceMap::new();
 //! let stream = TokenStream::from_str("struct S;\n\npub fn f() {}", &mut map)?;
@@ -25,8 +25,8 @@
 //!
 //! ```
 //! # #[cfg(feature = "item_headers")] {
-//! use proved::items::{impl_header, parse_type_item};
-//! use proved::TokenStream;
+//! use proved_tokens::items::{impl_header, parse_type_item};
+//! use proved_tokens::TokenStream;
 //!
 //! let stream: TokenStream = "struct S<'a, T: A = B>(&'a T) where T: C;".parse()?;
 //! let item = parse_type_item(stream.trees())?;
@@ -39,8 +39,8 @@
 //! A part that stands first, or where it is wrong:
 //!
 //! ```
-//! use proved::items::{split_field, split_variants};
-//! use proved::TokenStream;
+//! use proved_tokens::items::{split_field, split_variants};
+//! use proved_tokens::TokenStream;
 //!
 //! let stream: TokenStream = "pub a: Vec<A, B>, b: C".parse()?;
 //! let (field, rest) = split_field(stream.trees())?;

@@ -1,7 +1,7 @@
 //! Rust source text as token trees: read it, walk it, build it and print it, by proved functions.
 //!
 //! ```
-//! use proved::{SourceMap, TokenStream};
+//! use proved_tokens::{SourceMap, TokenStream};
 //!
 //! let stream: TokenStream = "fn f(x: u8) -> u8 { x+1 }".parse()?;
 //! assert_eq!(stream.to_string(), "fn f (x : u8) -> u8 { x + 1 }");
@@ -27,7 +27,7 @@
 //! # Features
 //!
 //! No feature is on by default. Turn on those that you need: `features = ["items", "quote"]`. To convert streams from
-//! and to those of `proc-macro2`, as in a macro, take the package `proved-bridge`, which has this one inside it.
+//! and to those of `proc-macro2`, as in a macro, take the package `proved-macros`, which has this one inside it.
 //!
 //! # What is proved
 //!

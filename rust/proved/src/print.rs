@@ -6,8 +6,8 @@
 //!
 //! ```
 //! # #[cfg(feature = "print")] {
-//! use proved::print::{relayout, text_with, to_pretty_string, Chooser, Gap, Place, White};
-//! use proved::TokenStream;
+//! use proved_tokens::print::{relayout, text_with, to_pretty_string, Chooser, Gap, Place, White};
+//! use proved_tokens::TokenStream;
 //!
 //! let stream: TokenStream = "fn f(x:u8)->u8{x+1}".parse()?;
 //! assert_eq!(to_pretty_string(&stream)?, "fn f(x: u8) -> u8 {\n    x + 1\n}\n");

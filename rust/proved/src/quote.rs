@@ -4,8 +4,8 @@
 //! turn. What [`Quote::finish`] gives can be printed and read again as the same stream, up to spans.
 //!
 //! ```
-//! use proved::quote::{Hole, Quote};
-//! use proved::{SourceMap, TokenStream};
+//! use proved_tokens::quote::{Hole, Quote};
+//! use proved_tokens::{SourceMap, TokenStream};
 //!
 //! let mut map = SourceMap::new();
 //! let name: TokenStream = "size".parse()?;

@@ -5,7 +5,7 @@
 //! the content of a literal between its quotes. Those named `check` only look for errors in it.
 //!
 //! ```
-//! use proved::text::{pieces, reprint, unescape_str, PieceKind};
+//! use proved_tokens::text::{pieces, reprint, unescape_str, PieceKind};
 //!
 //! let mut walk = pieces("x += 1; // one");
 //! let mut texts = Vec::new();

@@ -5,8 +5,8 @@
 //! also where each group ends. Both are iterators, and both can pass over a group.
 //!
 //! ```
-//! use proved::walk::Step;
-//! use proved::{SourceMap, TokenStream, TokenTree};
+//! use proved_tokens::walk::Step;
+//! use proved_tokens::{SourceMap, TokenStream, TokenTree};
 //!
 //! let mut map = SourceMap::new();
 //! let stream = TokenStream::from_str("f(a,\n  g[b])", &mut map)?;

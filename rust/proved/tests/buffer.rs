@@ -1,9 +1,9 @@
 //! Each source of this repository as a buffer: its cursors say what the stream of the same text has.
 
-use proved::pm_span::parts::bounds;
-use proved::pm_token::Delimiter;
-use proved::proc_macro2::{Spacing, TokenStream, TokenTree};
-use proved::token_buffer::{BufferError, Cursor, LiteralText, TokenBuffer, TokenText};
+use proved_tokens::pm_span::parts::bounds;
+use proved_tokens::pm_token::Delimiter;
+use proved_tokens::proc_macro2::{Spacing, TokenStream, TokenTree};
+use proved_tokens::token_buffer::{BufferError, Cursor, LiteralText, TokenBuffer, TokenText};
 use std::fs;
 use std::path::{Path, PathBuf};
 

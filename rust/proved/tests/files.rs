@@ -2,7 +2,7 @@
 //!
 //! The latter is the program `tokens` at `crates/tokens/out/tokens`, or where the variable `TOKENS` says.
 
-use proved::proc_macro2::{ParseError, SourceMap, TokenStream};
+use proved_tokens::proc_macro2::{ParseError, SourceMap, TokenStream};
 use std::env;
 use std::fs;
 use std::path::{Path, PathBuf};

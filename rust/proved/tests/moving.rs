@@ -4,15 +4,15 @@
 #![cfg(feature = "token_buffer")]
 #![cfg(feature = "quoting")]
 #![cfg(feature = "pretty_printer")]
-use proved::cursor::TokenBuffer;
-use proved::items::{
+use proved_tokens::cursor::TokenBuffer;
+use proved_tokens::items::{
     compile_error, impl_generics, impl_header, impl_header_where, parse_file, parse_param, parse_type_item,
     type_generics, where_clause, where_clause_with_bound, within_generics, Attributes, Body, ParamKind,
 };
-use proved::print::to_pretty_string;
-use proved::quote::{Hole, Quote};
-use proved::text::{pieces, reprint, unescape_str, PieceKind};
-use proved::{Delimiter, Ident, Literal, SourceMap, Span, TokenStream, TokenTree};
+use proved_tokens::print::to_pretty_string;
+use proved_tokens::quote::{Hole, Quote};
+use proved_tokens::text::{pieces, reprint, unescape_str, PieceKind};
+use proved_tokens::{Delimiter, Ident, Literal, SourceMap, Span, TokenStream, TokenTree};
 use std::error::Error;
 
 type Outcome = Result<(), Box<dyn Error>>;
@@ -53,7 +53,7 @@ fn calls_in_place_of_proc_macro2s_on_streams() -> Outcome {
     let mut names = Vec::new();
     for tree in stream.walk() {
         if let TokenTree::Ident(ident) = tree.clone() {
-            assert_eq!(ident == "fn", ident.to_string() == "fn");
+            assert!((ident == "fn") == ident.eq_str("fn"));
             names.push(ident.to_string());
         }
     }
@@ -209,7 +209,8 @@ fn has(code: &str, piece: &str) -> bool {
     let Some((front, back)) = piece.split_once("..") else {
         return code.contains(piece);
     };
-    code.match_indices(front).any(|(at, _)| code[at + front.len()..].split(';').next().is_some_and(|rest| has(rest, back)))
+    code.match_indices(front)
+        .any(|(at, _)| code[at + front.len()..].split(';').next().is_some_and(|rest| has(rest, back)))
 }
 
 #[test]

@@ -1,17 +1,17 @@
 //! What Rust's users expect of the types: the traits of std, and `?` on every call that docs/MOVING.md and the READMEs
 //! show.
 #![cfg(all(feature = "explain", feature = "relayout", feature = "pretty_printer", feature = "item_headers"))]
-use proved::check::explain;
-use proved::cursor::TokenBuffer;
-use proved::items::{
+use proved_tokens::check::explain;
+use proved_tokens::cursor::TokenBuffer;
+use proved_tokens::items::{
     compile_error, impl_generics, impl_header, impl_header_where, parse_file, parse_param, parse_type_item,
     type_generics, where_clause, where_clause_with_bound, Attributes, Body, Fields,
 };
-use proved::print::{to_pretty_string, with_doc_comments};
-use proved::quote::{Hole, Quote};
-use proved::text::{pieces, place_trees, reprint, unescape_str};
-use proved::walk::Step;
-use proved::{Delimiter, Group, Ident, Literal, Punct, SourceMap, Spacing, Span, TokenStream, TokenTree};
+use proved_tokens::print::{to_pretty_string, with_doc_comments};
+use proved_tokens::quote::{Hole, Quote};
+use proved_tokens::text::{pieces, place_trees, reprint, unescape_str};
+use proved_tokens::walk::Step;
+use proved_tokens::{Delimiter, Group, Ident, Literal, Punct, SourceMap, Spacing, Span, TokenStream, TokenTree};
 use std::error::Error;
 
 type Outcome = Result<(), Box<dyn Error>>;
@@ -143,20 +143,20 @@ fn the_traits_of_std_are_there() -> Outcome {
 #[test]
 fn errors_have_texts_sources_spans_and_are_compared() -> Outcome {
     fn is_error<E: Error + PartialEq + Send + Sync + 'static>() {}
-    is_error::<proved::shim::alloc::AllocError>();
-    is_error::<proved::literal_escaper::EscapeError>();
-    is_error::<proved::proc_macro2::LexError>();
-    is_error::<proved::proc_macro2::ParseError>();
-    is_error::<proved::proc_macro2::IdentError>();
-    is_error::<proved::proc_macro2::ConversionErrorKind>();
-    is_error::<proved::token_buffer::BufferError>();
-    is_error::<proved::quoting::QuoteError>();
-    is_error::<proved::quoting::TemplateError>();
-    is_error::<proved::explain::ExplainError>();
-    is_error::<proved::layout::LayoutError>();
-    is_error::<proved::relayout::RelayoutError>();
-    is_error::<proved::declarations::Fault>();
-    is_error::<proved::item_headers::HeaderError>();
+    is_error::<proved_tokens::shim::alloc::AllocError>();
+    is_error::<proved_tokens::literal_escaper::EscapeError>();
+    is_error::<proved_tokens::proc_macro2::LexError>();
+    is_error::<proved_tokens::proc_macro2::ParseError>();
+    is_error::<proved_tokens::proc_macro2::IdentError>();
+    is_error::<proved_tokens::proc_macro2::ConversionErrorKind>();
+    is_error::<proved_tokens::token_buffer::BufferError>();
+    is_error::<proved_tokens::quoting::QuoteError>();
+    is_error::<proved_tokens::quoting::TemplateError>();
+    is_error::<proved_tokens::explain::ExplainError>();
+    is_error::<proved_tokens::layout::LayoutError>();
+    is_error::<proved_tokens::relayout::RelayoutError>();
+    is_error::<proved_tokens::declarations::Fault>();
+    is_error::<proved_tokens::item_headers::HeaderError>();
     fn fails<E: Error + PartialEq>(error: Option<E>, text: &str, has_source: bool) {
         let error = error.expect("it fails");
         assert_eq!((error.to_string().as_str(), error.source().is_some()), (text, has_source));

@@ -1,14 +1,14 @@
 //! Rust's `Display` of each type that has one writes the text that Rattle's writes, also into a writer that fails.
 
-use proved::declarations::Fault;
-use proved::item_headers::HeaderError;
-use proved::proc_macro2::TokenTree;
-use proved::proc_macro2::{
+use proved_tokens::declarations::Fault;
+use proved_tokens::item_headers::HeaderError;
+use proved_tokens::proc_macro2::TokenTree;
+use proved_tokens::proc_macro2::{
     Delimiter, Group, Ident, IdentError, Literal, ParseError, Punct, Spacing, Span, TokenStream,
 };
-use proved::quoting::{QuoteError, TemplateError};
-use proved::shim::fmt;
-use proved::token_buffer::{BufferError, TokenBuffer};
+use proved_tokens::quoting::{QuoteError, TemplateError};
+use proved_tokens::shim::fmt;
+use proved_tokens::token_buffer::{BufferError, TokenBuffer};
 use std::fmt::{Error, Result, Write};
 
 /// A writer with room for `left` more bytes. It rejects a text that doesn't fit, or takes the front of it.

@@ -3,7 +3,7 @@
 //! A command does what the program of its crate does: `tokens find` what `find_calls` does, `tokens check` what
 //! `rust_check` does, `tokens print` and `tokens spans` what `tokens` does, and each other what the program of its own
 //! name does. Each module below is by hand: it does what `main.rt` of that crate does, over the streams and files of
-//! [`proved::shim::process`].
+//! [`proved_tokens::shim::process`].
 
 mod check;
 mod find;
@@ -21,8 +21,8 @@ mod words;
 use crate::messages::{say, status, Failure};
 use hints::Hints;
 use list::{Command, COMMANDS};
-use proved::shim::fs::stand_for;
-use proved::shim::process::{ExitCode, HostRuntime};
+use proved_tokens::shim::fs::stand_for;
+use proved_tokens::shim::process::{ExitCode, HostRuntime};
 use std::ffi::OsString;
 use std::io::Write;
 

@@ -1,6 +1,7 @@
 //! The program `tokens`, and what its [commands] call.
 //!
-//! Each module but `commands` is a crate of `crates/`, made into plain Rust by `rust/erase` as those of [`proved`] are.
+//! Each module but `commands` is a crate of `crates/`, made into plain Rust by `rust/erase` as those of
+//! [`proved_tokens`] are.
 #![forbid(unsafe_code)]
 
 pub mod commands;

@@ -1,6 +1,6 @@
-//! The program `tokens`: see [`tools::commands`].
+//! The program `tokens`: see [`tokens::commands`].
 #![forbid(unsafe_code)]
 
 fn main() -> std::process::ExitCode {
-    tools::commands::run()
+    tokens::commands::run()
 }

@@ -1,9 +1,9 @@
 //! Why a job ends early: what the derives of `crates/workloads/src/fails.rt` write.
 
-use proved::proc_macro2::{IdentError, ParseError};
-use proved::quoting::{QuoteError, TemplateError};
-use proved::shim::alloc::{AllocError, AllocFailed};
-use proved::token_buffer::BufferError;
+use proved_tokens::proc_macro2::{IdentError, ParseError};
+use proved_tokens::quoting::{QuoteError, TemplateError};
+use proved_tokens::shim::alloc::{AllocError, AllocFailed};
+use proved_tokens::token_buffer::BufferError;
 use std::io;
 
 /// Why a job ends early.

@@ -1,8 +1,8 @@
-//! What the jobs alone name of Rattle's `std`, over the shim of `proved`.
-pub use proved::shim::*;
+//! What the jobs alone name of Rattle's `std`, over the shim of `proved-tokens`.
+pub use proved_tokens::shim::*;
 
 pub mod hash {
-    pub use proved::shim::hash::*;
+    pub use proved_tokens::shim::hash::*;
 
     const START: u64 = 0x243f_6a88_85a3_08d3;
     const MULTIPLIER: u64 = 0x9e37_79b9_7f4a_7c15;

@@ -1,6 +1,6 @@
 //! Reading pieces of one kind, and short texts.
 use crate::calls::{repeat, Row};
-use proved::proc_macro2::{pieces, Ident, Literal, Span, TokenStream};
+use proved_tokens::proc_macro2::{pieces, Ident, Literal, Span, TokenStream};
 use std::hint::black_box;
 
 const DIGITS: &str = "1234567890123456789012345678901234567890123456789012345678901234567890.5 ";

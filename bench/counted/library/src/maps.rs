@@ -1,7 +1,7 @@
 //! Look-ups in source maps.
 use crate::calls::{repeat, Row};
-use proved::pm_span::parts::add_file;
-use proved::proc_macro2::{SourceMap, Span, TokenStream};
+use proved_tokens::pm_span::parts::add_file;
+use proved_tokens::proc_macro2::{SourceMap, Span, TokenStream};
 use std::hint::black_box;
 
 pub const ROWS: &[Row] = &[

@@ -1,8 +1,8 @@
 //! Filling templates, and finishing quotes.
 use crate::calls::{repeat, Row};
 use crate::texts::parsed;
-use proved::proc_macro2::{Punct, Spacing, TokenStream, TokenTree};
-use proved::quoting::{Hole, Quote};
+use proved_tokens::proc_macro2::{Punct, Spacing, TokenStream, TokenTree};
+use proved_tokens::quoting::{Hole, Quote};
 use std::hint::black_box;
 
 const FUNCTION: &str = "pub fn #one(x: &str) -> Vec<u8> { let y = #many; x.bytes().map(|b| b + 1).collect() }";

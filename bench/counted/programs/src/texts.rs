@@ -1,11 +1,11 @@
 //! Calls on whole texts.
 use crate::calls::{repeat, Row};
-use proved::declarations::parse_file;
-use proved::explain::explain;
-use proved::pretty_printer::to_pretty_string;
-use proved::proc_macro2::{place_trees, reprint, SourceMap, TokenStream};
-use proved::relayout::{relayout, with_doc_comments, White};
-use proved::token_buffer::TokenBuffer;
+use proved_tokens::declarations::parse_file;
+use proved_tokens::explain::explain;
+use proved_tokens::pretty_printer::to_pretty_string;
+use proved_tokens::proc_macro2::{place_trees, reprint, SourceMap, TokenStream};
+use proved_tokens::relayout::{relayout, with_doc_comments, White};
+use proved_tokens::token_buffer::TokenBuffer;
 use std::hint::black_box;
 
 const ITEM: &str = "#[derive(Clone)]

@@ -1,8 +1,8 @@
 //! All items of a file, with those of modules, traits, impls and blocks of foreign items, by both sides.
 use proc_macro2::Ident as TheirIdent;
-use proved::declarations::{parse_file, AnyItem, Fault, ItemKind};
-use proved::pm_span::SourceMap;
-use proved::pm_stream::TokenTree;
+use proved_tokens::declarations::{parse_file, AnyItem, Fault, ItemKind};
+use proved_tokens::pm_span::SourceMap;
+use proved_tokens::pm_stream::TokenTree;
 use syn::spanned::Spanned;
 use syn::{File, ForeignItem, ImplItem, Item, TraitItem};
 

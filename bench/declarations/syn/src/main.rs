@@ -12,8 +12,8 @@ mod theirs;
 mod times;
 
 use parts::Part;
-use proved::pm_span::SourceMap;
-use proved::pm_stream::TokenStream as OwnStream;
+use proved_tokens::pm_span::SourceMap;
+use proved_tokens::pm_stream::TokenStream as OwnStream;
 use std::collections::BTreeMap;
 use std::path::{Path, PathBuf};
 use std::{env, fs, io, process, thread};

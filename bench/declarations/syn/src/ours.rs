@@ -1,9 +1,9 @@
 //! The parts of an item by the crate `declarations`.
-use proved::declarations::{
+use proved_tokens::declarations::{
     parse_field, parse_tuple_field, parse_type_item, parse_variant, Body, Fault, Field, Fields,
 };
-use proved::pm_stream::{Group, TokenTree};
-use proved::pm_token::{Delimiter, Ident};
+use proved_tokens::pm_stream::{Group, TokenTree};
+use proved_tokens::pm_token::{Delimiter, Ident};
 
 /// What a part is in the source.
 #[derive(Clone, Copy)]
@@ -30,7 +30,7 @@ impl From<Fault> for Refusal {
 }
 
 /// Calls `part` with the name of each part and what it is, in the order of
-/// [`TypeItem`](proved::declarations::TypeItem).
+/// [`TypeItem`](proved_tokens::declarations::TypeItem).
 ///
 /// # Errors
 ///

@@ -1,8 +1,8 @@
 //! Parts of items as both sides name and print them.
 use crate::ours::Piece;
 use proc_macro2::{Delimiter, TokenStream, TokenTree};
-use proved::pm_stream::TokenTree as OwnTree;
-use proved::pm_token::Delimiter as OwnDelimiter;
+use proved_tokens::pm_stream::TokenTree as OwnTree;
+use proved_tokens::pm_token::Delimiter as OwnDelimiter;
 use std::fmt::{Display, Write};
 
 /// What a part is, and its tokens with a space after each. A part that is left out has none.

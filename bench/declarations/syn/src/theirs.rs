@@ -3,7 +3,7 @@ use crate::parts::Part;
 use quote::{quote, ToTokens};
 use syn::{Attribute, Data, DeriveInput, Fields, Generics, Variant, Visibility, WhereClause};
 
-/// The parts in the order of [`TypeItem`](proved::declarations::TypeItem).
+/// The parts in the order of [`TypeItem`](proved_tokens::declarations::TypeItem).
 pub fn parts(item: &DeriveInput) -> Vec<Part> {
     let mut found = Parts(Vec::new());
     found.attributes(&item.attrs);

@@ -1,6 +1,6 @@
 //! Times of both sides on the same items, lexed before.
 use crate::{every, ours};
-use proved::pm_stream::TokenStream as OwnStream;
+use proved_tokens::pm_stream::TokenStream as OwnStream;
 use std::hint::black_box;
 use std::time::{Duration, Instant};
 use syn::{DeriveInput, File};

@@ -1,8 +1,8 @@
-//! Macros for the tests of `proved-bridge`: they run inside the compiler, and so on the compiler's tokens.
+//! Macros for the tests of `proved-macros`: they run inside the compiler, and so on the compiler's tokens.
 use proc_macro2::{Delimiter, Group, Span, TokenStream, TokenTree};
-use proved_bridge::proved::pm_stream::{Group as OwnGroup, TokenStream as OwnStream, TokenTree as OwnTree};
-use proved_bridge::proved::pm_token::Delimiter as OwnDelimiter;
-use proved_bridge::{from_proved, to_proved, Spans};
+use proved_macros::proved_tokens::pm_stream::{Group as OwnGroup, TokenStream as OwnStream, TokenTree as OwnTree};
+use proved_macros::proved_tokens::pm_token::Delimiter as OwnDelimiter;
+use proved_macros::{from_proved, to_proved, Spans};
 
 /// Leaves an item as it is, after it went over to a proved stream and came back.
 #[proc_macro_attribute]

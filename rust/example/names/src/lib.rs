@@ -1,13 +1,13 @@
-//! A derive over `proved-bridge`, which needs neither syn nor quote: the parts of the item and templates come from the
+//! A derive over `proved-macros`, which needs neither syn nor quote: the parts of the item and templates come from the
 //! proved functions, over whichever `proc-macro2` the project has.
-use proved_bridge::proved::error::{Fault, HeaderError};
-use proved_bridge::proved::items::{
+use proved_macros::proved_tokens::error::{Fault, HeaderError};
+use proved_macros::proved_tokens::items::{
     compile_error, impl_generics, parse_type_item, type_generics, where_clause, AttributeArgs, Attributes, Body, Fields,
     Variant, VariantList,
 };
-use proved_bridge::proved::quote::{Hole, Quote};
-use proved_bridge::proved::{Group, Literal, SourceMap, Span, TokenStream, TokenTree};
-use proved_bridge::{from_proved, to_proved, NoToken, Spans};
+use proved_macros::proved_tokens::quote::{Hole, Quote};
+use proved_macros::proved_tokens::{Group, Literal, SourceMap, Span, TokenStream, TokenTree};
+use proved_macros::{from_proved, to_proved, NoToken, Spans};
 
 const CODE: &str = "
     impl #parameters #name #arguments #clause {

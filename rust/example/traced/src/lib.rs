@@ -1,10 +1,10 @@
-//! An attribute that wraps a function's body, over `proved-bridge`, which needs neither syn nor quote. What the
+//! An attribute that wraps a function's body, over `proved-macros`, which needs neither syn nor quote. What the
 //! function is comes from the proved `parse_item`; all of its tokens but the braces stay as they are.
-use proved_bridge::proved::error::Fault;
-use proved_bridge::proved::items::{compile_error, parse_item, split_inner_attributes, AnyItem, ItemKind};
-use proved_bridge::proved::quote::{Hole, Quote};
-use proved_bridge::proved::{Delimiter, Group, Ident, Literal, SourceMap, Span, TokenStream, TokenTree};
-use proved_bridge::{from_proved, to_proved, NoToken, Spans};
+use proved_macros::proved_tokens::error::Fault;
+use proved_macros::proved_tokens::items::{compile_error, parse_item, split_inner_attributes, AnyItem, ItemKind};
+use proved_macros::proved_tokens::quote::{Hole, Quote};
+use proved_macros::proved_tokens::{Delimiter, Group, Ident, Literal, SourceMap, Span, TokenStream, TokenTree};
+use proved_macros::{from_proved, to_proved, NoToken, Spans};
 
 /// What stands between the inner attributes of the body and its statements, which see none of its names. The guard
 /// speaks however the body is left.

@@ -1,24 +1,24 @@
 //! What tests alone name of Rattle's `std`, over the shim of the package.
-pub use proved::shim::*;
+pub use proved_tokens::shim::*;
 
 pub mod prelude {
     pub use super::alloc::AllocGlobal;
     pub use super::lists::{Collect, Repeat};
     pub(crate) use super::lists::vec_by_shim as vec;
-    pub use proved::shim::prelude::*;
+    pub use proved_tokens::shim::prelude::*;
 }
 
 pub mod alloc {
-    pub use proved::shim::alloc::*;
+    pub use proved_tokens::shim::alloc::*;
 
     /// What hands out the allocator in Rattle, and nothing here.
     pub trait AllocGlobal {}
 
-    impl AllocGlobal for proved::shim::process::HostRuntime {}
+    impl AllocGlobal for proved_tokens::shim::process::HostRuntime {}
 }
 
 pub mod process {
-    pub use proved::shim::process::*;
+    pub use proved_tokens::shim::process::*;
 
     /// What lets a test end with a message.
     pub trait Abort {}
@@ -28,7 +28,7 @@ pub mod process {
 
 pub mod test {
     use super::alloc::{AllocError, AllocFailed};
-    use proved::proc_macro2::{ConversionErrorKind, IdentError, ParseError};
+    use proved_tokens::proc_macro2::{ConversionErrorKind, IdentError, ParseError};
 
     /// Why a test failed.
     #[derive(Debug)]
@@ -52,13 +52,13 @@ pub mod test {
 
     from!(AllocError ConversionErrorKind IdentError ParseError);
     #[cfg(feature = "token_buffer")]
-    from!(proved::token_buffer::BufferError);
+    from!(proved_tokens::token_buffer::BufferError);
     #[cfg(feature = "quoting")]
-    from!(proved::quoting::QuoteError proved::quoting::TemplateError);
+    from!(proved_tokens::quoting::QuoteError proved_tokens::quoting::TemplateError);
     #[cfg(feature = "declarations")]
-    from!(proved::declarations::Fault);
+    from!(proved_tokens::declarations::Fault);
     #[cfg(feature = "item_headers")]
-    from!(proved::item_headers::HeaderError);
+    from!(proved_tokens::item_headers::HeaderError);
 }
 
 pub mod collections {
@@ -114,7 +114,7 @@ pub mod ops {
 
 mod lists {
     use super::alloc::AllocError;
-    use proved::shim::iter::TryFromIterator;
+    use proved_tokens::shim::iter::TryFromIterator;
 
     pub trait Repeat {
         fn repeated(&self, times: usize) -> Result<String, AllocError>;
@@ -139,7 +139,7 @@ mod lists {
 
     /// The list of these items, as `vec![1, 2]`.
     macro_rules! vec_by_shim {
-        ($($items:tt)*) => { Ok::<_, proved::shim::alloc::AllocError>(std::vec![$($items)*]) };
+        ($($items:tt)*) => { Ok::<_, proved_tokens::shim::alloc::AllocError>(std::vec![$($items)*]) };
     }
     pub(crate) use vec_by_shim;
 }

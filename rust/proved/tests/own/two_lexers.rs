@@ -4,7 +4,7 @@ mod slow;
 mod tally;
 
 use compare::compare;
-use proved::literal_escaper::unescape_str;
+use proved_tokens::literal_escaper::unescape_str;
 use std::fs;
 use std::path::Path;
 use tally::Tally;

@@ -5,7 +5,7 @@ use super::help::{of_named, VERSION};
 use crate::messages::Failure;
 use crate::rust_check::files::check_files;
 use crate::rust_check::options::{request_of, Form, Options, Request};
-use proved::shim::process::HostRuntime;
+use proved_tokens::shim::process::HostRuntime;
 use std::io::{BufWriter, Write};
 
 /// Does what the words ask for, and answers the status.

@@ -2,7 +2,7 @@
 
 use crate::find_calls::answer::{print_calls, status};
 use crate::messages::{read_text, say, Failure};
-use proved::shim::process::HostRuntime;
+use proved_tokens::shim::process::HostRuntime;
 use std::io::{BufWriter, Write};
 
 /// Searches what the words ask for, and answers the status.

@@ -4,7 +4,7 @@ use super::conclude;
 use crate::highlight::answer::write_marked;
 use crate::highlight::format::{request_of, Format};
 use crate::messages::{read_text, Failure};
-use proved::shim::process::HostRuntime;
+use proved_tokens::shim::process::HostRuntime;
 use std::io::{BufWriter, Write};
 
 /// Does what the words ask for, and answers the status.

@@ -3,7 +3,7 @@
 use crate::indent::answer::{is_indented, print_text};
 use crate::indent::options::{options_of, Options};
 use crate::messages::{read_text, say, Failure};
-use proved::shim::process::HostRuntime;
+use proved_tokens::shim::process::HostRuntime;
 use std::io::Write;
 
 /// Does what the words ask for, and answers the status.

@@ -2,7 +2,7 @@
 
 use super::{check, find, highlight, indent, outline, pretty, same};
 use crate::messages::Failure;
-use proved::shim::process::HostRuntime;
+use proved_tokens::shim::process::HostRuntime;
 use std::io::Write;
 
 /// What a command does for the words after its name: it says on the writer what fails, and answers the status.

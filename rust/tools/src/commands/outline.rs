@@ -3,7 +3,7 @@
 use crate::messages::Failure;
 use crate::outline::files::list_files;
 use crate::outline::options::options_of;
-use proved::shim::process::HostRuntime;
+use proved_tokens::shim::process::HostRuntime;
 use std::io::{BufWriter, Write};
 
 /// Lists what the words ask for, and answers the status.

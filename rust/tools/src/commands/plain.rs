@@ -4,8 +4,8 @@
 use crate::tokens::command::command;
 use crate::tokens::sinks::WriteSink;
 use crate::tokens::sources::ReadSource;
-use proved::shim::fs::{stand_for, File};
-use proved::shim::process::HostRuntime;
+use proved_tokens::shim::fs::{stand_for, File};
+use proved_tokens::shim::process::HostRuntime;
 use std::ffi::OsString;
 use std::io::{Error, Read, Result};
 

@@ -4,7 +4,7 @@
 use super::conclude;
 use crate::messages::{path, read_text, Failure};
 use crate::pretty::answer::print_text;
-use proved::shim::process::HostRuntime;
+use proved_tokens::shim::process::HostRuntime;
 use std::io::{BufWriter, Write};
 
 /// Prints the text that the words name, and answers the status.

@@ -2,7 +2,7 @@
 
 use crate::messages::{read_text, say, Failure};
 use crate::same::answer::{check_text, compare, Source};
-use proved::shim::process::HostRuntime;
+use proved_tokens::shim::process::HostRuntime;
 use std::io::Write;
 
 /// Compares what the words ask for, and answers the status.

@@ -2,14 +2,14 @@
 //! What the program writes for a text, and its status.
 
 use crate::find_calls::calls::calls;
-use proved::shim::memchr::memmem;
+use proved_tokens::shim::memchr::memmem;
 use crate::messages::Failure;
-use proved::pm_span::Span;
-use proved::pm_span::parts::{add_file, fits};
-use proved::proc_macro2::SourceMap;
-use proved::shim::io;
-use proved::shim::io::Write;
-use proved::token_buffer::{BufferError, TokenBuffer};
+use proved_tokens::pm_span::Span;
+use proved_tokens::pm_span::parts::{add_file, fits};
+use proved_tokens::proc_macro2::SourceMap;
+use proved_tokens::shim::io;
+use proved_tokens::shim::io::Write;
+use proved_tokens::token_buffer::{BufferError, TokenBuffer};
 
 /// Writes a line `PATH:L:C` for each call of this name in the text, in reading order, and answers whether there are
 /// any. A text in which the name's bytes don't stand has none.

@@ -1,12 +1,12 @@
 // Made from crates/find_calls/src/calls.rt by rust/erase: change that file, not this one.
 //! The calls among tokens.
 
-use proved::shim::prelude::Grow;
+use proved_tokens::shim::prelude::Grow;
 
-use proved::pm_span::Span;
-use proved::pm_token::Delimiter;
-use proved::shim::alloc::AllocError;
-use proved::token_buffer::{Cursor, Name, TokenText};
+use proved_tokens::pm_span::Span;
+use proved_tokens::pm_token::Delimiter;
+use proved_tokens::shim::alloc::AllocError;
+use proved_tokens::token_buffer::{Cursor, Name, TokenText};
 
 /// Where the calls of this name stand that the cursor has, those inside groups too, in reading order: the spans of
 /// their names.

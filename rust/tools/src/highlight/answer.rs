@@ -5,7 +5,7 @@ use crate::highlight::format::Format;
 use crate::highlight::marking::marked;
 use crate::highlight::page::frame_of;
 use crate::messages::Failure;
-use proved::shim::io::Write;
+use proved_tokens::shim::io::Write;
 
 /// Writes the text with its pieces marked, a page between its head and its foot. All of it stands in
 /// memory before the first byte is written.

@@ -6,12 +6,12 @@ use crate::highlight::nesting::Nesting;
 use crate::highlight::style::{Style, style_of};
 use crate::highlight::unread::push_unread;
 use crate::highlight::writing::Sheet;
-use proved::explain::{ExplainError, Explained, explain};
-use proved::lexical::PieceWalk;
-use proved::lexical::parts::pass_white;
+use proved_tokens::explain::{ExplainError, Explained, explain};
+use proved_tokens::lexical::PieceWalk;
+use proved_tokens::lexical::parts::pass_white;
 use crate::messages::Failure;
-use proved::proc_macro2::{PieceKind, PlacedPiece, pieces};
-use proved::shim::alloc::AllocError;
+use proved_tokens::proc_macro2::{PieceKind, PlacedPiece, pieces};
+use proved_tokens::shim::alloc::AllocError;
 
 /// The text with its pieces marked.
 ///

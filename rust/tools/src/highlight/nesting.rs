@@ -1,11 +1,11 @@
 // Made from crates/highlight/src/nesting.rt by rust/erase: change that file, not this one.
 //! Which delimiters match.
 
-use proved::shim::prelude::Grow;
+use proved_tokens::shim::prelude::Grow;
 
 use crate::highlight::style::Style;
-use proved::proc_macro2::PieceKind;
-use proved::shim::alloc::AllocError;
+use proved_tokens::proc_macro2::PieceKind;
+use proved_tokens::shim::alloc::AllocError;
 
 /// The delimiters before a byte offset of a text, with the style of each so far.
 pub struct Nesting {

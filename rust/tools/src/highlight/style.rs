@@ -1,7 +1,7 @@
 // Made from crates/highlight/src/style.rt by rust/erase: change that file, not this one.
 //! What a piece is shown as.
 
-use proved::proc_macro2::PieceKind;
+use proved_tokens::proc_macro2::PieceKind;
 
 /// What a piece is shown as.
 #[derive(Clone, Copy, Debug, PartialEq, Eq)]

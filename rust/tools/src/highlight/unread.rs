@@ -3,10 +3,10 @@
 
 use crate::highlight::style::Style;
 use crate::highlight::writing::Sheet;
-use proved::explain::{Explained, Reason, Stretch};
-use proved::lexical::parts::before;
-use proved::pm_span::parts::bounds;
-use proved::shim::alloc::AllocError;
+use proved_tokens::explain::{Explained, Reason, Stretch};
+use proved_tokens::lexical::parts::before;
+use proved_tokens::pm_span::parts::bounds;
+use proved_tokens::shim::alloc::AllocError;
 
 /// Appends the rest of a text, where no piece stands. What is at fault is marked with the reason why the rest doesn't
 /// parse; the first character alone where that reason is of what follows, as where U+FEFF stands first.

@@ -1,12 +1,12 @@
 // Made from crates/highlight/src/writing.rt by rust/erase: change that file, not this one.
 //! Appends pieces to what is written, marked.
 
-use proved::shim::prelude::{Grow, GrowText, format};
+use proved_tokens::shim::prelude::{Grow, GrowText, format};
 
 use crate::highlight::format::Format;
 use crate::highlight::style::Style;
-use proved::explain::Reason;
-use proved::shim::alloc::AllocError;
+use proved_tokens::explain::Reason;
+use proved_tokens::shim::alloc::AllocError;
 
 /// What is written so far.
 pub struct Sheet {

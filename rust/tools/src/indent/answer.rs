@@ -2,11 +2,11 @@
 //! What the program writes for a text.
 
 use crate::indent::choosing::{Step, choices};
-use proved::explain::{ExplainError, explain};
+use proved_tokens::explain::{ExplainError, explain};
 use crate::messages::Failure;
-use proved::proc_macro2::{SourceMap, TokenStream};
-use proved::relayout::{RelayoutError, relayout};
-use proved::shim::io::Write;
+use proved_tokens::proc_macro2::{SourceMap, TokenStream};
+use proved_tokens::relayout::{RelayoutError, relayout};
+use proved_tokens::shim::io::Write;
 
 /// Writes the text with its lines indented. Its tokens and comments stay, whatever the indentation is.
 ///

@@ -1,12 +1,12 @@
 // Made from crates/indent/src/choosing.rt by rust/erase: change that file, not this one.
 //! Which white space indents a text.
 
-use proved::shim::prelude::Grow;
+use proved_tokens::shim::prelude::Grow;
 
-use proved::lexical::parts::{begins, pass_white};
-use proved::lexical::{PieceKind, PlacedPiece, pieces};
-use proved::relayout::White;
-use proved::shim::alloc::AllocError;
+use proved_tokens::lexical::parts::{begins, pass_white};
+use proved_tokens::lexical::{PieceKind, PlacedPiece, pieces};
+use proved_tokens::relayout::White;
+use proved_tokens::shim::alloc::AllocError;
 
 /// How far each open group indents a line.
 #[derive(Clone, Copy, Debug, PartialEq, Eq)]

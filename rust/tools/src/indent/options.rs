@@ -1,7 +1,7 @@
 // Made from crates/indent/src/options.rt by rust/erase: change that file, not this one.
 //! What the program is asked for.
 
-use proved::shim::prelude::GrowText;
+use proved_tokens::shim::prelude::GrowText;
 
 use crate::indent::choosing::Step;
 use crate::messages::Failure;

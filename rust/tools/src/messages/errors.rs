@@ -1,9 +1,9 @@
 // Made from crates/messages/src/errors.rt by rust/erase: change that file, not this one.
 //! Why a program fails.
 
-use proved::proc_macro2::{LineColumn, ParseError, SourceMap};
-use proved::shim::alloc::AllocError;
-use proved::shim::io;
+use proved_tokens::proc_macro2::{LineColumn, ParseError, SourceMap};
+use proved_tokens::shim::alloc::AllocError;
+use proved_tokens::shim::io;
 
 /// Why a program fails.
 #[derive(Debug)]

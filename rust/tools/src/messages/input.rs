@@ -1,13 +1,13 @@
 // Made from crates/messages/src/input.rt by rust/erase: change that file, not this one.
 //! What a program is given: its words and its input.
 
-use proved::shim::prelude::{GrowText, HostRuntime, TryClone};
+use proved_tokens::shim::prelude::{GrowText, HostRuntime, TryClone};
 
 use crate::messages::errors::Failure;
-use proved::shim::env::Args;
-use proved::shim::fs::File;
-use proved::shim::io;
-use proved::shim::io::Read;
+use proved_tokens::shim::env::Args;
+use proved_tokens::shim::fs::File;
+use proved_tokens::shim::io;
+use proved_tokens::shim::io::Read;
 
 /// The words after the program's name, which is the first of its arguments.
 ///

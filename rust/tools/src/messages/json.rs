@@ -1,9 +1,9 @@
 // Made from crates/messages/src/json.rt by rust/erase: change that file, not this one.
 //! Texts in JSON.
 
-use proved::shim::prelude::{Grow, GrowText};
+use proved_tokens::shim::prelude::{Grow, GrowText};
 
-use proved::shim::alloc::AllocError;
+use proved_tokens::shim::alloc::AllocError;
 
 /// The text as it stands in a string of JSON.
 pub fn escaped(text: &str) -> Result<String, AllocError>

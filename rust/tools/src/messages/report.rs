@@ -1,14 +1,14 @@
 // Made from crates/messages/src/report.rt by rust/erase: change that file, not this one.
 //! What a program says of its failure, and its status.
 
-use proved::shim::prelude::format;
+use proved_tokens::shim::prelude::format;
 
 use crate::messages::errors::Failure;
-use proved::proc_macro2::LineColumn;
-use proved::shim::fmt::Display;
-use proved::shim::io;
-use proved::shim::io::Write;
-use proved::shim::process::ExitCode;
+use proved_tokens::proc_macro2::LineColumn;
+use proved_tokens::shim::fmt::Display;
+use proved_tokens::shim::io;
+use proved_tokens::shim::io::Write;
+use proved_tokens::shim::process::ExitCode;
 
 /// Says on `errors` why a program failed that reads the file at this path, and answers its status, that of `status`.
 /// A message that can't be written changes nothing.

@@ -1,21 +1,21 @@
 // Made from crates/outline/src/answer.rt by rust/erase: change that file, not this one.
 //! What the program lists of a text.
 
-use proved::shim::prelude::{Grow, GrowText};
+use proved_tokens::shim::prelude::{Grow, GrowText};
 
 use crate::outline::entries::{Entry, Stop, entries, first_of, last_of};
 use crate::outline::levels::lines_in;
 use crate::outline::lines::{Shown, line_of};
 use crate::outline::names::one_line;
 use crate::outline::options::Form;
-use proved::declarations::Fault;
+use proved_tokens::declarations::Fault;
 use crate::messages::Failure;
-use proved::pm_span::Span;
-use proved::pm_span::parts::{add_file, fits};
-use proved::pm_token::Ident;
-use proved::proc_macro2::{LineColumn, SourceMap, TokenStream};
-use proved::shim::alloc::AllocError;
-use proved::token_buffer::{BufferError, TokenBuffer};
+use proved_tokens::pm_span::Span;
+use proved_tokens::pm_span::parts::{add_file, fits};
+use proved_tokens::pm_token::Ident;
+use proved_tokens::proc_macro2::{LineColumn, SourceMap, TokenStream};
+use proved_tokens::shim::alloc::AllocError;
+use proved_tokens::token_buffer::{BufferError, TokenBuffer};
 
 /// Where a file has what is no declaration.
 #[derive(Clone, Copy)]

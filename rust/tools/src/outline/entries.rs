@@ -1,13 +1,13 @@
 // Made from crates/outline/src/entries.rt by rust/erase: change that file, not this one.
 //! The declarations among trees.
 
-use proved::shim::prelude::Grow;
+use proved_tokens::shim::prelude::Grow;
 
-use proved::declarations::{AnyItem, Fault, ItemKind, Items, split_attributes, split_inner_attributes};
-use proved::pm_span::Span;
-use proved::pm_stream::TokenTree;
-use proved::pm_token::Ident;
-use proved::shim::alloc::AllocError;
+use proved_tokens::declarations::{AnyItem, Fault, ItemKind, Items, split_attributes, split_inner_attributes};
+use proved_tokens::pm_span::Span;
+use proved_tokens::pm_stream::TokenTree;
+use proved_tokens::pm_token::Ident;
+use proved_tokens::shim::alloc::AllocError;
 
 /// A declaration.
 #[derive(Clone, Copy)]

@@ -1,13 +1,13 @@
 // Made from crates/outline/src/files.rt by rust/erase: change that file, not this one.
 //! Lists files one after the other.
 
-use proved::shim::prelude::{GrowList, HostRuntime};
+use proved_tokens::shim::prelude::{GrowList, HostRuntime};
 
 use crate::outline::answer::{Unlisted, lines_of};
 use crate::outline::options::{Form, Options};
 use crate::outline::tags::{print_all, print_tags};
 use crate::messages::{Failure, read_text, say, say_at, status};
-use proved::shim::io::Write;
+use proved_tokens::shim::io::Write;
 
 /// What was had of a file: its lines, and the status that it is worth, with which it has lines where that is 0 alone.
 pub struct Listed {

@@ -1,16 +1,16 @@
 // Made from crates/outline/src/levels.rt by rust/erase: change that file, not this one.
 //! The lines of the declarations of a text, without trees of what isn't read: bodies of functions, and the like.
 
-use proved::shim::prelude::Grow;
+use proved_tokens::shim::prelude::Grow;
 
 use crate::outline::answer::entry_line;
 use crate::outline::entries::{Entry, Stop, entry_of, is_listed};
 use crate::outline::level::Level;
 use crate::outline::options::Form;
-use proved::declarations::{split_any_item, split_inner_attributes};
-use proved::proc_macro2::SourceMap;
-use proved::shim::alloc::AllocError;
-use proved::token_buffer::Cursor;
+use proved_tokens::declarations::{split_any_item, split_inner_attributes};
+use proved_tokens::proc_macro2::SourceMap;
+use proved_tokens::shim::alloc::AllocError;
+use proved_tokens::token_buffer::Cursor;
 
 /// An item that was read.
 struct Step {

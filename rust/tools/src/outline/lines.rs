@@ -1,14 +1,14 @@
 // Made from crates/outline/src/lines.rt by rust/erase: change that file, not this one.
 //! The line of a declaration.
 
-use proved::shim::prelude::GrowText;
+use proved_tokens::shim::prelude::GrowText;
 
 use crate::outline::names::word_of;
 use crate::outline::options::Form;
-use proved::declarations::ItemKind;
+use proved_tokens::declarations::ItemKind;
 use crate::messages::escaped;
-use proved::proc_macro2::LineColumn;
-use proved::shim::alloc::AllocError;
+use proved_tokens::proc_macro2::LineColumn;
+use proved_tokens::shim::alloc::AllocError;
 
 /// A declaration, as it is shown.
 #[derive(Clone, Copy)]

@@ -1,10 +1,10 @@
 // Made from crates/outline/src/names.rt by rust/erase: change that file, not this one.
 //! What declarations are called.
 
-use proved::shim::prelude::Grow;
+use proved_tokens::shim::prelude::Grow;
 
-use proved::declarations::ItemKind;
-use proved::shim::alloc::AllocError;
+use proved_tokens::declarations::ItemKind;
+use proved_tokens::shim::alloc::AllocError;
 
 /// The word for a kind of declaration.
 pub fn word_of(kind: ItemKind) -> &'static str

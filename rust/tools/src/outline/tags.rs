@@ -1,10 +1,10 @@
 // Made from crates/outline/src/tags.rt by rust/erase: change that file, not this one.
 //! What is written of lines.
 
-use proved::shim::prelude::GrowText;
+use proved_tokens::shim::prelude::GrowText;
 
-use proved::shim::io;
-use proved::shim::io::Write;
+use proved_tokens::shim::io;
+use proved_tokens::shim::io::Write;
 
 /// Writes the lines.
 pub fn print_all<W: Write>(lines: &[String], writer: &mut W) -> io::Result<()>

@@ -2,11 +2,11 @@
 //! What the program writes for a text.
 
 use crate::messages::Failure;
-use proved::pretty_printer::to_pretty_string;
-use proved::proc_macro2::{SourceMap, TokenStream};
-use proved::quoting::QuoteError;
-use proved::relayout::{RelayoutError, with_doc_comments};
-use proved::shim::io::Write;
+use proved_tokens::pretty_printer::to_pretty_string;
+use proved_tokens::proc_macro2::{SourceMap, TokenStream};
+use proved_tokens::quoting::QuoteError;
+use proved_tokens::relayout::{RelayoutError, with_doc_comments};
+use proved_tokens::shim::io::Write;
 
 /// Writes the tokens of the text, in a layout that reads back to them, with doc comments in the place of the attributes
 /// that they are read as.

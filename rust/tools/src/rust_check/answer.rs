@@ -7,12 +7,12 @@ use crate::rust_check::options::Form;
 use crate::rust_check::place::{byte_count, last_line, split_chars};
 use crate::rust_check::told::tell_hidden;
 use crate::rust_check::writing::{write_excerpt, write_message};
-use proved::explain::{ExplainError, Explained, Hint, Reason, Stretch, advice, explain};
+use proved_tokens::explain::{ExplainError, Explained, Hint, Reason, Stretch, advice, explain};
 use crate::messages::Failure;
-use proved::pm_span::Span;
-use proved::pm_span::parts::{bounds, char_count};
-use proved::shim::io;
-use proved::shim::io::Write;
+use proved_tokens::pm_span::Span;
+use proved_tokens::pm_span::parts::{bounds, char_count};
+use proved_tokens::shim::io;
+use proved_tokens::shim::io::Write;
 
 /// Writes why the text of the file at this path doesn't parse, and then where its hidden characters stand, if `hidden`
 /// asks for them, and answers whether something was found.

@@ -4,8 +4,8 @@
 use crate::rust_check::finding::{Finding, Place};
 use crate::rust_check::options::Form;
 use crate::rust_check::writing::write_line;
-use proved::shim::io;
-use proved::shim::io::Write;
+use proved_tokens::shim::io;
+use proved_tokens::shim::io::Write;
 
 /// How the lines of a text end.
 #[derive(Clone, Copy, Debug, PartialEq, Eq)]

@@ -1,13 +1,13 @@
 // Made from crates/rust_check/src/files.rt by rust/erase: change that file, not this one.
 //! Checks files one after the other.
 
-use proved::shim::prelude::HostRuntime;
+use proved_tokens::shim::prelude::HostRuntime;
 
 use crate::rust_check::answer::check_all;
 use crate::rust_check::options::Options;
 use crate::rust_check::tally::Tally;
 use crate::messages::{Failure, read_text, say};
-use proved::shim::io::Write;
+use proved_tokens::shim::io::Write;
 
 /// Checks the files that the options name one after the other, and writes what is found in them. Of a file that can't
 /// be read or isn't UTF-8, and of a text that is too long, `errors` says so, and the others are checked still.

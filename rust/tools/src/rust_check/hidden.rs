@@ -1,9 +1,9 @@
 // Made from crates/rust_check/src/hidden.rt by rust/erase: change that file, not this one.
 //! The characters that nobody sees, or that change how what stands around them is seen.
 
-use proved::shim::ucd_category::GeneralCategory;
-use proved::shim::ucd_derived::is_default_ignorable_code_point;
-use proved::shim::ucd_props::{is_bidi_control, is_join_control, is_variation_selector, is_white_space};
+use proved_tokens::shim::ucd_category::GeneralCategory;
+use proved_tokens::shim::ucd_derived::is_default_ignorable_code_point;
+use proved_tokens::shim::ucd_props::{is_bidi_control, is_join_control, is_variation_selector, is_white_space};
 
 /// How a character hides something from who reads the text.
 #[derive(Clone, Copy, Debug, PartialEq, Eq)]

@@ -1,11 +1,11 @@
 // Made from crates/rust_check/src/name_forms.rt by rust/erase: change that file, not this one.
 //! The names of a text, by their forms NFKC.
 
-use proved::shim::prelude::GrowText;
+use proved_tokens::shim::prelude::GrowText;
 
-use proved::shim::alloc::AllocError;
-use proved::shim::collections::HashMap;
-use proved::shim::unicode_normalization::to_nfkc;
+use proved_tokens::shim::alloc::AllocError;
+use proved_tokens::shim::collections::HashMap;
+use proved_tokens::shim::unicode_normalization::to_nfkc;
 
 /// The names of a text so far: of each form NFKC the first.
 pub struct NameForms {

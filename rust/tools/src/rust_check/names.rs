@@ -1,7 +1,7 @@
 // Made from crates/rust_check/src/names.rt by rust/erase: change that file, not this one.
 //! What is odd about a name.
 
-use proved::shim::ucd_script::Script;
+use proved_tokens::shim::ucd_script::Script;
 
 /// The scripts in which a name is written.
 #[derive(Clone, Copy, Debug, PartialEq, Eq)]

@@ -1,10 +1,10 @@
 // Made from crates/rust_check/src/options.rt by rust/erase: change that file, not this one.
 //! What the words after the program's name ask for.
 
-use proved::shim::prelude::{Grow, GrowText};
+use proved_tokens::shim::prelude::{Grow, GrowText};
 
 use crate::messages::Failure;
-use proved::shim::alloc::AllocError;
+use proved_tokens::shim::alloc::AllocError;
 
 /// How the program is called.
 pub const USAGE: &str = "rust_check [--short|--json] [--hidden] [--color=always|never] [FILE..]";

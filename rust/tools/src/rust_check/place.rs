@@ -1,7 +1,7 @@
 // Made from crates/rust_check/src/place.rt by rust/erase: change that file, not this one.
 //! Where a place of a text stands.
 
-use proved::lexical::parts::before;
+use proved_tokens::lexical::parts::before;
 
 /// The line on which a text ends.
 #[derive(Clone, Copy)]

@@ -1,11 +1,11 @@
 // Made from crates/rust_check/src/shown.rt by rust/erase: change that file, not this one.
 //! How a line is shown on a terminal, and in which columns.
 
-use proved::shim::prelude::{Grow, GrowText};
+use proved_tokens::shim::prelude::{Grow, GrowText};
 
 use crate::rust_check::hidden::is_hidden;
-use proved::shim::alloc::AllocError;
-use proved::shim::unicode_width::UnicodeWidthChar;
+use proved_tokens::shim::alloc::AllocError;
+use proved_tokens::shim::unicode_width::UnicodeWidthChar;
 
 /// The two parts of a line as they are shown: tab as four spaces, CR and what is hidden as U+FFFD.
 pub fn shown_line(front: &str, rest: &str) -> Result<String, AllocError>

@@ -2,8 +2,8 @@
 //! How many of the files have a fault or weren't read, and the status of the program.
 
 use crate::messages::Failure;
-use proved::shim::io;
-use proved::shim::io::Write;
+use proved_tokens::shim::io;
+use proved_tokens::shim::io::Write;
 
 /// How many of the files so far have a fault or weren't read.
 #[derive(Clone, Copy, Debug, PartialEq, Eq)]

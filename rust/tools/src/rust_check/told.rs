@@ -9,11 +9,11 @@ use crate::rust_check::names::is_mixed;
 use crate::rust_check::options::Form;
 use crate::rust_check::turns::is_balanced;
 use crate::rust_check::writing::write_line;
-use proved::proc_macro2::{PieceKind, pieces};
-use proved::shim::alloc::AllocError;
-use proved::shim::io;
-use proved::shim::io::Write;
-use proved::shim::unicode_normalization::is_nfc;
+use proved_tokens::proc_macro2::{PieceKind, pieces};
+use proved_tokens::shim::alloc::AllocError;
+use proved_tokens::shim::io;
+use proved_tokens::shim::io::Write;
+use proved_tokens::shim::unicode_normalization::is_nfc;
 
 /// Writes a line for each place of the text where something is hidden, and answers whether there is one: first the
 /// hidden characters, piece by piece, and then what is odd at the ends of lines.

@@ -1,9 +1,9 @@
 // Made from crates/rust_check/src/turns.rt by rust/erase: change that file, not this one.
 //! Whether the controls of a line's direction are balanced.
 
-use proved::shim::prelude::Grow;
+use proved_tokens::shim::prelude::Grow;
 
-use proved::shim::alloc::AllocError;
+use proved_tokens::shim::alloc::AllocError;
 
 /// What a control does to a line's direction.
 #[derive(Clone, Copy, Debug, PartialEq, Eq)]

@@ -1,7 +1,7 @@
 // Made from crates/rust_check/src/writing.rt by rust/erase: change that file, not this one.
 //! What is written for a finding.
 
-use proved::shim::prelude::format;
+use proved_tokens::shim::prelude::format;
 
 use crate::rust_check::colours::Colours;
 use crate::rust_check::finding::{Finding, Place};
@@ -9,8 +9,8 @@ use crate::rust_check::options::Form;
 use crate::rust_check::place::{byte_count, first_line};
 use crate::rust_check::shown::{shown_line, spaces, underline};
 use crate::messages::escaped;
-use proved::shim::io;
-use proved::shim::io::Write;
+use proved_tokens::shim::io;
+use proved_tokens::shim::io::Write;
 
 /// Writes what is found in the file at this path, in this form.
 pub fn write_message<W: Write>(

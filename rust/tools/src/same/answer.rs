@@ -3,11 +3,11 @@
 
 use crate::same::comparing::difference;
 use crate::same::place::place_at;
-use proved::explain::{ExplainError, explain};
+use proved_tokens::explain::{ExplainError, explain};
 use crate::messages::Failure;
-use proved::proc_macro2::LineColumn;
-use proved::shim::io;
-use proved::shim::io::Write;
+use proved_tokens::proc_macro2::LineColumn;
+use proved_tokens::shim::io;
+use proved_tokens::shim::io::Write;
 
 /// A text, and the path that it is read from.
 #[derive(Clone, Copy)]

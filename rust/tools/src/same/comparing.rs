@@ -3,8 +3,8 @@
 
 use crate::same::said::Said;
 use crate::same::words::Words;
-use proved::pm_token::parts::TextBuilder;
-use proved::shim::alloc::AllocError;
+use proved_tokens::pm_token::parts::TextBuilder;
+use proved_tokens::shim::alloc::AllocError;
 
 /// Where two texts differ first in their tokens, and in their comments too if `comments` says so: what each has from
 /// there on, or nothing where it ends before. None where they are the same.

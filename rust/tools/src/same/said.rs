@@ -1,7 +1,7 @@
 // Made from crates/same/src/said.rt by rust/erase: change that file, not this one.
 //! The words that are compared.
 
-use proved::pm_token::Delimiter;
+use proved_tokens::pm_token::Delimiter;
 
 /// A token, an opener or a closer, or a comment.
 #[derive(Clone, Copy)]

@@ -2,9 +2,9 @@
 //! What is compared of a text: its tokens, one after another, and perhaps its comments.
 
 use crate::same::said::{DocStep, Said, after, alone, delimiter};
-use proved::lexical::parts::{begins, pass_white};
-use proved::lexical::{PieceKind, PieceWalk, PlacedPiece, pieces};
-use proved::pm_token::Delimiter;
+use proved_tokens::lexical::parts::{begins, pass_white};
+use proved_tokens::lexical::{PieceKind, PieceWalk, PlacedPiece, pieces};
+use proved_tokens::pm_token::Delimiter;
 
 /// The words of a text that are left.
 pub struct Words<'a> {

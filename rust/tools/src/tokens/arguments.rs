@@ -1,9 +1,9 @@
 // Made from crates/tokens/src/arguments.rt by rust/erase: change that file, not this one.
 //! The words that the program was given.
 
-use proved::shim::alloc::AllocError;
-use proved::shim::env::Args;
-use proved::shim::io;
+use proved_tokens::shim::alloc::AllocError;
+use proved_tokens::shim::env::Args;
+use proved_tokens::shim::io;
 
 /// The words after the program's name, which is the first of its arguments.
 ///

@@ -7,7 +7,7 @@ use crate::tokens::messages::{say, say_usage};
 use crate::tokens::mode::OutputMode;
 use crate::tokens::sinks::ByteSink;
 use crate::tokens::sources::ByteSource;
-use proved::shim::alloc::AllocError;
+use proved_tokens::shim::alloc::AllocError;
 
 /// Does what the words after the program's name ask for, says on `errors` why it can't, and answers
 /// the program's status.

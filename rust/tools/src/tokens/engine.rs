@@ -1,7 +1,7 @@
 // Made from crates/tokens/src/engine.rt by rust/erase: change that file, not this one.
 //! A run: from the bytes of a source to the bytes of a sink.
 
-use proved::shim::prelude::GrowText;
+use proved_tokens::shim::prelude::GrowText;
 
 use crate::tokens::errors::RunError;
 use crate::tokens::mode::OutputMode;
@@ -9,7 +9,7 @@ use crate::tokens::output::{RunOutput, write_output};
 use crate::tokens::reading::read_to_end;
 use crate::tokens::sinks::ByteSink;
 use crate::tokens::sources::ByteSource;
-use proved::proc_macro2::{ParseError, SourceMap, TokenStream, place_trees, reprint};
+use proved_tokens::proc_macro2::{ParseError, SourceMap, TokenStream, place_trees, reprint};
 
 /// Reads source text to its end, and writes its tokens as `mode` says.
 ///

@@ -1,8 +1,8 @@
 // Made from crates/tokens/src/errors.rt by rust/erase: change that file, not this one.
 //! Why a run is refused.
 
-use proved::proc_macro2::LineColumn;
-use proved::shim::alloc::AllocError;
+use proved_tokens::proc_macro2::LineColumn;
+use proved_tokens::shim::alloc::AllocError;
 
 /// Why a run is refused.
 #[derive(Clone, Copy, Debug)]

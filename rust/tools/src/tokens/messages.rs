@@ -5,8 +5,8 @@
 use crate::tokens::errors::RunError;
 use crate::tokens::sinks::ByteSink;
 use crate::tokens::writing::write_all;
-use proved::shim::itoa::Buffer;
-use proved::proc_macro2::LineColumn;
+use proved_tokens::shim::itoa::Buffer;
+use proved_tokens::proc_macro2::LineColumn;
 
 /// Says how the program is called.
 pub fn say_usage<E: ByteSink>(errors: &mut E)

@@ -5,7 +5,7 @@ use crate::tokens::errors::RunError;
 use crate::tokens::sinks::ByteSink;
 use crate::tokens::spans::write_lines;
 use crate::tokens::writing::write_all;
-use proved::proc_macro2::PlacedTree;
+use proved_tokens::proc_macro2::PlacedTree;
 
 /// What is written for an input. It stands before its first byte is written.
 pub enum RunOutput {

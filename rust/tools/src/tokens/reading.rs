@@ -1,12 +1,12 @@
 // Made from crates/tokens/src/reading.rt by rust/erase: change that file, not this one.
 //! Reads a source to its end.
 
-use proved::shim::prelude::{Grow, GrowList};
+use proved_tokens::shim::prelude::{Grow, GrowList};
 
 use crate::tokens::errors::RunError;
 use crate::tokens::sources::ByteSource;
-use proved::shim::alloc::AllocError;
-use proved::shim::io;
+use proved_tokens::shim::alloc::AllocError;
+use proved_tokens::shim::io;
 
 /// How many bytes a read has room for at least.
 const BLOCK: usize = 64 * 1024;

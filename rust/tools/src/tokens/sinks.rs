@@ -1,10 +1,10 @@
 // Made from crates/tokens/src/sinks.rt by rust/erase: change that file, not this one.
 //! Where a run's output goes.
 
-use proved::shim::prelude::GrowList;
+use proved_tokens::shim::prelude::GrowList;
 
-use proved::shim::io;
-use proved::shim::io::Write;
+use proved_tokens::shim::io;
+use proved_tokens::shim::io::Write;
 
 /// What bytes are written to.
 ///

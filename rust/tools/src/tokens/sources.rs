@@ -1,8 +1,8 @@
 // Made from crates/tokens/src/sources.rt by rust/erase: change that file, not this one.
 //! Where a run's input comes from.
 
-use proved::shim::io;
-use proved::shim::io::Read;
+use proved_tokens::shim::io;
+use proved_tokens::shim::io::Read;
 
 /// What bytes are read from.
 ///

@@ -4,8 +4,8 @@
 use crate::tokens::errors::RunError;
 use crate::tokens::sinks::ByteSink;
 use crate::tokens::writing::write_all;
-use proved::shim::itoa::write_digits;
-use proved::proc_macro2::{Place, PlacedTree, TreeKind};
+use proved_tokens::shim::itoa::write_digits;
+use proved_tokens::proc_macro2::{Place, PlacedTree, TreeKind};
 
 // How many lines are written at once, at most.
 const LINES: usize = 512;

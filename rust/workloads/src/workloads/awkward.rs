@@ -7,9 +7,9 @@ use crate::shim::prelude::{Grow, GrowText, format};
 use crate::workloads::digest::Digest;
 use crate::workloads::fails::Fail;
 use crate::workloads::random::Random;
-use proved::pretty_printer::to_pretty_string;
-use proved::proc_macro2::{Literal, SourceMap, Span, TokenStream, TokenTree, reprint};
-use proved::relayout::with_doc_comments;
+use proved_tokens::pretty_printer::to_pretty_string;
+use proved_tokens::proc_macro2::{Literal, SourceMap, Span, TokenStream, TokenTree, reprint};
+use proved_tokens::relayout::with_doc_comments;
 use crate::shim::alloc::AllocError;
 
 /// How many texts of each kind there are.

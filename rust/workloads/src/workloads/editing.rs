@@ -7,9 +7,9 @@ use crate::workloads::digest::Digest;
 use crate::workloads::fails::Fail;
 use crate::workloads::random::Random;
 use crate::workloads::texts::{size, source};
-use proved::explain::{advice, explain};
-use proved::proc_macro2::{PieceKind, TokenStream, pieces};
-use proved::relayout::{White, relayout};
+use proved_tokens::explain::{advice, explain};
+use proved_tokens::proc_macro2::{PieceKind, TokenStream, pieces};
+use proved_tokens::relayout::{White, relayout};
 use crate::shim::alloc::AllocError;
 
 /// Looks over so many files.

@@ -6,10 +6,10 @@ use crate::shim::prelude::{Grow, TryClone, format};
 use crate::workloads::digest::Digest;
 use crate::workloads::fails::Fail;
 use crate::workloads::random::Random;
-use proved::proc_macro2::{
+use proved_tokens::proc_macro2::{
     Delimiter, Group, Ident, Literal, Punct, SourceMap, Spacing, Span, TokenStream, TokenTree,
 };
-use proved::quoting::{Hole, Quote};
+use proved_tokens::quoting::{Hole, Quote};
 
 /// A field and what is written of it in three places.
 const FIELD: &str = "pub #field: #of";

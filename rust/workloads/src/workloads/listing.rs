@@ -7,9 +7,9 @@ use crate::workloads::digest::Digest;
 use crate::workloads::fails::Fail;
 use crate::workloads::random::Random;
 use crate::workloads::texts::{size, source, table};
-use proved::proc_macro2::{Place, TokenStream, TokenTree, place_trees, reprint};
+use proved_tokens::proc_macro2::{Place, TokenStream, TokenTree, place_trees, reprint};
 use crate::shim::alloc::AllocError;
-use proved::token_buffer::{Cursor, LiteralText, TokenBuffer, TokenText};
+use proved_tokens::token_buffer::{Cursor, LiteralText, TokenBuffer, TokenText};
 
 /// Prints and lists the tokens of so many files, every fourth of them a table.
 pub fn run(

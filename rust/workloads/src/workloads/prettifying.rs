@@ -7,9 +7,9 @@ use crate::workloads::digest::Digest;
 use crate::workloads::fails::Fail;
 use crate::workloads::random::Random;
 use crate::workloads::texts::{size, source};
-use proved::pretty_printer::to_pretty_string;
-use proved::proc_macro2::TokenStream;
-use proved::relayout::with_doc_comments;
+use proved_tokens::pretty_printer::to_pretty_string;
+use proved_tokens::proc_macro2::TokenStream;
+use proved_tokens::relayout::with_doc_comments;
 
 /// Prints so many texts on one line each, as generators do, reads that, and writes it for people.
 pub fn run(

@@ -7,8 +7,8 @@ use crate::workloads::digest::Digest;
 use crate::workloads::fails::Fail;
 use crate::workloads::random::Random;
 use crate::workloads::texts::{size, source};
-use proved::declarations::parse_file;
-use proved::proc_macro2::{SourceMap, Span, TokenStream, TokenTree};
+use proved_tokens::declarations::parse_file;
+use proved_tokens::proc_macro2::{SourceMap, Span, TokenStream, TokenTree};
 use crate::shim::alloc::AllocError;
 
 /// Reads so many files into one map, and asks about each tree of each file. The trees of all files are kept.

@@ -6,7 +6,7 @@ use crate::conformance::lists::list_answer;
 use crate::conformance::literals::literal_answer;
 use crate::conformance::streams::stream_answer;
 use crate::conformance::values::value_answer;
-use proved::proc_macro2::ParseError;
+use proved_tokens::proc_macro2::ParseError;
 
 /// An answer of the library.
 pub struct Answer<'a> {

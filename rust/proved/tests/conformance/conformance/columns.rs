@@ -1,9 +1,9 @@
 // Made from crates/conformance/src/columns.rt by rust/erase: change that file, not this one.
 //! The columns of a line of recorded answers, and the escapes in them.
 
-use proved::shim::prelude::Grow;
+use proved_tokens::shim::prelude::Grow;
 
-use proved::shim::alloc::AllocError;
+use proved_tokens::shim::alloc::AllocError;
 
 /// A recorded answer.
 ///

@@ -1,16 +1,16 @@
 // Made from crates/conformance/src/contents.rt by rust/erase: change that file, not this one.
 //! What the library finds in the content of a literal.
 
-use proved::shim::prelude::{GrowText, format};
+use proved_tokens::shim::prelude::{GrowText, format};
 
 use crate::conformance::answer::Answer;
-use proved::proc_macro2::rustc_literal_escaper::{
+use proved_tokens::proc_macro2::rustc_literal_escaper::{
     EscapeError, MixedUnit, Mode, NonZeroChar, check_for_errors, check_raw_byte_str,
     check_raw_c_str, check_raw_str, unescape_byte, unescape_byte_str, unescape_c_str,
     unescape_char, unescape_str,
 };
-use proved::shim::alloc::AllocError;
-use proved::shim::ops::Range;
+use proved_tokens::shim::alloc::AllocError;
+use proved_tokens::shim::ops::Range;
 
 /// What this call of the escaper gives for the content: each item by its range of bytes and its unit
 /// or error, with a semicolon after it; of a character or a byte only the unit or the error. `None`

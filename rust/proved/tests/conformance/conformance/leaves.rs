@@ -1,10 +1,10 @@
 // Made from crates/conformance/src/leaves.rt by rust/erase: change that file, not this one.
 //! The trees that are no groups, as a line of a list of trees notes them.
 
-use proved::proc_macro2::{
+use proved_tokens::proc_macro2::{
     Ident, IdentError, Literal, ParseError, Punct, SourceMap, Spacing, Span, TokenTree,
 };
-use proved::shim::alloc::AllocError;
+use proved_tokens::shim::alloc::AllocError;
 
 /// The tree that the line notes; `None` where it notes none.
 ///

@@ -1,14 +1,14 @@
 // Made from crates/conformance/src/lines.rt by rust/erase: change that file, not this one.
 //! Compares the library with recorded answers, a line at a time.
 
-use proved::shim::prelude::format;
+use proved_tokens::shim::prelude::format;
 
 use crate::conformance::answer::answer_to;
 use crate::conformance::columns::read_line;
-use proved::proc_macro2::ParseError;
-use proved::shim::alloc::AllocError;
-use proved::shim::io;
-use proved::shim::io::{BufRead, Write};
+use proved_tokens::proc_macro2::ParseError;
+use proved_tokens::shim::alloc::AllocError;
+use proved_tokens::shim::io;
+use proved_tokens::shim::io::{BufRead, Write};
 
 /// How many answers were compared, and how many of them differ.
 #[derive(Clone, Copy, Debug, PartialEq, Eq)]

@@ -12,11 +12,11 @@
 //! | `integer -3i32`, `integer -3` | what the constructor of that suffix makes of a number from -128 to 127 |
 //! | `(` .. `)`, `[` .. `]`, `{` .. `}`, `<` .. `>` | a group, in the last case without delimiters |
 
-use proved::shim::prelude::{Grow, format};
+use proved_tokens::shim::prelude::{Grow, format};
 
 use crate::conformance::answer::Answer;
 use crate::conformance::leaves::leaf;
-use proved::proc_macro2::{Delimiter, Group, ParseError, SourceMap, TokenStream, TokenTree};
+use proved_tokens::proc_macro2::{Delimiter, Group, ParseError, SourceMap, TokenStream, TokenTree};
 
 /// What is printed for the trees of the list, and after a tab what that text parses to in a new map:
 /// the `same` trees up to spans, `other` ones, or a `fault`. `None` where the text notes no list.

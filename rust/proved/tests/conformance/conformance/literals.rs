@@ -1,11 +1,11 @@
 // Made from crates/conformance/src/literals.rt by rust/erase: change that file, not this one.
 //! What the library answers to the text of a literal.
 
-use proved::shim::prelude::format;
+use proved_tokens::shim::prelude::format;
 
 use crate::conformance::answer::Answer;
-use proved::proc_macro2::{ConversionErrorKind, Literal, ParseError, SourceMap};
-use proved::shim::alloc::AllocError;
+use proved_tokens::proc_macro2::{ConversionErrorKind, Literal, ParseError, SourceMap};
+use proved_tokens::shim::alloc::AllocError;
 
 /// The literal that the text is, printed, or its value where that was asked; a text that is none is
 /// refused.
@@ -36,7 +36,7 @@ pub fn literal_answer<'a>(
 // The bytes of a value in hex, or the name of the error, unless memory ran out.
 fn hex(value: Result<Vec<u8>, ConversionErrorKind>) -> Result<String, AllocError> {
     match value {
-        Ok(bytes) => proved::shim::hex::encode(bytes.as_slice()),
+        Ok(bytes) => proved_tokens::shim::hex::encode(bytes.as_slice()),
         Err(ConversionErrorKind::Memory(error)) => Err(error),
         Err(error) => format!("{error:?}"),
     }

@@ -1,10 +1,10 @@
 // Made from crates/conformance/src/spans.rt by rust/erase: change that file, not this one.
 //! Where the trees of a stream stand.
 
-use proved::shim::prelude::GrowText;
+use proved_tokens::shim::prelude::GrowText;
 
-use proved::proc_macro2::{SourceMap, TokenStream, TokenTree};
-use proved::shim::alloc::AllocError;
+use proved_tokens::proc_macro2::{SourceMap, TokenStream, TokenTree};
+use proved_tokens::shim::alloc::AllocError;
 
 /// A line for each tree of the stream, each group before those inside it: where it begins and ends,
 /// and its kind.

@@ -1,11 +1,11 @@
 // Made from crates/conformance/src/streams.rt by rust/erase: change that file, not this one.
 //! What the library answers to the text of a stream.
 
-use proved::shim::prelude::format;
+use proved_tokens::shim::prelude::format;
 
 use crate::conformance::answer::Answer;
 use crate::conformance::spans::span_lines;
-use proved::proc_macro2::{ParseError, SourceMap, TokenStream};
+use proved_tokens::proc_macro2::{ParseError, SourceMap, TokenStream};
 
 /// The stream that the text parses to in a new map: as Debug shows it where `tree` was asked, where
 /// its trees stand for `spans`, and as it is printed else; or the line and column of the text's

@@ -1,11 +1,11 @@
 // Made from crates/conformance/src/values.rt by rust/erase: change that file, not this one.
 //! What the library writes for a value.
 
-use proved::shim::prelude::format;
+use proved_tokens::shim::prelude::format;
 
 use crate::conformance::answer::Answer;
-use proved::proc_macro2::Literal;
-use proved::shim::alloc::AllocError;
+use proved_tokens::proc_macro2::Literal;
+use proved_tokens::shim::alloc::AllocError;
 
 /// The text of the literal that this call makes of the value; a value that it makes none of is
 /// refused.

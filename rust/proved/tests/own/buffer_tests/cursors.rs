@@ -4,13 +4,13 @@ use crate::shim::prelude::{AllocGlobal, GrowText, HostRuntime, format};
 
 // What cursors answer on texts by hand, each call once at least.
 
-use proved::pm_span::parts::bounds;
-use proved::pm_stream::TokenStream;
-use proved::pm_token::{Delimiter, ParseError, Spacing};
+use proved_tokens::pm_span::parts::bounds;
+use proved_tokens::pm_stream::TokenStream;
+use proved_tokens::pm_token::{Delimiter, ParseError, Spacing};
 use crate::shim::alloc::AllocError;
 use crate::shim::process::Abort;
 use crate::shim::test::Fail;
-use proved::token_buffer::{Cursor, LiteralText, TokenBuffer, TokenText};
+use proved_tokens::token_buffer::{Cursor, LiteralText, TokenBuffer, TokenText};
 
 /// Asserts what the cursor at the front of `r#f += 'é (\"x\")` answers up to the group.
 fn check_names_and_marks<'a>(rt: &impl Abort, cursor: Cursor<'a>) -> Option<Cursor<'a>> {

@@ -3,7 +3,7 @@
 
 use crate::shim::prelude::{AllocGlobal, GrowText, HostRuntime, format};
 
-use proved::explain::{ExplainError, Explained, explain};
+use proved_tokens::explain::{ExplainError, Explained, explain};
 use crate::shim::alloc::AllocError;
 use crate::shim::process::Abort;
 

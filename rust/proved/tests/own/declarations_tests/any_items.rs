@@ -3,8 +3,8 @@
 use crate::shim::prelude::{AllocGlobal, HostRuntime};
 
 // Texts, and the items at their front.
-use proved::declarations::{ItemKind, split_any_item};
-use proved::proc_macro2::{Ident, SourceMap, TokenStream};
+use proved_tokens::declarations::{ItemKind, split_any_item};
+use proved_tokens::proc_macro2::{Ident, SourceMap, TokenStream};
 use crate::shim::process::Abort;
 use crate::shim::test::Fail;
 

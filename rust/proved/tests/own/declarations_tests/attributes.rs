@@ -3,8 +3,8 @@
 use crate::shim::prelude::{AllocGlobal, HostRuntime};
 
 // Attributes, and what stands in their brackets.
-use proved::declarations::{AttributeArgs, Attributes};
-use proved::proc_macro2::{SourceMap, TokenStream};
+use proved_tokens::declarations::{AttributeArgs, Attributes};
+use proved_tokens::proc_macro2::{SourceMap, TokenStream};
 use crate::shim::process::Abort;
 use crate::shim::test::Fail;
 

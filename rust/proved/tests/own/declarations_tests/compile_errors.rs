@@ -3,8 +3,8 @@
 use crate::shim::prelude::{AllocGlobal, HostRuntime, format};
 
 // Faults as code that the compiler stops at.
-use proved::declarations::{compile_error, parse_type_item};
-use proved::proc_macro2::{SourceMap, Span, TokenStream, TokenTree};
+use proved_tokens::declarations::{compile_error, parse_type_item};
+use proved_tokens::proc_macro2::{SourceMap, Span, TokenStream, TokenTree};
 use crate::shim::process::Abort;
 use crate::shim::test::Fail;
 

@@ -3,8 +3,8 @@
 use crate::shim::prelude::{AllocGlobal, HostRuntime};
 
 // Texts, and their items.
-use proved::declarations::{ItemKind, Items, parse_file, parse_item};
-use proved::proc_macro2::{SourceMap, TokenStream, TokenTree};
+use proved_tokens::declarations::{ItemKind, Items, parse_file, parse_item};
+use proved_tokens::proc_macro2::{SourceMap, TokenStream, TokenTree};
 use crate::shim::process::Abort;
 use crate::shim::test::Fail;
 

@@ -3,8 +3,8 @@
 use crate::shim::prelude::{AllocGlobal, HostRuntime};
 
 // Generic parameters and predicates, by how many trees each part has.
-use proved::declarations::{Fault, ParamKind, after_where, parse_param, parse_predicate, within_generics};
-use proved::proc_macro2::{SourceMap, TokenStream};
+use proved_tokens::declarations::{Fault, ParamKind, after_where, parse_param, parse_predicate, within_generics};
+use proved_tokens::proc_macro2::{SourceMap, TokenStream};
 use crate::shim::process::Abort;
 use crate::shim::test::Fail;
 

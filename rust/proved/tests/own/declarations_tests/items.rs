@@ -3,11 +3,11 @@
 use crate::shim::prelude::{AllocGlobal, HostRuntime};
 
 // Items, fields, variants and their parts, by how many trees each has.
-use proved::declarations::{
+use proved_tokens::declarations::{
     Body, Fault, Field, Fields, TypeItem, Variant, is_keyword, parse_field, parse_tuple_field,
     parse_type_item, parse_variant,
 };
-use proved::proc_macro2::{SourceMap, TokenStream, TokenTree};
+use proved_tokens::proc_macro2::{SourceMap, TokenStream, TokenTree};
 use crate::shim::process::Abort;
 use crate::shim::test::Fail;
 

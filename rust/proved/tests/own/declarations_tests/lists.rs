@@ -3,8 +3,8 @@
 use crate::shim::prelude::{AllocGlobal, HostRuntime};
 
 // Lists of fields and variants: how many come, and where the fault stands.
-use proved::declarations::{Body, FieldList, VariantList, parse_type_item};
-use proved::proc_macro2::{SourceMap, TokenStream};
+use proved_tokens::declarations::{Body, FieldList, VariantList, parse_type_item};
+use proved_tokens::proc_macro2::{SourceMap, TokenStream};
 use crate::shim::process::Abort;
 use crate::shim::test::Fail;
 

@@ -3,12 +3,12 @@
 use crate::shim::prelude::{AllocGlobal, HostRuntime};
 
 // Texts, and the trees of the part at their front.
-use proved::declarations::{
+use proved_tokens::declarations::{
     Fault, split_any_item, split_attributes, split_bounds, split_expression, split_field,
     split_fields, split_generics, split_inner_attributes, split_item, split_tuple_field,
     split_tuple_fields, split_type, split_variant, split_variants, split_visibility, split_where,
 };
-use proved::proc_macro2::{Delimiter, Group, SourceMap, TokenStream, TokenTree};
+use proved_tokens::proc_macro2::{Delimiter, Group, SourceMap, TokenStream, TokenTree};
 use crate::shim::process::Abort;
 use crate::shim::test::Fail;
 

@@ -3,13 +3,13 @@
 use crate::shim::prelude::{AllocGlobal, HostRuntime, format};
 
 // Items, and what is written for them, as it is printed. What is printed is read again.
-use proved::declarations::{ItemKind, TypeItem, parse_item, parse_type_item, split_expression};
-use proved::item_headers::{
+use proved_tokens::declarations::{ItemKind, TypeItem, parse_item, parse_type_item, split_expression};
+use proved_tokens::item_headers::{
     HeaderError, impl_generics, impl_header, impl_header_where, turbofish, type_generics,
     where_clause, where_clause_with, where_clause_with_bound,
 };
-use proved::proc_macro2::{Delimiter, Group, SourceMap, TokenStream, TokenTree};
-use proved::quoting::QuoteError;
+use proved_tokens::proc_macro2::{Delimiter, Group, SourceMap, TokenStream, TokenTree};
+use proved_tokens::quoting::QuoteError;
 use crate::shim::alloc::AllocError;
 use crate::shim::process::Abort;
 use crate::shim::test::Fail;

@@ -5,10 +5,10 @@ use crate::shim::prelude::{HostRuntime, format, vec};
 // Short lists of random trees: a quote gives a stream exactly where some choice of spacings is well spaced. All
 // choices are tried.
 
-use proved::proc_macro2::{
+use proved_tokens::proc_macro2::{
     Delimiter, Group, Ident, Literal, Punct, SourceMap, Spacing, Span, TokenStream, TokenTree,
 };
-use proved::quoting::{Quote, QuoteError};
+use proved_tokens::quoting::{Quote, QuoteError};
 use crate::shim::process::Abort;
 use crate::shim::test::Fail;
 

@@ -4,10 +4,10 @@ use crate::shim::prelude::{AllocGlobal, HostRuntime, format};
 
 // What comes out of trees of each kind. What is printed is parsed again and compared.
 use crate::quoting_tests::trees::{Inner, Leaf, Tree, quoted};
-use proved::proc_macro2::{
+use proved_tokens::proc_macro2::{
     Delimiter, Group, ParseError, Punct, SourceMap, Spacing, Span, TokenStream, TokenTree,
 };
-use proved::quoting::{Quote, QuoteError, TemplateError};
+use proved_tokens::quoting::{Quote, QuoteError, TemplateError};
 use crate::shim::alloc::AllocError;
 use crate::shim::fmt::{Debug, Display};
 use crate::shim::process::Abort;

@@ -4,8 +4,8 @@ use crate::shim::prelude::{AllocGlobal, Grow, GrowText, HostRuntime, format};
 
 // Templates as a program that writes code uses them.
 use crate::quoting_tests::rows::check_quote;
-use proved::proc_macro2::{SourceMap, Span, TokenStream, TokenTree};
-use proved::quoting::{Hole, Quote, TemplateError};
+use proved_tokens::proc_macro2::{SourceMap, Span, TokenStream, TokenTree};
+use proved_tokens::quoting::{Hole, Quote, TemplateError};
 use crate::shim::alloc::AllocError;
 use crate::shim::process::Abort;
 use crate::shim::test::Fail;

@@ -3,8 +3,8 @@
 
 use crate::shim::prelude::{AllocGlobal, Grow};
 
-use proved::proc_macro2::{Delimiter, Group, Ident, Literal, Punct, Spacing, Span, TokenStream, TokenTree};
-use proved::quoting::Quote;
+use proved_tokens::proc_macro2::{Delimiter, Group, Ident, Literal, Punct, Spacing, Span, TokenStream, TokenTree};
+use proved_tokens::quoting::Quote;
 use crate::shim::process::Abort;
 use crate::shim::test::Fail;
 

@@ -5,8 +5,8 @@
 use crate::shim::prelude::{AllocGlobal, HostRuntime, Repeat, format};
 
 use crate::stream_tests::checks::{parsed, repeated};
-use proved::pm_span::parts::bounds;
-use proved::proc_macro2::{ParseError, TokenStream};
+use proved_tokens::pm_span::parts::bounds;
+use proved_tokens::proc_macro2::{ParseError, TokenStream};
 use crate::shim::alloc::AllocError;
 use crate::shim::process::Abort;
 

@@ -4,10 +4,10 @@ use crate::shim::prelude::{Collect, Grow, HostRuntime, TryClone, TryExtend, vec}
 
 // Streams that are built of trees, of other streams and of tokens.
 use crate::stream_tests::checks::{displays, parsed, shows};
-use proved::pm_span::parts::span_of;
-use proved::pm_stream::parts::group;
-use proved::pm_token::parts::punct;
-use proved::proc_macro2::{
+use proved_tokens::pm_span::parts::span_of;
+use proved_tokens::pm_stream::parts::group;
+use proved_tokens::pm_token::parts::punct;
+use proved_tokens::proc_macro2::{
     Delimiter, Group, Ident, IdentError, Literal, Spacing, Span, TokenStream, TokenTree,
 };
 use crate::shim::alloc::AllocError;

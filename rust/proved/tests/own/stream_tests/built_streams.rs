@@ -5,12 +5,12 @@ use crate::shim::prelude::{HostRuntime, format, vec};
 // Streams that no text gives: groups without delimiters, trees that stand in no file.
 
 use crate::stream_tests::checks::{prints, shows};
-use proved::pm_span::Span;
-use proved::pm_span::parts::span_of;
-use proved::pm_stream::parts::{group, stream};
-use proved::pm_stream::{TokenStream, TokenTree};
-use proved::pm_token::parts::{ident, punct};
-use proved::pm_token::{Delimiter, Spacing};
+use proved_tokens::pm_span::Span;
+use proved_tokens::pm_span::parts::span_of;
+use proved_tokens::pm_stream::parts::{group, stream};
+use proved_tokens::pm_stream::{TokenStream, TokenTree};
+use proved_tokens::pm_token::parts::{ident, punct};
+use proved_tokens::pm_token::{Delimiter, Spacing};
 use crate::shim::alloc::AllocError;
 use crate::shim::process::Abort;
 

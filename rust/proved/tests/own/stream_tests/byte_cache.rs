@@ -5,8 +5,8 @@ use crate::shim::prelude::{Grow, GrowText, HostRuntime, vec};
 // Which bytes spans take on lines that aren't ASCII, asked for in many orders. What one look-up keeps is read by the
 // next.
 use crate::stream_tests::checks::held;
-use proved::pm_span::parts::{add_file, fits};
-use proved::proc_macro2::SourceMap;
+use proved_tokens::pm_span::parts::{add_file, fits};
+use proved_tokens::proc_macro2::SourceMap;
 use crate::shim::alloc::AllocError;
 use crate::shim::process::Abort;
 

@@ -5,8 +5,8 @@
 
 use crate::shim::prelude::{AllocGlobal, GrowText, Repeat, format};
 
-use proved::pm_span::parts::span_of;
-use proved::proc_macro2::{ParseError, SourceMap, Span, TokenStream};
+use proved_tokens::pm_span::parts::span_of;
+use proved_tokens::proc_macro2::{ParseError, SourceMap, Span, TokenStream};
 use crate::shim::alloc::AllocError;
 use crate::shim::fmt::{Debug, Display};
 use crate::shim::process::Abort;

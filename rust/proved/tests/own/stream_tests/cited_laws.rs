@@ -5,7 +5,7 @@ use crate::shim::prelude::HostRuntime;
 // What callers prove of streams by public items alone: by what the readers promise, and by the laws. None of
 // these functions has a proof file.
 
-use proved::proc_macro2::{
+use proved_tokens::proc_macro2::{
     Group, Ident, Literal, ParseError, Punct, SourceMap, TokenStream, TokenTree, laws,
 };
 use crate::shim::test::Fail;

@@ -2,11 +2,11 @@
 
 use crate::shim::prelude::{AllocGlobal, HostRuntime, format};
 
-use proved::pm_span::Span;
-use proved::pm_span::parts::{bounds, span_of};
-use proved::pm_stream::parts::group;
-use proved::proc_macro2::extra::DelimSpan;
-use proved::proc_macro2::{Delimiter, Group, ParseError, SourceMap, TokenStream, TokenTree};
+use proved_tokens::pm_span::Span;
+use proved_tokens::pm_span::parts::{bounds, span_of};
+use proved_tokens::pm_stream::parts::group;
+use proved_tokens::proc_macro2::extra::DelimSpan;
+use proved_tokens::proc_macro2::{Delimiter, Group, ParseError, SourceMap, TokenStream, TokenTree};
 use crate::shim::alloc::AllocError;
 use crate::shim::process::Abort;
 

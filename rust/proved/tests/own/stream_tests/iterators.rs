@@ -5,7 +5,7 @@ use crate::shim::prelude::{GrowText, HostRuntime, Repeat, TryClone, format};
 // The iterator over the trees of a stream, which gives them away.
 use crate::stream_tests::built_streams::one;
 use crate::stream_tests::checks::{displays, parsed, repeated, shows};
-use proved::proc_macro2::{TokenStream, TokenTree, token_stream};
+use proved_tokens::proc_macro2::{TokenStream, TokenTree, token_stream};
 use crate::shim::alloc::AllocError;
 use crate::shim::process::Abort;
 use crate::shim::test::Fail;

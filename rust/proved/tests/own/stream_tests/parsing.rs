@@ -2,11 +2,11 @@
 
 use crate::shim::prelude::{AllocGlobal, HostRuntime, format};
 
-use proved::pm_span::SourceMap;
-use proved::pm_span::parts::span_of;
-use proved::pm_stream::TokenStream;
-use proved::pm_stream::reprinting::reprint;
-use proved::pm_token::ParseError;
+use proved_tokens::pm_span::SourceMap;
+use proved_tokens::pm_span::parts::span_of;
+use proved_tokens::pm_stream::TokenStream;
+use proved_tokens::pm_stream::reprinting::reprint;
+use proved_tokens::pm_token::ParseError;
 use crate::shim::alloc::AllocError;
 use crate::shim::process::Abort;
 

@@ -4,7 +4,7 @@ use crate::shim::prelude::{AllocGlobal, GrowText, HostRuntime, Repeat};
 
 // Display fails only where its writer does: no clause can say so, since the trait has no word for a write that fails.
 use crate::stream_tests::checks::{parsed, repeated};
-use proved::pm_stream::TokenTree;
+use proved_tokens::pm_stream::TokenTree;
 use crate::shim::fmt::Display;
 use crate::shim::process::Abort;
 use crate::shim::test::Fail;

@@ -6,7 +6,7 @@ use crate::shim::prelude::{AllocGlobal, Grow, HostRuntime, format};
 //
 // `bench/twin/random_lists.rs` makes the same lists of the same seed, in the same steps, for the Rust crate.
 
-use proved::proc_macro2::{
+use proved_tokens::proc_macro2::{
     Delimiter, Group, Ident, Literal, ParseError, Punct, SourceMap, Spacing, Span, TokenStream,
     TokenTree,
 };

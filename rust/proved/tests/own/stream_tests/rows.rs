@@ -4,7 +4,7 @@ use crate::shim::prelude::{AllocGlobal, HostRuntime};
 
 // Several texts in one map, and the map's limit.
 use crate::stream_tests::checks::check_shown;
-use proved::proc_macro2::{ParseError, SourceMap, TokenStream};
+use proved_tokens::proc_macro2::{ParseError, SourceMap, TokenStream};
 use crate::shim::process::Abort;
 
 /// Asserts whether `text` fits into the map, whose limit is `limit`.

@@ -5,7 +5,7 @@ use crate::shim::prelude::{HostRuntime, format};
 // What streams and trees show of themselves, and what an empty stream prints.
 use crate::stream_tests::built_streams::{empty_group, grouped, one};
 use crate::stream_tests::checks::{displays, has_no_width, parsed, shows};
-use proved::proc_macro2::{Delimiter, Ident, Span, TokenStream, TokenTree};
+use proved_tokens::proc_macro2::{Delimiter, Ident, Span, TokenStream, TokenTree};
 use crate::shim::alloc::AllocError;
 use crate::shim::process::Abort;
 use crate::shim::test::Fail;

@@ -4,8 +4,8 @@ use crate::shim::prelude::{AllocGlobal, Grow, HostRuntime, Repeat, format};
 
 // What spans give back, of texts that were parsed into one map.
 use crate::stream_tests::checks::{held, repeated};
-use proved::pm_span::parts::{bounds, span_of};
-use proved::proc_macro2::{LineColumn, SourceMap, Span, TokenStream};
+use proved_tokens::pm_span::parts::{bounds, span_of};
+use proved_tokens::proc_macro2::{LineColumn, SourceMap, Span, TokenStream};
 use crate::shim::alloc::AllocError;
 use crate::shim::process::Abort;
 use crate::shim::test::Fail;

@@ -3,7 +3,7 @@
 
 use crate::shim::prelude::HostRuntime;
 
-use proved::proc_macro2::{LineColumn, Literal, ParseError, SourceMap, TokenStream, TokenTree};
+use proved_tokens::proc_macro2::{LineColumn, Literal, ParseError, SourceMap, TokenStream, TokenTree};
 use crate::shim::test::Fail;
 
 // Where the last tree of the text begins that stands in no group.

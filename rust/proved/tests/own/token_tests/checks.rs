@@ -3,8 +3,8 @@
 
 use crate::shim::prelude::format;
 
-use proved::pm_span::{SourceMap, Span};
-use proved::pm_token::{Ident, IdentError, Literal, ParseError};
+use proved_tokens::pm_span::{SourceMap, Span};
+use proved_tokens::pm_token::{Ident, IdentError, Literal, ParseError};
 use crate::shim::alloc::AllocError;
 use crate::shim::fmt::{Debug, Display};
 use crate::shim::process::Abort;

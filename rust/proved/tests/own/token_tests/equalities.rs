@@ -4,8 +4,8 @@ use crate::shim::prelude::HostRuntime;
 
 // Values are equal exactly where they are of one kind and have equal parts.
 use crate::token_tests::checks::are_distinct;
-use proved::literal_escaper::EscapeError;
-use proved::pm_token::{ConversionErrorKind, Delimiter, Spacing};
+use proved_tokens::literal_escaper::EscapeError;
+use proved_tokens::pm_token::{ConversionErrorKind, Delimiter, Spacing};
 use crate::shim::alloc::AllocError;
 
 #[test]

@@ -3,8 +3,8 @@
 use crate::shim::prelude::{Grow, GrowList, HostRuntime};
 
 use crate::token_tests::checks::{check_same, displays, made, shows};
-use proved::pm_span::parts::{bounds, span_of};
-use proved::pm_token::{Ident, IdentError};
+use proved_tokens::pm_span::parts::{bounds, span_of};
+use proved_tokens::pm_token::{Ident, IdentError};
 use crate::shim::collections::{BTreeMap, HashMap};
 use crate::shim::process::Abort;
 use crate::shim::test::Fail;

@@ -3,7 +3,7 @@
 use crate::shim::prelude::HostRuntime;
 
 use crate::token_tests::checks::is_written;
-use proved::pm_token::Literal;
+use proved_tokens::pm_token::Literal;
 
 #[test]
 fn integers_are_written_in_decimal() {

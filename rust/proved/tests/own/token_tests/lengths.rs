@@ -4,7 +4,7 @@ use crate::shim::prelude::{GrowText, HostRuntime, TryClone, format};
 
 // A text of at most 22 bytes stands in its token, and a longer one behind a pointer. Both are kept and copied.
 use crate::token_tests::checks::{check_same, made};
-use proved::pm_token::{Ident, IdentError, Literal};
+use proved_tokens::pm_token::{Ident, IdentError, Literal};
 use crate::shim::alloc::AllocError;
 use crate::shim::process::Abort;
 use crate::shim::test::Fail;

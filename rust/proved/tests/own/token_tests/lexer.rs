@@ -4,7 +4,7 @@ use crate::shim::prelude::HostRuntime;
 
 use crate::token_tests::checks::check_same;
 use crate::token_tests::piece_checks::{check_no_pieces, check_piece, check_pieces};
-use proved::lexical::{Piece, PieceKind, name_at, piece_at};
+use proved_tokens::lexical::{Piece, PieceKind, name_at, piece_at};
 use crate::shim::process::Abort;
 
 /// Asserts that each text begins with an identifier of this name, written with `r#` or not.

@@ -3,7 +3,7 @@
 use crate::shim::prelude::HostRuntime;
 
 use crate::token_tests::piece_checks::{check_literal_length, check_no_pieces, check_pieces};
-use proved::lexical::PieceKind;
+use proved_tokens::lexical::PieceKind;
 use crate::shim::process::Abort;
 
 /// Asserts that each text begins with a literal of so many bytes and characters.

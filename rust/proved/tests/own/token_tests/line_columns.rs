@@ -3,7 +3,7 @@
 use crate::shim::prelude::HostRuntime;
 
 use crate::token_tests::checks::{check_same, shows};
-use proved::pm_span::{LineColumn, SourceMap};
+use proved_tokens::pm_span::{LineColumn, SourceMap};
 use crate::shim::alloc::AllocFailed;
 use crate::shim::cmp::Ordering;
 use crate::shim::collections::{BTreeMap, HashMap};

@@ -3,7 +3,7 @@
 use crate::shim::prelude::HostRuntime;
 
 use crate::token_tests::checks::{check_same, displays, shows};
-use proved::pm_token::{Punct, Spacing};
+use proved_tokens::pm_token::{Punct, Spacing};
 use crate::shim::alloc::AllocError;
 
 /// The 22 marks.

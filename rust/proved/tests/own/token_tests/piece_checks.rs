@@ -2,7 +2,7 @@
 //! The assertions that the tests of the lexer share.
 
 use crate::token_tests::checks::check_same;
-use proved::lexical::{Piece, PieceKind, literal_at, piece_at};
+use proved_tokens::lexical::{Piece, PieceKind, literal_at, piece_at};
 use crate::shim::process::Abort;
 
 /// Asserts which piece the text begins with, at another byte offset than 0.

@@ -4,8 +4,8 @@ use crate::shim::prelude::HostRuntime;
 
 // Values are equal exactly where they are of one kind and have equal parts.
 use crate::token_tests::checks::are_distinct;
-use proved::lexical::{Piece, PieceKind};
-use proved::literal_escaper::{EscapeError, MixedUnit, Mode, NonZeroChar, NonZeroU8};
+use proved_tokens::lexical::{Piece, PieceKind};
+use proved_tokens::literal_escaper::{EscapeError, MixedUnit, Mode, NonZeroChar, NonZeroU8};
 
 #[test]
 fn errors_are_equal_to_themselves_alone() {

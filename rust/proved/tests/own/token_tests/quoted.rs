@@ -4,7 +4,7 @@ use crate::shim::prelude::HostRuntime;
 
 // What is written for bytes that are no text. What is written for texts is among the recorded answers of `conformance`.
 use crate::token_tests::checks::is_written;
-use proved::pm_token::Literal;
+use proved_tokens::pm_token::Literal;
 
 #[test]
 fn bytes_that_are_no_text_are_written_with_escapes() {

@@ -4,11 +4,11 @@ use crate::shim::prelude::HostRuntime;
 
 // What errors show of themselves, and what they say.
 use crate::token_tests::checks::{are_displayed, are_shown, displays, shows};
-use proved::literal_escaper::EscapeError;
-use proved::pm_span::parts::span_of;
-use proved::pm_span::{SourceMap, Span};
-use proved::pm_token::parts::fault;
-use proved::pm_token::{ConversionErrorKind, IdentError, Literal, ParseError};
+use proved_tokens::literal_escaper::EscapeError;
+use proved_tokens::pm_span::parts::span_of;
+use proved_tokens::pm_span::{SourceMap, Span};
+use proved_tokens::pm_token::parts::fault;
+use proved_tokens::pm_token::{ConversionErrorKind, IdentError, Literal, ParseError};
 use crate::shim::alloc::AllocError;
 use crate::shim::process::Abort;
 

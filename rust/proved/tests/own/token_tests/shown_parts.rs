@@ -4,10 +4,10 @@ use crate::shim::prelude::{HostRuntime, format};
 
 // What the parts of tokens show of themselves, and tokens without a span.
 use crate::token_tests::checks::{are_shown, check_same, read, shows};
-use proved::pm_span::parts::span_of;
-use proved::pm_span::{LineColumn, SourceMap, Span};
-use proved::pm_token::parts::punct;
-use proved::pm_token::{Delimiter, Ident, Literal, ParseError, Spacing};
+use proved_tokens::pm_span::parts::span_of;
+use proved_tokens::pm_span::{LineColumn, SourceMap, Span};
+use proved_tokens::pm_token::parts::punct;
+use proved_tokens::pm_token::{Delimiter, Ident, Literal, ParseError, Spacing};
 use crate::shim::alloc::AllocError;
 use crate::shim::process::Abort;
 use crate::shim::test::Fail;

@@ -3,10 +3,10 @@
 use crate::shim::prelude::HostRuntime;
 
 use crate::token_tests::checks::{displays, shows};
-use proved::pm_span::Span;
-use proved::pm_span::parts::span_of;
-use proved::pm_token::parts::{ident, punct};
-use proved::pm_token::{Ident, Spacing};
+use proved_tokens::pm_span::Span;
+use proved_tokens::pm_span::parts::span_of;
+use proved_tokens::pm_token::parts::{ident, punct};
+use proved_tokens::pm_token::{Ident, Spacing};
 use crate::shim::alloc::AllocError;
 use crate::shim::process::Abort;
 

@@ -4,7 +4,7 @@ use crate::shim::prelude::HostRuntime;
 
 // What the types of contents show of themselves.
 use crate::token_tests::checks::are_shown;
-use proved::literal_escaper::{EscapeError, MixedUnit, Mode, NonZeroChar, NonZeroU8};
+use proved_tokens::literal_escaper::{EscapeError, MixedUnit, Mode, NonZeroChar, NonZeroU8};
 use crate::shim::alloc::AllocError;
 
 #[test]

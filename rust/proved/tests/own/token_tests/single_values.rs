@@ -3,7 +3,7 @@
 use crate::shim::prelude::HostRuntime;
 
 use crate::token_tests::checks::{check_same, read};
-use proved::pm_token::{ConversionErrorKind, ParseError};
+use proved_tokens::pm_token::{ConversionErrorKind, ParseError};
 use crate::shim::process::Abort;
 use crate::shim::test::Fail;
 

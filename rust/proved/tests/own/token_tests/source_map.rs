@@ -3,8 +3,8 @@
 use crate::shim::prelude::HostRuntime;
 
 use crate::token_tests::checks::{check_same, shows};
-use proved::pm_span::parts::{add_file, fits, span_of};
-use proved::pm_span::{LineColumn, SourceMap, Span};
+use proved_tokens::pm_span::parts::{add_file, fits, span_of};
+use proved_tokens::pm_span::{LineColumn, SourceMap, Span};
 use crate::shim::alloc::AllocError;
 use crate::shim::process::Abort;
 use crate::shim::test::Fail;

@@ -3,10 +3,10 @@
 use crate::shim::prelude::HostRuntime;
 
 use crate::token_tests::checks::{read, shows};
-use proved::pm_span::Span;
-use proved::pm_span::parts::{bounds, span_of};
-use proved::pm_token::parts::punct;
-use proved::pm_token::{Literal, ParseError, Spacing};
+use proved_tokens::pm_span::Span;
+use proved_tokens::pm_span::parts::{bounds, span_of};
+use proved_tokens::pm_token::parts::punct;
+use proved_tokens::pm_token::{Literal, ParseError, Spacing};
 use crate::shim::ops::Bound;
 use crate::shim::ops::Bound::{Excluded, Included, Unbounded};
 use crate::shim::process::Abort;

@@ -4,7 +4,7 @@ use crate::shim::prelude::HostRuntime;
 
 // What a content is made of. Which items each content has is among the recorded answers of `conformance`.
 use crate::token_tests::checks::check_same;
-use proved::literal_escaper::{EscapeError, Mode, NonZeroChar, NonZeroU8, unescape_str};
+use proved_tokens::literal_escaper::{EscapeError, Mode, NonZeroChar, NonZeroU8, unescape_str};
 use crate::shim::process::Abort;
 
 #[test]

@@ -3,7 +3,7 @@
 use crate::shim::prelude::HostRuntime;
 
 use crate::token_tests::checks::check_same;
-use proved::lexical::{PieceKind, PieceWalk, pieces};
+use proved_tokens::lexical::{PieceKind, PieceWalk, pieces};
 use crate::shim::process::Abort;
 
 /// Asserts that the text has pieces of these kinds and texts, one right after the other, the first at byte 0; that no

@@ -3,9 +3,9 @@
 use crate::shim::prelude::HostRuntime;
 
 use crate::token_tests::checks::check_same;
-use proved::pm_span::SourceMap;
-use proved::pm_span::parts::{bounds, span_of};
-use proved::pm_token::{Literal, ParseError};
+use proved_tokens::pm_span::SourceMap;
+use proved_tokens::pm_span::parts::{bounds, span_of};
+use proved_tokens::pm_token::{Literal, ParseError};
 use crate::shim::alloc::AllocError;
 use crate::shim::process::Abort;
 

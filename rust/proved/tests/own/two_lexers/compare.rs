@@ -3,7 +3,7 @@
 
 use crate::two_lexers::slow;
 use crate::two_lexers::tally::Tally;
-use proved::lexical::{literal_at, name_at, piece_at, pieces};
+use proved_tokens::lexical::{literal_at, name_at, piece_at, pieces};
 
 /// Compares the two lexers at each character of the text, and in each of its beginnings at the front and along the
 /// pieces.

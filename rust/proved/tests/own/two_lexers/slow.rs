@@ -6,7 +6,7 @@
 //! answer as those of the same names in `lexical` do; each other one answers what follows the piece of its rule at the
 //! front of the text, or `None` where none stands.
 
-use proved::lexical::{Piece, PieceKind};
+use proved_tokens::lexical::{Piece, PieceKind};
 
 /// The piece at the front of the text, with its length in bytes and in characters, or `None` where none stands.
 /// `at_front` says whether the text begins at byte offset 0 of a source.

@@ -1,15 +1,15 @@
 // Made from crates/pretty_tests/src/rows.rt by rust/erase: change that file, not this one.
 //! Rows of streams, and what is written of each.
 
-use proved::shim::prelude::{Grow, GrowText, TryClone};
+use proved_tokens::shim::prelude::{Grow, GrowText, TryClone};
 
-use proved::literal_escaper::unescape_str;
-use proved::pretty_printer::to_pretty_string;
-use proved::proc_macro2::{ParseError, Punct, Spacing, TokenStream, TokenTree};
-use proved::quoting::QuoteError;
-use proved::shim::alloc::AllocError;
-use proved::shim::io;
-use proved::shim::io::Write;
+use proved_tokens::literal_escaper::unescape_str;
+use proved_tokens::pretty_printer::to_pretty_string;
+use proved_tokens::proc_macro2::{ParseError, Punct, Spacing, TokenStream, TokenTree};
+use proved_tokens::quoting::QuoteError;
+use proved_tokens::shim::alloc::AllocError;
+use proved_tokens::shim::io;
+use proved_tokens::shim::io::Write;
 
 /// What stands before the record.
 const HEAD: &str =
