@@ -6,7 +6,7 @@
     python3 rust/audit --test     tests itself: changes that are planted are told
 
 It shares no code with rust/erase. Each file's first line says from which source it was made. Of that source it leaves
-out comments; what only proofs read: clauses, ghost items and the attributes `tactic` and `cycle`; and the allocator,
+out comments, but contracts.py compares the contracts that the library's doc comments show with the clauses; what only proofs read: clauses, ghost items and the attributes `tactic` and `cycle`; and the allocator,
 whose type has one value. The tokens that are left are compared in order.
 
 A line of whitelist.txt is a change: the tokens of the source, `=>`, and those in their place. NAME is any one name and
@@ -21,8 +21,13 @@ import pathlib
 import re
 import sys
 
+import contracts
+
 TOP = pathlib.Path(__file__).resolve().parents[2]
 PACKAGES = [TOP / 'rust/proved', TOP / 'rust/tools', TOP / 'rust/workloads']
+# Its functions show their contracts, with the words that this page explains.
+LIBRARY = TOP / 'rust/proved/src'
+PAGE = LIBRARY / 'contracts.rs'
 # What isn't erased: tests within the library, what is for them alone, tests of sizes, and each `main`.
 LEFT_OUT = {'tests.rt', 'failing.rt', 'sizes.rt', 'main.rt'}
 # By hand too: errors whose text and conversions a derive of the toolchain writes.
@@ -284,6 +289,7 @@ PLANTED = [('1)', '2)'), ('a.x', 'a.y'), (', 1', ''), ('&A', '&mut A'), ('lexica
 
 def test():
     """How many of the planted changes are not told, and whether the Rust as it is made passes."""
+    total, untold = contracts.test()
     known, wrong = known_changes(), 0
     for old, new in [('', '')] + PLANTED:
         told = [change for change, *_ in changes(SOURCE, RUST.replace(old, new))[2]
@@ -291,7 +297,9 @@ def test():
         if bool(told) != bool(old):
             wrong += 1
             print(f'{old!r} made {new!r}: {told}')
-    print(f'{len(PLANTED) + 1 - wrong} tests of rust/audit passed, {wrong} failed')
+    print('\n'.join(untold), end='\n' if untold else '')
+    wrong, total = wrong + len(untold), total + len(PLANTED) + 1
+    print(f'{total - wrong} tests of rust/audit passed, {wrong} failed')
     return wrong
 
 
@@ -326,7 +334,12 @@ def main():
     left_out = missing(sources)
     for source in left_out:
         print(f'nothing was made of {source}')
-    sys.exit(1 if unknown or left_out or not sources else 0)
+    page = PAGE.read_text()
+    shown = [f'{path.relative_to(TOP)}: {what}' for path, text, source in pairs() if LIBRARY in path.parents
+             for what in contracts.differences(source.read_text(), text, page)]
+    for difference in shown:
+        print(difference)
+    sys.exit(1 if unknown or left_out or shown or not sources else 0)
 
 
 main()

@@ -17,6 +17,7 @@ import shutil
 import sys
 
 import checks
+import contracts
 import known
 import rules
 import selftest
@@ -50,9 +51,11 @@ LEFT_OUT = {'tests.rt', 'failing.rt', 'sizes.rt', 'main.rt'}
 BY_HAND = {'crates/workloads/src/fails.rt'}
 
 
-def erased(text, crate, source, package):
-    """The Rust of a source, and what is rejected in it."""
+def erased(text, crate, source, package, words=None):
+    """The Rust of a source, with the contracts of its functions if there are words for them, and what is rejected."""
     file = rules.File(crate, str(source), tokens_of(text), package)
+    if words:
+        contracts.put(file, words)
     for rule in rules.RULES[:-1]:
         rule(file)
     rejected = checks.rejections(file)
@@ -79,8 +82,9 @@ def is_left_out(path):
     return path.name in LEFT_OUT or 'tests' in path.parts or str(path) in BY_HAND
 
 
-def erase_all(crates, below, target, counts, problems, names=known.OF_LIBRARY, top=TOP):
-    """The files of these crates of a checkout, which may name these things: from the path of each to its text."""
+def erase_all(crates, below, target, counts, problems, names=known.OF_LIBRARY, top=TOP, words=None):
+    """The files of these crates of a checkout, which may name these things: from the path of each to its text. Where
+    there are words, the functions have their contracts on their pages."""
     package = rules.Package(counts, crates, below, names)
     sources = {}
     for crate in crates + below:
@@ -108,7 +112,7 @@ def erase_all(crates, below, target, counts, problems, names=known.OF_LIBRARY, t
         inside = path.relative_to(top / 'crates' / crate / 'src').with_suffix('.rs')
         place = target / f'{crate}.rs' if str(inside) == 'lib.rs' else target / crate / inside
         try:
-            out[place], rejected = erased(path.read_text(), crate, source, package)
+            out[place], rejected = erased(path.read_text(), crate, source, package, words)
             problems += [f'{source}:{line}: {what}' for line, what in rejected]
         except Rejected as error:
             problems.append(f'{source}:{error.line}: {error.what}')
@@ -155,7 +159,10 @@ def main():
     if sys.argv[1:] not in ([], ['--check']):
         sys.exit(__doc__)
     counts, problems = collections.Counter(), []
-    files = erase_all(LIBRARIES, [], PACKAGE / 'src', counts, problems)
+    words = contracts.Words()
+    words.learn_all(TOP / 'crates')
+    files = erase_all(LIBRARIES, [], PACKAGE / 'src', counts, problems, words=words)
+    files[PACKAGE / 'src/contracts.rs'] = words.page()
     files.update(erase_all(TESTED, LIBRARIES, PACKAGE / 'tests/conformance', counts, problems))
     files.update(erase_all(RECORDED, LIBRARIES, PACKAGE / 'tests/pretty', counts, problems))
     files.update(erase_all(OWN_TESTS, LIBRARIES, PACKAGE / 'tests/own', counts, problems, known.OF_TESTS))

@@ -45,12 +45,15 @@ class Package:
         self.functions = set()
         self.growing = set()
         self.errors = set()
+        self.items = set()
 
     def learn(self, tokens, crate=''):
         """Takes note of a file's functions, of its types with a destructor or with methods as lists have them, and of
         the errors of a library below."""
         for at, token in enumerate(tokens):
             name = tokens[following(tokens, at)].text
+            if token.kind == 'name' and token.text in ('const', 'enum', 'struct', 'trait', 'type'):
+                self.items.add(name)
             if token.text == 'enum' and re.search('Error(Kind)?$', name) and (crate in self.below or self.tests):
                 self.errors.add(name)
             if token.kind == 'name' and token.text in GROWING and found(tokens, at, f'{token.text} ( & mut self'):

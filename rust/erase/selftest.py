@@ -2,6 +2,7 @@
 import collections
 
 import checks
+import contracts
 import known
 import rules
 from source import Rejected, is_code, text_of, tokens_of
@@ -139,6 +140,115 @@ trait Unit {
 '''
 
 
+# A file of specs, a source, and the same with contracts in its doc comments.
+SPEC = '''\
+-- whether a mark `*` stands there
+abbrev pub Small : ℕ → Type 0
+Small x = x < 9
+
+-- what a reader gives
+pub data Outcome : Type 0 where
+  -- nothing, as *p*_q
+  Neither : Outcome
+  Both : ℕ → Outcome
+
+abbrev pub bare : ℕ
+bare = 1
+'''
+CONTRACT = '''\
+ghost use Rattle.lexical.specs.Outcome.{Small, Both as Two, bare};
+ghost use Rattle.lexical.specs.Outcome as outcomes;
+ghost use Rattle.lexical.specs.declared.kind.Kind.TheVariants as kinds;
+
+impl A {
+    /// One.
+    #[inline]
+    pub const fn one(x: u8, small: &[u8]) -> u8
+        requires { Small x × (small ≢ []) }
+        ensures value { (outcomes.Neither ≡ Two 1)
+            × (λ y. y ≡ kinds.Gap × "a'" ≢ x.now) }
+    {
+        x
+    }
+
+    fn own(x: u8) -> u8 ensures { unknown } { x }
+    pub fn two(x: u8) -> u8
+        ensures { result ≡ x }
+    {
+        x
+    }
+}
+''', '''\
+impl A {
+    /// One.
+    ///
+    /// # Contract
+    ///
+    /// - `requires`: <code>[Small] x × (small ≢ \\[\\])</code>
+    /// - `ensures value`: <code>(outcomes.[Neither] ≡ [Two] 1) × (λ y. y ≡ kinds.Gap × \\"a\\'\\" ≢ x.now)</code>
+    ///
+    /// [Small]: crate::contracts#lexical.Outcome.Small
+    /// [Neither]: crate::contracts#lexical.Outcome.Neither
+    /// [Two]: crate::contracts#lexical.Outcome.Both
+    #[inline]
+    pub const fn one(x: u8, small: &[u8]) -> u8
+    {
+        x
+    }
+
+    fn own(x: u8) -> u8 { x }
+    /// # Contract
+    ///
+    /// - `ensures`: <code>result ≡ x</code>
+    pub fn two(x: u8) -> u8
+    {
+        x
+    }
+}
+'''
+# The lines of the page for the words of that contract.
+PAGE = '''\
+//! # Words of `lexical`
+//!
+//! - <a id="lexical.Outcome.Both"></a>**Both**: what a reader gives
+//! - <a id="lexical.Outcome.Neither"></a>**Neither**: nothing, as \\*p\\*\\_q
+//! - <a id="lexical.Outcome.Small"></a>**Small**: whether a mark `*` stands there
+'''
+# What a clause may not name, and what is said of it.
+UNEXPLAINED = [('bare ≡ x', 'the word `bare` of lexical.Outcome'), ('y ≡ x', 'the name `y` in a clause'),
+               ('y.now ≡ x', 'the name `y` in a clause'), ('outcomes.Other ≡ x', 'the word `Other` of lexical.Outcome')]
+
+
+def documented(text):
+    """A text with contracts in its doc comments and all rules applied, and the words that they name."""
+    words = contracts.Words()
+    words.learn('lexical', 'Outcome', SPEC)
+    package = rules.Package(collections.Counter(), ['lexical', 'pm_span'])
+    file = rules.File('lexical', known.WITH_UNSAFE, tokens_of(text), package)
+    contracts.put(file, words)
+    for rule in rules.RULES:
+        rule(file)
+    return text_of(file.tokens), words
+
+
+def contracts_failures():
+    """What fails of the tests of contracts, each as a text."""
+    failures = []
+    seen, words = documented(CONTRACT[0])
+    if seen != CONTRACT[1]:
+        failures.append(f'the contracts are\n{seen}')
+    if not words.page().endswith(PAGE):
+        failures.append(f'the page of words is\n{words.page()}')
+    for clause, what in UNEXPLAINED:
+        try:
+            seen = documented(CONTRACT[0].replace('result ≡ x', clause))[0]
+        except Rejected as error:
+            seen = error.what
+        if what not in seen:
+            failures.append(f'not rejected as {what}: {clause}\n{seen}')
+    return failures
+
+
 def applied(text, tests=False, source=known.WITH_UNSAFE):
     """A text with all rules applied, as a source of `lexical` at this path, and what is rejected in it."""
     names = known.OF_TESTS if tests else known.OF_LIBRARY
@@ -202,8 +312,9 @@ def run():
     seen, rejected = applied(LAYOUT[0])
     if seen != LAYOUT[1] or rejected:
         failures.append(f'the layout is\n{seen}{rejected}')
+    failures += contracts_failures()
     for failure in failures:
         print(failure)
-    total = 2 * len(rules.RULES) + len(REJECTED) + 4
+    total = 2 * len(rules.RULES) + len(REJECTED) + 4 + 2 + len(UNEXPLAINED)
     print(f'{total - len(failures)} tests of rust/erase passed, {len(failures)} failed')
     return len(failures)

@@ -42,6 +42,28 @@ impl<'a> Chooser for Printer<'a> {
 /// memory ran out. It takes time in proportion to the length of the text.
 ///
 /// `fn f(){g(1)}` is written over three lines, the second of which is `    g(1)`.
+///
+/// # Contract
+///
+/// - `ensures layout`: <code>[IfOk] result (λ text. [IsLayout] ([respaced] stream.now) ([chars] ([string_bytes]
+///   text)))</code>
+/// - `ensures back`: <code>[IfOk] result (λ text. [ReadsBack] ([respaced] stream.now) ([chars] ([string_bytes]
+///   text)))</code>
+/// - `ensures unchanged`: <code>[IfOk] result (λ text. [IsWellSpaced] stream.now → [IsLayout] stream.now ([chars]
+///   ([string_bytes] text)) × [ReadsBack] stream.now ([chars] ([string_bytes] text)))</code>
+/// - `ensures fault`: <code>[IfErr] result ([IsFaultOf] stream.now)</code>
+/// - `ensures hopeless`: <code>[IfErr] result ([HopelessIfNamed] stream.now)</code>
+///
+/// [IfOk]: crate::contracts#std.IfOk
+/// [IsLayout]: crate::contracts#layout.Layout.IsLayout
+/// [respaced]: crate::contracts#quoting.Respaced.respaced
+/// [chars]: crate::contracts#std.chars
+/// [string_bytes]: crate::contracts#std.string_bytes
+/// [ReadsBack]: crate::contracts#layout.Writing.ReadsBack
+/// [IsWellSpaced]: crate::contracts#pm_stream.WellSpaced.IsWellSpaced
+/// [IfErr]: crate::contracts#std.IfErr
+/// [IsFaultOf]: crate::contracts#quoting.Fault.IsFaultOf
+/// [HopelessIfNamed]: crate::contracts#quoting.Choice.HopelessIfNamed
 pub fn to_pretty_string(stream: &TokenStream) -> Result<String, QuoteError>
 {
     laws::respacing();

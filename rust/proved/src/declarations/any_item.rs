@@ -63,6 +63,31 @@ pub struct AnyItem<'a> {
 /// It is any item that may stand in a file, a module, a trait, an `impl` or a block of foreign items. What stands
 /// within its groups isn't read. Of `pub fn f() {} struct S;` it is `pub fn f() {}`, a function with the name `f`.
 /// Where no item stands it answers the fault. It takes no memory.
+///
+/// # Contract
+///
+/// - `ensures ok`: <code>[IfOk] result (λ found. [Reads] [IsAnyItem] trees.now found.0.trees.now found.1.now)</code>
+/// - `ensures only`: <code>[IfOk] result (λ found. [IsOnly] [IsAnyItem] trees.now found.0.trees.now found.1.now)</code>
+/// - `ensures fewer`: <code>[IfOk] result (λ found. [length] found.1.now &lt; [length] trees.now)</code>
+/// - `ensures told`: <code>[IfOk] result (λ found. (name : [Option] [Name]) × [Tells] trees.now found.1.now
+///   found.0.kind name × [MatchOption] found.0.name (name ≡ [None]) (λ ident. name ≡ [Some] ident.now))</code>
+/// - `ensures fault`: <code>[IfErr] result (λ fault. [FaultAt] [IsAnyItem] trees.now fault.at)</code>
+/// - `ensures span`: <code>[IfErr] result (λ fault. fault.span ≡ [extent_at] trees.now fault.at)</code>
+///
+/// [IfOk]: crate::contracts#std.IfOk
+/// [Reads]: crate::contracts#declarations.Reading.Reads
+/// [IsAnyItem]: crate::contracts#declarations.Forms.IsAnyItem
+/// [IsOnly]: crate::contracts#declarations.Reading.IsOnly
+/// [length]: crate::contracts#std.length
+/// [Option]: crate::contracts#std.Option
+/// [Name]: crate::contracts#pm_token.Leaf.Name
+/// [Tells]: crate::contracts#declarations.Kind.Tells
+/// [MatchOption]: crate::contracts#std.MatchOption
+/// [None]: crate::contracts#std.None
+/// [Some]: crate::contracts#std.Some
+/// [IfErr]: crate::contracts#std.IfErr
+/// [FaultAt]: crate::contracts#declarations.Reading.FaultAt
+/// [extent_at]: crate::contracts#declarations.Fault.extent_at
 pub fn split_any_item<'a>(trees: &'a [TokenTree]) -> Result<(AnyItem<'a>, &'a [TokenTree]), Fault>
     // The kind and the name are those of the one walk over the item's signs.
 {

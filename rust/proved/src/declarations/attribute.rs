@@ -44,6 +44,10 @@ pub struct Attributes<'a> {
 
 impl<'a> Attributes<'a> {
     /// The attributes at the front of these trees.
+    ///
+    /// # Contract
+    ///
+    /// - `ensures`: <code>result.left.now ≡ trees.now</code>
     pub fn new(trees: &'a [TokenTree]) -> Attributes<'a>
     {
         Attributes { left: trees }
@@ -65,6 +69,18 @@ impl<'a> Iterator for Attributes<'a> {
 /// The attribute at the front of the trees, outer or inner, and the trees after it. `None` where none stands there.
 ///
 /// Of `#[a] #[b] pub x` it is `#[a]`, and `#[b] pub x` is left.
+///
+/// # Contract
+///
+/// - `ensures found`: <code>[MatchOption] result ([attributes_in] trees.now ≡ \[\]) (λ found. [attributes_in] trees.now
+///   ≡ [parts_of] found.0 ∷ [attributes_in] found.1.now)</code>
+/// - `ensures parts`: <code>[IfSome] result (λ found. [IsAttributeAt] trees.now found.0 found.1.now)</code>
+///
+/// [MatchOption]: crate::contracts#std.MatchOption
+/// [attributes_in]: crate::contracts#declarations.Attribute.attributes_in
+/// [parts_of]: crate::contracts#declarations.Attribute.parts_of
+/// [IfSome]: crate::contracts#std.IfSome
+/// [IsAttributeAt]: crate::contracts#declarations.Attribute.IsAttributeAt
 pub fn split_attribute(trees: &[TokenTree]) -> Option<(Attribute<'_>, &[TokenTree])>
 {
     let (hash, rest) = split_mark(trees)?;
@@ -124,6 +140,12 @@ fn is_bracket(delimiter: Delimiter) -> bool
 
 impl<'a> Attribute<'a> {
     /// Whether it is an inner attribute, as `#![a]`.
+    ///
+    /// # Contract
+    ///
+    /// - `ensures`: <code>result ≡ ([length] self.now.marks.now == 2)</code>
+    ///
+    /// [length]: crate::contracts#std.length
     pub fn is_inner(&self) -> bool
     {
         self.marks.len() == 2
@@ -132,6 +154,13 @@ impl<'a> Attribute<'a> {
     /// Its path: the trees in the brackets before the first `=` or group with delimiters.
     ///
     /// Of `#[rustfmt::skip]` it is `rustfmt::skip`, of `#[doc = "a"]` `doc`, and of `#[unsafe(no_mangle)]` `unsafe`.
+    ///
+    /// # Contract
+    ///
+    /// - `ensures`: <code>result.now ≡ [path_of] ([inside] self.now)</code>
+    ///
+    /// [path_of]: crate::contracts#declarations.Attribute.path_of
+    /// [inside]: crate::contracts#declarations.Attribute.inside
     pub fn path(&self) -> &'a [TokenTree]
     {
         let inside = self.group.stream_ref().trees();
@@ -140,6 +169,14 @@ impl<'a> Attribute<'a> {
     }
 
     /// What follows its path.
+    ///
+    /// # Contract
+    ///
+    /// - `ensures`: <code>[AreArgs] ([after_path] ([inside] self.now)) result</code>
+    ///
+    /// [AreArgs]: crate::contracts#declarations.Attribute.AreArgs
+    /// [after_path]: crate::contracts#declarations.Attribute.after_path
+    /// [inside]: crate::contracts#declarations.Attribute.inside
     pub fn args(&self) -> AttributeArgs<'a>
     {
         let inside = self.group.stream_ref().trees();
@@ -148,6 +185,15 @@ impl<'a> Attribute<'a> {
     }
 
     /// Whether its path is this one identifier. A raw identifier is written with its `r#`.
+    ///
+    /// # Contract
+    ///
+    /// - `ensures`: <code>result ≡ [is_word] ([path_of] ([inside] self.now)) ([spelled] word.now)</code>
+    ///
+    /// [is_word]: crate::contracts#declarations.Attribute.is_word
+    /// [path_of]: crate::contracts#declarations.Attribute.path_of
+    /// [inside]: crate::contracts#declarations.Attribute.inside
+    /// [spelled]: crate::contracts#pm_token.Spelling.spelled
     pub fn is(&self, word: &str) -> bool
     {
         match self.path() {
@@ -157,6 +203,13 @@ impl<'a> Attribute<'a> {
     }
 
     /// The literal of a doc comment, or of `#[doc = "text"]`, and `None` of every other attribute.
+    ///
+    /// # Contract
+    ///
+    /// - `ensures`: <code>[option_copied] result ≡ [doc_of] self.now.group.now</code>
+    ///
+    /// [option_copied]: crate::contracts#std.option_copied
+    /// [doc_of]: crate::contracts#pm_stream.DocGroup.doc_of
     pub fn doc(&self) -> Option<&'a Literal>
     {
         self.group.doc()

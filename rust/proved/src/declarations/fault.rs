@@ -26,6 +26,10 @@ impl Fault {
     }
 
     /// The field [`span`](Fault::span): where the first tree that doesn't fit stands.
+    ///
+    /// # Contract
+    ///
+    /// - `ensures`: <code>result ≡ self.now.span</code>
     pub fn span(&self) -> Option<Span>
     {
         self.span

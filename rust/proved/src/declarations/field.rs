@@ -24,6 +24,21 @@ pub struct Field<'a> {
 ///
 /// It answers as [`split_field`] does. Of `#[a] pub x: Vec<A, B>, y: C` the name is `x`, the type `Vec<A, B>`, and
 /// `, y: C` is left.
+///
+/// # Contract
+///
+/// - `ensures ok`: <code>[IfOk] result (λ found. [IsFieldAt] [IsField] [HasFieldParts] trees.now found.0
+///   found.1.now)</code>
+/// - `ensures fault`: <code>[IfErr] result (λ fault. [FaultAt] [IsField] trees.now fault.at)</code>
+/// - `ensures span`: <code>[IfErr] result (λ fault. fault.span ≡ [extent_at] trees.now fault.at)</code>
+///
+/// [IfOk]: crate::contracts#std.IfOk
+/// [IsFieldAt]: crate::contracts#declarations.Field.IsFieldAt
+/// [IsField]: crate::contracts#declarations.Forms.IsField
+/// [HasFieldParts]: crate::contracts#declarations.Field.HasFieldParts
+/// [IfErr]: crate::contracts#std.IfErr
+/// [FaultAt]: crate::contracts#declarations.Reading.FaultAt
+/// [extent_at]: crate::contracts#declarations.Fault.extent_at
 pub fn parse_field(trees: &[TokenTree]) -> Result<(Field<'_>, &[TokenTree]), Fault>
 {
     let (part, rest) = split_field(trees)?;
@@ -36,6 +51,21 @@ pub fn parse_field(trees: &[TokenTree]) -> Result<(Field<'_>, &[TokenTree]), Fau
 /// The parts of the field without a name at the front of the trees, and the trees after it.
 ///
 /// It answers as [`split_tuple_field`] does. Of `pub (A, B), C` the type is `(A, B)`, and `, C` is left.
+///
+/// # Contract
+///
+/// - `ensures ok`: <code>[IfOk] result (λ found. [IsFieldAt] [IsTupleField] [HasTypeParts] trees.now found.0
+///   found.1.now)</code>
+/// - `ensures fault`: <code>[IfErr] result (λ fault. [FaultAt] [IsTupleField] trees.now fault.at)</code>
+/// - `ensures span`: <code>[IfErr] result (λ fault. fault.span ≡ [extent_at] trees.now fault.at)</code>
+///
+/// [IfOk]: crate::contracts#std.IfOk
+/// [IsFieldAt]: crate::contracts#declarations.Field.IsFieldAt
+/// [IsTupleField]: crate::contracts#declarations.Forms.IsTupleField
+/// [HasTypeParts]: crate::contracts#declarations.Field.HasTypeParts
+/// [IfErr]: crate::contracts#std.IfErr
+/// [FaultAt]: crate::contracts#declarations.Reading.FaultAt
+/// [extent_at]: crate::contracts#declarations.Fault.extent_at
 pub fn parse_tuple_field(trees: &[TokenTree]) -> Result<(Field<'_>, &[TokenTree]), Fault>
 {
     let (part, rest) = split_tuple_field(trees)?;

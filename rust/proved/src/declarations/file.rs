@@ -35,6 +35,21 @@ pub struct Items<'a> {
 /// attributes, or of the first item that [`split_any_item`] doesn't read, counted from the front of all trees. What
 /// stands within the items' groups isn't read. Of `#![a] fn f() {} struct S;` the inner attributes are `#![a]`, and
 /// there are two items. It takes no memory.
+///
+/// # Contract
+///
+/// - `ensures ok`: <code>[IfOk] result (λ file. [IsFile] trees.now file.inner.now file.items.left.now)</code>
+/// - `ensures fault`: <code>[IfErr] result (λ fault. [FileFaultAt] trees.now fault.at)</code>
+/// - `ensures span`: <code>[IfErr] result (λ fault. fault.span ≡ [extent_at] trees.now fault.at)</code>
+/// - `ensures none`: <code>[IfErr] result (λ fault. (inner : [List] Tree) → (items : [List] Tree) → [IsFile] trees.now
+///   inner items → ⊥)</code>
+///
+/// [IfOk]: crate::contracts#std.IfOk
+/// [IsFile]: crate::contracts#declarations.File.IsFile
+/// [IfErr]: crate::contracts#std.IfErr
+/// [FileFaultAt]: crate::contracts#declarations.File.FileFaultAt
+/// [extent_at]: crate::contracts#declarations.Fault.extent_at
+/// [List]: crate::contracts#std.List
 pub fn parse_file(trees: &[TokenTree]) -> Result<File<'_>, Fault>
 {
     let (inner, items) = split_inner_attributes(trees)?;
@@ -62,6 +77,28 @@ pub fn parse_file(trees: &[TokenTree]) -> Result<File<'_>, Fault>
 /// It answers `Ok` exactly where [`split_any_item`] reads all of the trees, and else the fault, which stands before
 /// the first tree that is too many or doesn't fit. Of `fn f() {}` it is the function `f`; `fn f() {} fn g() {}` has
 /// its fault at the second `fn`. It takes no memory.
+///
+/// # Contract
+///
+/// - `ensures ok`: <code>[IfOk] result (λ item. [ReadsAll] [IsAnyItem] trees.now × (item.trees.now ≡ trees.now))</code>
+/// - `ensures told`: <code>[IfOk] result (λ item. (name : [Option] [Name]) × [Tells] trees.now \[\] item.kind name ×
+///   [MatchOption] item.name (name ≡ [None]) (λ ident. name ≡ [Some] ident.now))</code>
+/// - `ensures fault`: <code>[IfErr] result (λ fault. [FaultAt] ([IsWhole] [IsAnyItem]) trees.now fault.at)</code>
+/// - `ensures span`: <code>[IfErr] result (λ fault. fault.span ≡ [extent_at] trees.now fault.at)</code>
+///
+/// [IfOk]: crate::contracts#std.IfOk
+/// [ReadsAll]: crate::contracts#declarations.Whole.ReadsAll
+/// [IsAnyItem]: crate::contracts#declarations.Forms.IsAnyItem
+/// [Option]: crate::contracts#std.Option
+/// [Name]: crate::contracts#pm_token.Leaf.Name
+/// [Tells]: crate::contracts#declarations.Kind.Tells
+/// [MatchOption]: crate::contracts#std.MatchOption
+/// [None]: crate::contracts#std.None
+/// [Some]: crate::contracts#std.Some
+/// [IfErr]: crate::contracts#std.IfErr
+/// [FaultAt]: crate::contracts#declarations.Reading.FaultAt
+/// [IsWhole]: crate::contracts#declarations.Whole.IsWhole
+/// [extent_at]: crate::contracts#declarations.Fault.extent_at
 pub fn parse_item(trees: &[TokenTree]) -> Result<AnyItem<'_>, Fault>
     // The kind and the name are those of the one walk over the item's signs.
 {
@@ -102,6 +139,16 @@ impl<'a> AnyItem<'a> {
     /// The braces in which the items of a module, a trait, an `impl` or a block of foreign items stand.
     ///
     /// [`parse_file`] reads what stands in them. A module that ends in `;` has none, and no item of another kind.
+    ///
+    /// # Contract
+    ///
+    /// - `ensures`: <code>[MatchOption] result ([body_of] self.now.kind self.now.trees.now ≡ [None]) (λ group. [body_of]
+    ///   self.now.kind self.now.trees.now ≡ [Some] group.now)</code>
+    ///
+    /// [MatchOption]: crate::contracts#std.MatchOption
+    /// [body_of]: crate::contracts#declarations.File.body_of
+    /// [None]: crate::contracts#std.None
+    /// [Some]: crate::contracts#std.Some
     pub fn body(&self) -> Option<&'a Group>
     {
         match self.kind {

@@ -44,6 +44,19 @@ pub struct Predicate<'a> {
 ///
 /// Of `<'a, T>` they are `'a, T`, and of no trees none. Any others are a fault, before the first tree if it is no `<`,
 /// else at the end.
+///
+/// # Contract
+///
+/// - `ensures ok`: <code>[IfOk] result (λ inside. [IsWithin] generics.now inside.now)</code>
+/// - `ensures fault`: <code>[IfErr] result (λ fault. (inside : [List] Tree) → [IsWithin] generics.now inside →
+///   ⊥)</code>
+/// - `ensures span`: <code>[IfErr] result (λ fault. fault.span ≡ [extent_at] generics.now fault.at)</code>
+///
+/// [IfOk]: crate::contracts#std.IfOk
+/// [IsWithin]: crate::contracts#declarations.Param.IsWithin
+/// [IfErr]: crate::contracts#std.IfErr
+/// [List]: crate::contracts#std.List
+/// [extent_at]: crate::contracts#declarations.Fault.extent_at
 pub fn within_generics(generics: &[TokenTree]) -> Result<&[TokenTree], Fault>
 {
     let Some((open, rest)) = generics.split_first() else {
@@ -61,6 +74,19 @@ pub fn within_generics(generics: &[TokenTree]) -> Result<&[TokenTree], Fault>
 /// The trees after the `where` of a where clause, as an item has it.
 ///
 /// Of `where T: A,` they are `T: A,`, and of no trees none. Any others are a fault, before the first tree.
+///
+/// # Contract
+///
+/// - `ensures ok`: <code>[IfOk] result (λ inside. [IsAfterWhere] where_clause.now inside.now)</code>
+/// - `ensures fault`: <code>[IfErr] result (λ fault. (inside : [List] Tree) → [IsAfterWhere] where_clause.now inside →
+///   ⊥)</code>
+/// - `ensures span`: <code>[IfErr] result (λ fault. fault.span ≡ [extent_at] where_clause.now fault.at)</code>
+///
+/// [IfOk]: crate::contracts#std.IfOk
+/// [IsAfterWhere]: crate::contracts#declarations.Param.IsAfterWhere
+/// [IfErr]: crate::contracts#std.IfErr
+/// [List]: crate::contracts#std.List
+/// [extent_at]: crate::contracts#declarations.Fault.extent_at
 pub fn after_where(where_clause: &[TokenTree]) -> Result<&[TokenTree], Fault>
 {
     match where_clause.split_first() {
@@ -80,6 +106,26 @@ pub fn after_where(where_clause: &[TokenTree]) -> Result<&[TokenTree], Fault>
 /// parts has one, or before the first sign that no part takes. What a parameter is `specs/Param.antt` says. That no
 /// parameter stands there then is proved; which place the fault has, and that the tables of
 /// [`split_generics`](crate::declarations::split_generics) read the same lists, is only tested.
+///
+/// # Contract
+///
+/// - `ensures ok`: <code>[IfOk] result (λ found. [IsParamAt] trees.now ([param_trees] found.0) found.1.now)</code>
+/// - `ensures only`: <code>[IfOk] result (λ found. [IsOnlyParam] trees.now ([param_trees] found.0) found.1.now)</code>
+/// - `ensures fewer`: <code>[IfOk] result (λ found. [length] found.1.now &lt; [length] trees.now)</code>
+/// - `ensures fault`: <code>[IfErr] result (λ fault. (param : [ParamTrees]) → (rest : [List] Tree) → [IsParamAt]
+///   trees.now param rest → ⊥)</code>
+/// - `ensures within`: <code>[IfErr] result (λ fault. fault.at ≤ [length] trees.now)</code>
+/// - `ensures span`: <code>[IfErr] result (λ fault. fault.span ≡ [extent_at] trees.now fault.at)</code>
+///
+/// [IfOk]: crate::contracts#std.IfOk
+/// [IsParamAt]: crate::contracts#declarations.Param.IsParamAt
+/// [param_trees]: crate::contracts#declarations.Param.param_trees
+/// [IsOnlyParam]: crate::contracts#declarations.Param.IsOnlyParam
+/// [length]: crate::contracts#std.length
+/// [IfErr]: crate::contracts#std.IfErr
+/// [ParamTrees]: crate::contracts#declarations.Param.ParamTrees
+/// [List]: crate::contracts#std.List
+/// [extent_at]: crate::contracts#declarations.Fault.extent_at
 pub fn parse_param(trees: &[TokenTree]) -> Result<(Param<'_>, &[TokenTree]), Fault>
 {
     match param_of(trees) {
@@ -94,6 +140,28 @@ pub fn parse_param(trees: &[TokenTree]) -> Result<(Param<'_>, &[TokenTree]), Fau
 /// `for<'b> T: A<'b, C>, 'a: 'b` the bounded type is `for<'b> T`, the bounds are `A<'b, C>`, and `'a: 'b` is left.
 ///
 /// Where no predicate stands, or neither `,` nor the end follows it, it answers the fault, as [`parse_param`] does.
+///
+/// # Contract
+///
+/// - `ensures ok`: <code>[IfOk] result (λ found. [IsPredicateAt] trees.now ([predicate_trees] found.0)
+///   found.1.now)</code>
+/// - `ensures only`: <code>[IfOk] result (λ found. [IsOnlyPredicate] trees.now ([predicate_trees] found.0)
+///   found.1.now)</code>
+/// - `ensures fewer`: <code>[IfOk] result (λ found. [length] found.1.now &lt; [length] trees.now)</code>
+/// - `ensures fault`: <code>[IfErr] result (λ fault. (predicate : [PredicateTrees]) → (rest : [List] Tree) →
+///   [IsPredicateAt] trees.now predicate rest → ⊥)</code>
+/// - `ensures within`: <code>[IfErr] result (λ fault. fault.at ≤ [length] trees.now)</code>
+/// - `ensures span`: <code>[IfErr] result (λ fault. fault.span ≡ [extent_at] trees.now fault.at)</code>
+///
+/// [IfOk]: crate::contracts#std.IfOk
+/// [IsPredicateAt]: crate::contracts#declarations.Param.IsPredicateAt
+/// [predicate_trees]: crate::contracts#declarations.Param.predicate_trees
+/// [IsOnlyPredicate]: crate::contracts#declarations.Param.IsOnlyPredicate
+/// [length]: crate::contracts#std.length
+/// [IfErr]: crate::contracts#std.IfErr
+/// [PredicateTrees]: crate::contracts#declarations.Param.PredicateTrees
+/// [List]: crate::contracts#std.List
+/// [extent_at]: crate::contracts#declarations.Fault.extent_at
 pub fn parse_predicate(trees: &[TokenTree]) -> Result<(Predicate<'_>, &[TokenTree]), Fault>
 {
     match predicate_of(trees) {

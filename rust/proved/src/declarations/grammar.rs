@@ -16,6 +16,15 @@ use crate::declarations::types::{Turn, TypeState, may_end, type_step};
 
 impl Place {
     /// What the sign leads to, if it may stand there.
+    ///
+    /// # Contract
+    ///
+    /// - `requires`: <code>self.depth + 1 &lt; 2 ^ 64</code>
+    /// - `ensures value`: <code>result ≡ [step] self class</code>
+    /// - `ensures depth`: <code>[IfSome] result (λ next. next.depth ≤ self.depth + 1)</code>
+    ///
+    /// [step]: crate::contracts#declarations.Grammar.step
+    /// [IfSome]: crate::contracts#std.IfSome
     pub fn step(self, class: Class) -> Option<Place>
     {
         match self.state {
@@ -46,6 +55,12 @@ impl Place {
     }
 
     /// Whether what is read may end there.
+    ///
+    /// # Contract
+    ///
+    /// - `ensures`: <code>result ≡ [ends] self</code>
+    ///
+    /// [ends]: crate::contracts#declarations.Grammar.ends
     pub fn may_end(self) -> bool
     {
         match self.state {
@@ -57,6 +72,12 @@ impl Place {
     }
 
     /// Whether a sign of this class is an item's name.
+    ///
+    /// # Contract
+    ///
+    /// - `ensures`: <code>result ≡ [names] self class</code>
+    ///
+    /// [names]: crate::contracts#declarations.Grammar.names
     pub fn names(self, class: Class) -> bool
     {
         wants_name(self.state) && is_name(class)

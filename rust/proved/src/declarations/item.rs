@@ -66,6 +66,20 @@ pub enum Fields<'a> {
 ///
 /// Of `pub struct S<T>(T) where T: A;` the visibility is `pub`, the name `S`, the generic parameters are `<T>`, the
 /// fields `(T)`, and the where clause is `where T: A`.
+///
+/// # Contract
+///
+/// - `ensures ok`: <code>[IfOk] result (λ item. [IsTypeItem] trees.now item)</code>
+/// - `ensures fault`: <code>[IfErr] result (λ fault. [FaultAt] ([IsWhole] [IsItem]) trees.now fault.at)</code>
+/// - `ensures span`: <code>[IfErr] result (λ fault. fault.span ≡ [extent_at] trees.now fault.at)</code>
+///
+/// [IfOk]: crate::contracts#std.IfOk
+/// [IsTypeItem]: crate::contracts#declarations.Item.IsTypeItem
+/// [IfErr]: crate::contracts#std.IfErr
+/// [FaultAt]: crate::contracts#declarations.Reading.FaultAt
+/// [IsWhole]: crate::contracts#declarations.Whole.IsWhole
+/// [IsItem]: crate::contracts#declarations.Forms.IsItem
+/// [extent_at]: crate::contracts#declarations.Fault.extent_at
 pub fn parse_type_item(trees: &[TokenTree]) -> Result<TypeItem<'_>, Fault>
 {
     let start = Place {

@@ -9,6 +9,12 @@ use crate::pm_token::Ident;
 /// but for `try`.
 ///
 /// `struct` is, and `union`, `r#struct` and `auto` are not.
+///
+/// # Contract
+///
+/// - `ensures`: <code>result ≡ [is_keyword] ident.now</code>
+///
+/// [is_keyword]: crate::contracts#declarations.Item.is_keyword
 pub fn is_keyword(ident: &Ident) -> bool
 {
     match name_class(ident) {

@@ -39,6 +39,14 @@ pub struct VariantList<'a> {
 
 impl<'a> FieldList<'a> {
     /// The fields with names in this group, as in the braces of a union.
+    ///
+    /// # Contract
+    ///
+    /// - `ensures named`: <code>result.named ≡ [true]</code>
+    /// - `ensures inside`: <code>[AreInside] result.left.now group.now</code>
+    ///
+    /// [true]: crate::contracts#std.true
+    /// [AreInside]: crate::contracts#declarations.List.AreInside
     pub fn named(group: &'a Group) -> FieldList<'a>
     {
         FieldList {
@@ -50,6 +58,12 @@ impl<'a> FieldList<'a> {
 
 impl<'a> Fields<'a> {
     /// Its fields, one at a time.
+    ///
+    /// # Contract
+    ///
+    /// - `ensures`: <code>[ListsFields] self.now result</code>
+    ///
+    /// [ListsFields]: crate::contracts#declarations.List.ListsFields
     pub fn list(&self) -> FieldList<'a>
     {
         match self {
@@ -68,6 +82,12 @@ impl<'a> Fields<'a> {
 
 impl<'a> VariantList<'a> {
     /// The variants in these braces.
+    ///
+    /// # Contract
+    ///
+    /// - `ensures`: <code>[AreInside] result.left.now group.now</code>
+    ///
+    /// [AreInside]: crate::contracts#declarations.List.AreInside
     pub fn new(group: &'a Group) -> VariantList<'a>
     {
         VariantList {

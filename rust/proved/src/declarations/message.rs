@@ -13,6 +13,17 @@ impl Fault {
     ///
     /// The text is that of Display. Each tree has the fault's span, which where more trees are missing is the call
     /// site. Fails where memory runs out.
+    ///
+    /// # Contract
+    ///
+    /// - `ensures`: <code>[IfOk] result (λ stream. stream ≡ [forest] ([compile_error] ([fault_text] self.now.span)
+    ///   ([told_at] self.now.span)))</code>
+    ///
+    /// [IfOk]: crate::contracts#std.IfOk
+    /// [forest]: crate::contracts#pm_stream.Trees.forest
+    /// [compile_error]: crate::contracts#declarations.CompileError.compile_error
+    /// [fault_text]: crate::contracts#declarations.Fault.fault_text
+    /// [told_at]: crate::contracts#declarations.CompileError.told_at
     pub fn to_compile_error(&self) -> Result<TokenStream, AllocError>
     {
         match self.span {
@@ -25,6 +36,15 @@ impl Fault {
 /// The code that makes the compiler tell this text: `::core::compile_error! { "text" }`, each tree with this span.
 ///
 /// So a macro refuses what it can't use at the token that is wrong. Fails where memory runs out.
+///
+/// # Contract
+///
+/// - `ensures`: <code>[IfOk] result (λ stream. stream ≡ [forest] ([compile_error] ([chars] text.now) span))</code>
+///
+/// [IfOk]: crate::contracts#std.IfOk
+/// [forest]: crate::contracts#pm_stream.Trees.forest
+/// [compile_error]: crate::contracts#declarations.CompileError.compile_error
+/// [chars]: crate::contracts#std.chars
 pub fn compile_error(text: &str, span: Span) -> Result<TokenStream, AllocError>
 {
     let core = ident("core", false, span)?;

@@ -9,6 +9,13 @@ use crate::pm_token::{Delimiter, Ident, Spacing};
 ///
 /// `::`, `->`, `<=` and `||` are one sign where the first mark is Joint, and so are `'` and an identifier. Any other
 /// tree is a sign by itself. It takes the same time whatever follows, and no memory.
+///
+/// # Contract
+///
+/// - `ensures`: <code>[MatchOption] result (trees.now ≡ \[\]) (λ sign. [BeginsWith] trees.now sign.0 sign.1.now)</code>
+///
+/// [MatchOption]: crate::contracts#std.MatchOption
+/// [BeginsWith]: crate::contracts#declarations.Signs.BeginsWith
 pub fn first_sign<'a>(trees: &'a [TokenTree]) -> Option<(Class, &'a [TokenTree])>
 {
     let (first, rest) = trees.split_first()?;

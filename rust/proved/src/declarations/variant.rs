@@ -26,6 +26,19 @@ pub struct Variant<'a> {
 ///
 /// It answers as [`split_variant`] does. Of `#[a] B { c: D } = 1, C` the name is `B`, the fields are those in braces,
 /// the discriminant is `1`, and `, C` is left.
+///
+/// # Contract
+///
+/// - `ensures ok`: <code>[IfOk] result (λ found. [IsVariantAt] trees.now found.0 found.1.now)</code>
+/// - `ensures fault`: <code>[IfErr] result (λ fault. [FaultAt] [IsVariant] trees.now fault.at)</code>
+/// - `ensures span`: <code>[IfErr] result (λ fault. fault.span ≡ [extent_at] trees.now fault.at)</code>
+///
+/// [IfOk]: crate::contracts#std.IfOk
+/// [IsVariantAt]: crate::contracts#declarations.Variant.IsVariantAt
+/// [IfErr]: crate::contracts#std.IfErr
+/// [FaultAt]: crate::contracts#declarations.Reading.FaultAt
+/// [IsVariant]: crate::contracts#declarations.Forms.IsVariant
+/// [extent_at]: crate::contracts#declarations.Fault.extent_at
 pub fn parse_variant(trees: &[TokenTree]) -> Result<(Variant<'_>, &[TokenTree]), Fault>
 {
     let (part, rest) = split_variant(trees)?;

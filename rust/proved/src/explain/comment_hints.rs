@@ -32,6 +32,20 @@ fn sign_at(at: Cursor<'_>) -> Option<(Sign, Cursor<'_>)>
 
 /// How many block comments are open at the end of the text, the one at the cursor among them, and the cursors before
 /// and after the one that ended last.
+///
+/// # Contract
+///
+/// - `requires opens`: <code>(more : [List] ℕ) × ([chars] start.rest.now ≡ [codes] \"/\*\" ++ more)</code>
+/// - `requires none`: <code>[HasNone] [BlockComment] ([chars] start.rest.now)</code>
+/// - `ensures`: <code>[IfOk] result (λ x. [LeftComments] start.entry x.0 x.1)</code>
+///
+/// [List]: crate::contracts#std.List
+/// [chars]: crate::contracts#std.chars
+/// [codes]: crate::contracts#std.codes
+/// [HasNone]: crate::contracts#lexical.Form.HasNone
+/// [BlockComment]: crate::contracts#lexical.Comment.BlockComment
+/// [IfOk]: crate::contracts#std.IfOk
+/// [LeftComments]: crate::contracts#explain.HintWalk.LeftComments
 pub fn open_comments<'a>(
     start: Cursor<'a>,
 ) -> Result<(usize, Option<(Cursor<'a>, Cursor<'a>)>), AllocError>

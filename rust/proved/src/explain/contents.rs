@@ -26,6 +26,17 @@ pub enum Step<'a> {
 }
 
 /// The content from the cursor on, up to the quote before `end`.
+///
+/// # Contract
+///
+/// - `requires`: <code>(quote : ℕ) × (quote &lt; 128) × [IsInside] quote at end</code>
+/// - `ensures`: <code>(quote : ℕ) (left : [List] ℕ) → quote &lt; 128 → [IsLeft] quote left at.entry end.entry → [chars]
+///   result.now ≡ left</code>
+///
+/// [IsInside]: crate::contracts#explain.Walk.IsInside
+/// [List]: crate::contracts#std.List
+/// [IsLeft]: crate::contracts#explain.Walk.IsLeft
+/// [chars]: crate::contracts#std.chars
 pub fn content<'a>(at: Cursor<'a>, end: Cursor<'a>) -> &'a str
 {
     let size = at.rest.len() - end.rest.len() - 1;
@@ -121,6 +132,15 @@ fn last_character<'a>(at: Cursor<'a>, end: Cursor<'a>) -> Cursor<'a>
 }
 
 /// That this is wrong with what was read from a cursor to another: with all of it, or with its last character.
+///
+/// # Contract
+///
+/// - `requires`: <code>(past : [IsPast] at after) × (1 ≤ [length] past.part)</code>
+/// - `ensures`: <code>[IsFaulty] error at.entry after.entry result</code>
+///
+/// [IsPast]: crate::contracts#explain.Walk.IsPast
+/// [length]: crate::contracts#std.length
+/// [IsFaulty]: crate::contracts#explain.Walk.IsFaulty
 pub fn faulty<'a>(at: Cursor<'a>, after: Cursor<'a>, error: EscapeError) -> Trouble<'a>
 {
     let at = if is_of_last(&error) {
@@ -136,6 +156,23 @@ pub fn faulty<'a>(at: Cursor<'a>, after: Cursor<'a>, error: EscapeError) -> Trou
 }
 
 /// What is wrong with the content of a string that ends at `end` and isn't one. What opens it leads `inside`.
+///
+/// # Contract
+///
+/// - `requires opens`: <code>[Passes] ([Exactly] ([front] kind)) at inside</code>
+/// - `requires closed`: <code>[Passes] [closed_body] inside end</code>
+/// - `requires none`: <code>[find] ([cooked] kind) ([chars] at.rest.now) ≡ [None]</code>
+/// - `ensures`: <code>[IsTrouble] at.entry result</code>
+///
+/// [Passes]: crate::contracts#lexical.Step.Passes
+/// [Exactly]: crate::contracts#lexical.Rule.Exactly
+/// [front]: crate::contracts#lexical.Quoted.front
+/// [closed_body]: crate::contracts#explain.Shapes.closed_body
+/// [find]: crate::contracts#lexical.Rule.find
+/// [cooked]: crate::contracts#lexical.Quoted.cooked
+/// [chars]: crate::contracts#std.chars
+/// [None]: crate::contracts#std.None
+/// [IsTrouble]: crate::contracts#explain.Trouble.IsTrouble
 pub fn string_content<'a>(
     at: Cursor<'a>,
     inside: Cursor<'a>,

@@ -18,6 +18,25 @@ use crate::shim::alloc::AllocError;
 /// fit a new map, and with `Memory` where the list of open delimiters can't grow, the only thing that takes memory.
 ///
 /// Of `a + 0x;` the reason is `NoDigits`, and `at` is `0x`, the bytes 4..6.
+///
+/// # Contract
+///
+/// - `ensures answer`: <code>[IfOk] result (λ answer. [MatchOption] answer ([Parses] ([next_lo] [new_map]) ([chars]
+///   text.now)) ([IsExplained] ([next_lo] [new_map]) ([chars] text.now)))</code>
+/// - `ensures map_full`: <code>(result ≡ [Err] ExplainError.MapFull) ↔ ([Fits] [new_map] ([length] ([chars] text.now))
+///   → ⊥)</code>
+/// - `ensures fits`: <code>[IfOk] result (λ answer. [Fits] [new_map] ([length] ([chars] text.now)))</code>
+///
+/// [IfOk]: crate::contracts#std.IfOk
+/// [MatchOption]: crate::contracts#std.MatchOption
+/// [Parses]: crate::contracts#explain.Explained.Parses
+/// [next_lo]: crate::contracts#pm_span.Files.next_lo
+/// [new_map]: crate::contracts#pm_span.Files.new_map
+/// [chars]: crate::contracts#std.chars
+/// [IsExplained]: crate::contracts#explain.Explained.IsExplained
+/// [Err]: crate::contracts#std.Err
+/// [Fits]: crate::contracts#pm_span.Files.Fits
+/// [length]: crate::contracts#std.length
 pub fn explain(text: &str) -> Result<Option<Explained>, ExplainError>
 {
     let Some(lo) = fits_new(text) else {
@@ -78,6 +97,20 @@ fn refused(refusal: Refusal, before: Stretch, at: Stretch, outer: Vec<Opener>) -
 }
 
 /// The stretch of a text from one rest of it to another, which stand at these positions.
+///
+/// # Contract
+///
+/// - `requires from`: <code>(front : [List] ℕ) × ([chars] text.now ≡ front ++ [chars] from.now)</code>
+/// - `requires to`: <code>(part : [List] ℕ) × ([chars] from.now ≡ part ++ [chars] to.now)</code>
+/// - `requires ordered`: <code>lo ≤ hi</code>
+/// - `ensures`: <code>(base : ℕ) (front part : [List] ℕ) → [chars] text.now ≡ front ++ [chars] from.now → [chars]
+///   from.now ≡ part ++ [chars] to.now → lo ≡ base + [length] front → hi ≡ lo + [length] part → [IsStretch] base front
+///   part result</code>
+///
+/// [List]: crate::contracts#std.List
+/// [chars]: crate::contracts#std.chars
+/// [length]: crate::contracts#std.length
+/// [IsStretch]: crate::contracts#explain.Explained.IsStretch
 pub fn stretch(text: &str, from: &str, to: &str, lo: u32, hi: u32) -> Stretch
 {
     Stretch {

@@ -30,6 +30,21 @@ pub enum Hint {
 /// the list of open comments can't grow, the only thing that takes memory.
 ///
 /// Of `/* a/*.rs */` one comment is open, and `/*.rs */` ended last, the bytes 4..12.
+///
+/// # Contract
+///
+/// - `requires fits`: <code>[Fits] [new_map] ([length] ([chars] text.now))</code>
+/// - `requires explained`: <code>[IsExplained] ([next_lo] [new_map]) ([chars] text.now) explained.now</code>
+/// - `ensures`: <code>[IfOk] result ([IsHint] ([next_lo] [new_map]) ([chars] text.now) explained.now)</code>
+///
+/// [Fits]: crate::contracts#pm_span.Files.Fits
+/// [new_map]: crate::contracts#pm_span.Files.new_map
+/// [length]: crate::contracts#std.length
+/// [chars]: crate::contracts#std.chars
+/// [IsExplained]: crate::contracts#explain.Explained.IsExplained
+/// [next_lo]: crate::contracts#pm_span.Files.next_lo
+/// [IfOk]: crate::contracts#std.IfOk
+/// [IsHint]: crate::contracts#explain.Hint.IsHint
 pub fn advice(text: &str, explained: &Explained) -> Result<Option<Hint>, AllocError>
 {
     match explained.reason {

@@ -24,6 +24,23 @@ fn raw_name<'a>(at: Cursor<'a>, inner: Cursor<'a>) -> Trouble<'a>
 }
 
 /// Why nothing stands at the cursor, where a letter does.
+///
+/// # Contract
+///
+/// - `requires letter`: <code>[first_passes] [is_ident_start] ([chars] at.rest.now) ≡ [true]</code>
+/// - `requires identifier`: <code>[found_identifier] ([chars] at.rest.now) ≡ [None]</code>
+/// - `requires literal`: <code>[find] [quoted_literal] ([chars] at.rest.now) ≡ [None]</code>
+/// - `ensures`: <code>[IsTrouble] at.entry result</code>
+///
+/// [first_passes]: crate::contracts#lexical.Text.first_passes
+/// [is_ident_start]: crate::contracts#lexical.Class.is_ident_start
+/// [chars]: crate::contracts#std.chars
+/// [true]: crate::contracts#std.true
+/// [found_identifier]: crate::contracts#lexical.PieceFinder.found_identifier
+/// [None]: crate::contracts#std.None
+/// [find]: crate::contracts#lexical.Rule.find
+/// [quoted_literal]: crate::contracts#lexical.Literal.quoted_literal
+/// [IsTrouble]: crate::contracts#explain.Trouble.IsTrouble
 pub fn letter(at: Cursor<'_>) -> Trouble<'_>
 {
     if let Some(inside) = at.past("b\"") {

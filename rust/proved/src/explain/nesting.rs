@@ -14,6 +14,22 @@ pub struct Refusal {
 }
 
 /// Takes out the innermost opener, and answers why this closer doesn't match it, if it doesn't.
+///
+/// # Contract
+///
+/// - `ensures steps`: <code>[MatchOption] result ((hi : ℕ) → [Steps] openers.old.items openers.new.items ([Closes]
+///   delimiter hi ∷ \[\])) (λ x. [Refuses] delimiter x × [WaitsAs] ([waiting] openers.old.items) x.innermost
+///   openers.new.items)</code>
+/// - `ensures kept`: <code>[MatchOption] result ((x : Opener) × (openers.old.items ≡ openers.new.items ++ x ∷ \[\])) (λ
+///   x. [Loses] openers.old.items x.innermost openers.new.items)</code>
+///
+/// [MatchOption]: crate::contracts#std.MatchOption
+/// [Steps]: crate::contracts#explain.Open.Steps
+/// [Closes]: crate::contracts#pm_stream.Events.Closes
+/// [Refuses]: crate::contracts#explain.Open.Refuses
+/// [WaitsAs]: crate::contracts#explain.Open.WaitsAs
+/// [waiting]: crate::contracts#explain.Open.waiting
+/// [Loses]: crate::contracts#explain.Open.Loses
 pub fn close(openers: &mut Vec<Opener>, delimiter: Delimiter) -> Option<Refusal>
 {
     let Some(opener) = openers.pop() else {
@@ -32,6 +48,12 @@ pub fn close(openers: &mut Vec<Opener>, delimiter: Delimiter) -> Option<Refusal>
 }
 
 /// The delimiter of which `c` is the opener or the closer.
+///
+/// # Contract
+///
+/// - `ensures`: <code>result ≡ [delimiter_of] c</code>
+///
+/// [delimiter_of]: crate::contracts#pm_stream.Delimited.delimiter_of
 pub fn delimiter(c: char) -> Delimiter
 {
     match c {

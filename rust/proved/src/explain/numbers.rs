@@ -50,6 +50,21 @@ fn based<'a>(at: Cursor<'a>, inside: Cursor<'a>, base: Base) -> Trouble<'a>
 }
 
 /// Why no number stands at the cursor, where a digit does.
+///
+/// # Contract
+///
+/// - `requires digit`: <code>[first_passes] [is_ascii_digit] ([chars] at.rest.now) ≡ [true]</code>
+/// - `requires none`: <code>[find] rule.[number] ([chars] at.rest.now) ≡ [None]</code>
+/// - `ensures`: <code>[IsTrouble] at.entry result</code>
+///
+/// [first_passes]: crate::contracts#lexical.Text.first_passes
+/// [is_ascii_digit]: crate::contracts#std.is_ascii_digit
+/// [chars]: crate::contracts#std.chars
+/// [true]: crate::contracts#std.true
+/// [find]: crate::contracts#lexical.Rule.find
+/// [number]: crate::contracts#lexical.Number.number
+/// [None]: crate::contracts#std.None
+/// [IsTrouble]: crate::contracts#explain.Trouble.IsTrouble
 pub fn number(at: Cursor<'_>) -> Trouble<'_>
 {
     if let Some(inside) = at.past("0x") {

@@ -4,6 +4,18 @@
 use crate::lexical::parts::{Class, Cursor, skip, skip_to};
 
 /// The cursors before and after the quote with most hash signs right after it, the first of them, and these.
+///
+/// # Contract
+///
+/// - `ensures`: <code>[MatchOption] result ([HasNone] ([Stands] ([closed_raw_body] \[\])) ([chars]
+///   inside.entry.rest.now)) (λ x. [CameNearest] inside.entry x.0 x.1)</code>
+///
+/// [MatchOption]: crate::contracts#std.MatchOption
+/// [HasNone]: crate::contracts#lexical.Form.HasNone
+/// [Stands]: crate::contracts#lexical.Rule.Stands
+/// [closed_raw_body]: crate::contracts#explain.Shapes.closed_raw_body
+/// [chars]: crate::contracts#std.chars
+/// [CameNearest]: crate::contracts#explain.HintWalk.CameNearest
 pub fn nearest(inside: Cursor<'_>) -> Option<(Cursor<'_>, Cursor<'_>)>
 {
     let mut best = None;

@@ -66,6 +66,23 @@ fn past_single(inside: Cursor<'_>) -> Option<Cursor<'_>>
 }
 
 /// Why no character or byte stands at the cursor, which what opens one leads `inside`.
+///
+/// # Contract
+///
+/// - `requires opens`: <code>[Passes] [single_opening] at inside</code>
+/// - `requires front`: <code>[Passes] ([Exactly] ([single_front] kind)) at inside</code>
+/// - `requires none`: <code>[find] ([single_rule] kind) ([chars] at.rest.now) ≡ [None]</code>
+/// - `ensures`: <code>[IsTrouble] at.entry result</code>
+///
+/// [Passes]: crate::contracts#lexical.Step.Passes
+/// [single_opening]: crate::contracts#explain.Shapes.single_opening
+/// [Exactly]: crate::contracts#lexical.Rule.Exactly
+/// [single_front]: crate::contracts#explain.Shapes.single_front
+/// [find]: crate::contracts#lexical.Rule.find
+/// [single_rule]: crate::contracts#explain.Shapes.single_rule
+/// [chars]: crate::contracts#std.chars
+/// [None]: crate::contracts#std.None
+/// [IsTrouble]: crate::contracts#explain.Trouble.IsTrouble
 pub fn single<'a>(at: Cursor<'a>, inside: Cursor<'a>, kind: SingleKind) -> Trouble<'a>
 {
     match past_single(inside) {
@@ -128,6 +145,23 @@ fn digit_lifetime<'a>(at: Cursor<'a>, inside: Cursor<'a>, first: Cursor<'a>) -> 
 }
 
 /// Why nothing stands at the cursor, where a `'` does. `inside` is after it.
+///
+/// # Contract
+///
+/// - `requires opens`: <code>[Passes] ([Exactly] ([codes] \"\'\")) at inside</code>
+/// - `requires lone`: <code>[find_lone_quote] ([chars] at.rest.now) ≡ [None]</code>
+/// - `requires none`: <code>[find] [character] ([chars] at.rest.now) ≡ [None]</code>
+/// - `ensures`: <code>[IsTrouble] at.entry result</code>
+///
+/// [Passes]: crate::contracts#lexical.Step.Passes
+/// [Exactly]: crate::contracts#lexical.Rule.Exactly
+/// [codes]: crate::contracts#std.codes
+/// [find_lone_quote]: crate::contracts#lexical.PieceFinder.find_lone_quote
+/// [chars]: crate::contracts#std.chars
+/// [None]: crate::contracts#std.None
+/// [find]: crate::contracts#lexical.Rule.find
+/// [character]: crate::contracts#lexical.SingleQuoted.character
+/// [IsTrouble]: crate::contracts#explain.Trouble.IsTrouble
 pub fn quote<'a>(at: Cursor<'a>, inside: Cursor<'a>) -> Trouble<'a>
 {
     if let Some(inner) = at.past("'r#") {

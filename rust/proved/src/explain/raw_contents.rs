@@ -48,6 +48,33 @@ fn error_of(c: char, kind: StringKind) -> EscapeError
 
 /// What is wrong with the content of a raw string with these hash signs that ends at `end` and isn't one. The letters
 /// that open it lead `inside`, the hash signs `quote`, and the quote after them `body`.
+///
+/// # Contract
+///
+/// - `requires letters`: <code>[Passes] ([Exactly] ([raw_front] kind)) at inside</code>
+/// - `requires signs`: <code>(run : [Passes] ([Run] [is_hash]) inside quote) × (hashes.now ≡ run.front)</code>
+/// - `requires few`: <code>[length] hashes.now ≤ 255</code>
+/// - `requires ascii`: <code>[IsTrue] ([all_ascii] hashes.now)</code>
+/// - `requires opens`: <code>[Passes] ([Exactly] ([codes] \"\\\"\")) quote body</code>
+/// - `requires closed`: <code>[Passes] ([closed_raw_body] hashes.now) body end</code>
+/// - `requires none`: <code>[find] ([raw_string] kind) ([chars] at.rest.now) ≡ [None]</code>
+/// - `ensures`: <code>[IsTrouble] at.entry result</code>
+///
+/// [Passes]: crate::contracts#lexical.Step.Passes
+/// [Exactly]: crate::contracts#lexical.Rule.Exactly
+/// [raw_front]: crate::contracts#lexical.RawString.raw_front
+/// [Run]: crate::contracts#lexical.Rule.Run
+/// [is_hash]: crate::contracts#explain.Shapes.is_hash
+/// [length]: crate::contracts#std.length
+/// [IsTrue]: crate::contracts#std.IsTrue
+/// [all_ascii]: crate::contracts#lexical.Ascii.all_ascii
+/// [codes]: crate::contracts#std.codes
+/// [closed_raw_body]: crate::contracts#explain.Shapes.closed_raw_body
+/// [find]: crate::contracts#lexical.Rule.find
+/// [raw_string]: crate::contracts#lexical.RawString.raw_string
+/// [chars]: crate::contracts#std.chars
+/// [None]: crate::contracts#std.None
+/// [IsTrouble]: crate::contracts#explain.Trouble.IsTrouble
 pub fn raw_content<'a>(
     at: Cursor<'a>,
     inside: Cursor<'a>,

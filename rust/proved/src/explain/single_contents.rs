@@ -32,6 +32,29 @@ fn is_of_literal(error: &EscapeError) -> bool
 
 /// What is wrong with the content of a character or a byte that ends at `end` and isn't one. What opens it leads
 /// `inside`.
+///
+/// # Contract
+///
+/// - `requires opens`: <code>[Passes] ([Exactly] ([single_front] kind)) at inside</code>
+/// - `requires closed`: <code>(past : [IsPast] at end) × [Stands] [closed_character] past.part ([chars]
+///   end.rest.now)</code>
+/// - `requires closes`: <code>[IsInside] [single_quote] inside end</code>
+/// - `requires none`: <code>[find] ([single_rule] kind) ([chars] at.rest.now) ≡ [None]</code>
+/// - `ensures`: <code>[IsTrouble] at.entry result</code>
+///
+/// [Passes]: crate::contracts#lexical.Step.Passes
+/// [Exactly]: crate::contracts#lexical.Rule.Exactly
+/// [single_front]: crate::contracts#explain.Shapes.single_front
+/// [IsPast]: crate::contracts#explain.Walk.IsPast
+/// [Stands]: crate::contracts#lexical.Rule.Stands
+/// [closed_character]: crate::contracts#explain.Shapes.closed_character
+/// [chars]: crate::contracts#std.chars
+/// [IsInside]: crate::contracts#explain.Walk.IsInside
+/// [single_quote]: crate::contracts#lexical.Character.single_quote
+/// [find]: crate::contracts#lexical.Rule.find
+/// [single_rule]: crate::contracts#explain.Shapes.single_rule
+/// [None]: crate::contracts#std.None
+/// [IsTrouble]: crate::contracts#explain.Trouble.IsTrouble
 pub fn single_content<'a>(
     at: Cursor<'a>,
     inside: Cursor<'a>,

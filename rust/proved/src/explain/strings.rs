@@ -55,6 +55,21 @@ fn past_raw_quote<'a>(inside: Cursor<'a>, hashes: &str) -> Option<Cursor<'a>>
 }
 
 /// Why no string of the kind stands at the cursor, which what opens one leads `inside`.
+///
+/// # Contract
+///
+/// - `requires opens`: <code>[Passes] ([Exactly] ([front] kind)) at inside</code>
+/// - `requires none`: <code>[find] ([cooked] kind) ([chars] at.rest.now) ≡ [None]</code>
+/// - `ensures`: <code>[IsTrouble] at.entry result</code>
+///
+/// [Passes]: crate::contracts#lexical.Step.Passes
+/// [Exactly]: crate::contracts#lexical.Rule.Exactly
+/// [front]: crate::contracts#lexical.Quoted.front
+/// [find]: crate::contracts#lexical.Rule.find
+/// [cooked]: crate::contracts#lexical.Quoted.cooked
+/// [chars]: crate::contracts#std.chars
+/// [None]: crate::contracts#std.None
+/// [IsTrouble]: crate::contracts#explain.Trouble.IsTrouble
 pub fn string<'a>(at: Cursor<'a>, inside: Cursor<'a>, kind: StringKind) -> Trouble<'a>
 {
     match past_quote(inside) {
@@ -68,6 +83,25 @@ pub fn string<'a>(at: Cursor<'a>, inside: Cursor<'a>, kind: StringKind) -> Troub
 }
 
 /// Why no raw string of the kind stands at the cursor, which the letters that open one lead `inside`.
+///
+/// # Contract
+///
+/// - `requires letters`: <code>[Passes] ([Exactly] ([raw_front] kind)) at inside</code>
+/// - `requires name`: <code>[find] [raw_name_start] ([chars] at.rest.now) ≡ [None]</code>
+/// - `requires identifier`: <code>[found_identifier] ([chars] at.rest.now) ≡ [None]</code>
+/// - `requires none`: <code>[find] ([raw_rule] kind) ([chars] at.rest.now) ≡ [None]</code>
+/// - `ensures`: <code>[IsTrouble] at.entry result</code>
+///
+/// [Passes]: crate::contracts#lexical.Step.Passes
+/// [Exactly]: crate::contracts#lexical.Rule.Exactly
+/// [raw_front]: crate::contracts#lexical.RawString.raw_front
+/// [find]: crate::contracts#lexical.Rule.find
+/// [raw_name_start]: crate::contracts#explain.Shapes.raw_name_start
+/// [chars]: crate::contracts#std.chars
+/// [None]: crate::contracts#std.None
+/// [found_identifier]: crate::contracts#lexical.PieceFinder.found_identifier
+/// [raw_rule]: crate::contracts#lexical.RawString.raw_string
+/// [IsTrouble]: crate::contracts#explain.Trouble.IsTrouble
 pub fn raw_string<'a>(at: Cursor<'a>, inside: Cursor<'a>, kind: StringKind) -> Trouble<'a>
 {
     let quote = skip(inside, Class::Hash);

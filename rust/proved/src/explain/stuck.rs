@@ -52,6 +52,17 @@ fn comment(at: Cursor<'_>) -> Trouble<'_>
 
 /// Why no piece stands at the cursor, which isn't at the end of the text. `first` says whether that is byte offset 0 of
 /// a source.
+///
+/// # Contract
+///
+/// - `requires some`: <code>[chars] at.rest.now ≢ \[\]</code>
+/// - `requires none`: <code>[found] first ([chars] at.rest.now) ≡ [None]</code>
+/// - `ensures`: <code>[IsTrouble] at.entry result</code>
+///
+/// [chars]: crate::contracts#std.chars
+/// [found]: crate::contracts#lexical.PieceFinder.found
+/// [None]: crate::contracts#std.None
+/// [IsTrouble]: crate::contracts#explain.Trouble.IsTrouble
 pub fn reason_at(at: Cursor<'_>, first: bool) -> Trouble<'_>
 {
     let Some((c, after)) = at.advance() else {

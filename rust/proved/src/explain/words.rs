@@ -5,6 +5,12 @@ use crate::explain::reason::Reason;
 
 impl Reason {
     /// A short name, which stays: of [`Reason::UnclosedString`] `unclosed-string`.
+    ///
+    /// # Contract
+    ///
+    /// - `ensures`: <code>result.now ≡ [name_of] self.now</code>
+    ///
+    /// [name_of]: crate::contracts#explain.Words.name_of
     pub fn name(&self) -> &'static str
     {
         match self {
@@ -31,6 +37,12 @@ impl Reason {
     }
 
     /// What it says, in a few words: of [`Reason::MismatchedCloser`] `the innermost opener waits for another closer`.
+    ///
+    /// # Contract
+    ///
+    /// - `ensures`: <code>result.now ≡ [sentence_of] self.now</code>
+    ///
+    /// [sentence_of]: crate::contracts#explain.Words.sentence_of
     pub fn message(&self) -> &'static str
     {
         match self {

@@ -17,6 +17,25 @@ use crate::shim::alloc::AllocError;
 ///
 /// Of `struct S<T> where T: A,` it is `where T: A`, and of `struct S<T> where` nothing. A fault tells that the trees in
 /// its place aren't the where clause of an item.
+///
+/// # Contract
+///
+/// - `ensures ok`: <code>[IfOk] result (λ stream. (predicates : [List] [PredicateTrees]) × [HasPredicates]
+///   item.now.where_clause.now predicates × (stream ≡ [respaced] ([where_with] predicates \[\])))</code>
+/// - `ensures fault`: <code>[IfErr] result (λ error. [IfFault] error ([HasNoPredicates]
+///   item.now.where_clause.now))</code>
+/// - `ensures spaced`: <code>[IfOk] result [IsWellSpaced]</code>
+///
+/// [IfOk]: crate::contracts#std.IfOk
+/// [List]: crate::contracts#std.List
+/// [PredicateTrees]: crate::contracts#declarations.Param.PredicateTrees
+/// [HasPredicates]: crate::contracts#item_headers.Header.HasPredicates
+/// [respaced]: crate::contracts#quoting.Respaced.respaced
+/// [where_with]: crate::contracts#item_headers.Header.where_with
+/// [IfErr]: crate::contracts#std.IfErr
+/// [IfFault]: crate::contracts#item_headers.Fault.IfFault
+/// [HasNoPredicates]: crate::contracts#item_headers.Fault.HasNoPredicates
+/// [IsWellSpaced]: crate::contracts#pm_stream.WellSpaced.IsWellSpaced
 pub fn where_clause(item: &TypeItem<'_>) -> Result<TokenStream, HeaderError>
 {
     let mut quote = Quote::new();
@@ -28,6 +47,26 @@ pub fn where_clause(item: &TypeItem<'_>) -> Result<TokenStream, HeaderError>
 ///
 /// Of `struct S<T> where T: A,` and `T: B` it is `where T: A, T: B`; of `struct S<T>` it is `where T: B`. What the
 /// predicate is isn't looked at. It fails as [`where_clause`] does.
+///
+/// # Contract
+///
+/// - `ensures ok`: <code>[IfOk] result (λ stream. (predicates : [List] [PredicateTrees]) × [HasPredicates]
+///   item.now.where_clause.now predicates × (stream ≡ [respaced] ([where_with] predicates (predicate.now ∷
+///   \[\]))))</code>
+/// - `ensures fault`: <code>[IfErr] result (λ error. [IfFault] error ([HasNoPredicates]
+///   item.now.where_clause.now))</code>
+/// - `ensures spaced`: <code>[IfOk] result [IsWellSpaced]</code>
+///
+/// [IfOk]: crate::contracts#std.IfOk
+/// [List]: crate::contracts#std.List
+/// [PredicateTrees]: crate::contracts#declarations.Param.PredicateTrees
+/// [HasPredicates]: crate::contracts#item_headers.Header.HasPredicates
+/// [respaced]: crate::contracts#quoting.Respaced.respaced
+/// [where_with]: crate::contracts#item_headers.Header.where_with
+/// [IfErr]: crate::contracts#std.IfErr
+/// [IfFault]: crate::contracts#item_headers.Fault.IfFault
+/// [HasNoPredicates]: crate::contracts#item_headers.Fault.HasNoPredicates
+/// [IsWellSpaced]: crate::contracts#pm_stream.WellSpaced.IsWellSpaced
 pub fn where_clause_with(
     item: &TypeItem<'_>,
     predicate: &TokenStream,
@@ -45,6 +84,29 @@ pub fn where_clause_with(
 ///
 /// Of `struct S<'a, T, U, const N: usize> where T: A` and `B` it is `where T: A, T: B, U: B`. A fault tells that the
 /// generic parameters or the where clause aren't those of an item. What the bound is isn't looked at.
+///
+/// # Contract
+///
+/// - `ensures ok`: <code>[IfOk] result (λ stream. (predicates : [List] [PredicateTrees]) × (params : [List]
+///   [ParamTrees]) × [HasPredicates] item.now.where_clause.now predicates × [HasParams] item.now.generics.now params ×
+///   (stream ≡ [respaced] ([where_with] predicates ([bounds_on_types] bound.now params))))</code>
+/// - `ensures fault`: <code>[IfErr] result (λ error. [IfFault] error ([HasNotBoth] item.now.generics.now
+///   item.now.where_clause.now))</code>
+/// - `ensures spaced`: <code>[IfOk] result [IsWellSpaced]</code>
+///
+/// [IfOk]: crate::contracts#std.IfOk
+/// [List]: crate::contracts#std.List
+/// [PredicateTrees]: crate::contracts#declarations.Param.PredicateTrees
+/// [ParamTrees]: crate::contracts#declarations.Param.ParamTrees
+/// [HasPredicates]: crate::contracts#item_headers.Header.HasPredicates
+/// [HasParams]: crate::contracts#item_headers.Header.HasParams
+/// [respaced]: crate::contracts#quoting.Respaced.respaced
+/// [where_with]: crate::contracts#item_headers.Header.where_with
+/// [bounds_on_types]: crate::contracts#item_headers.Header.bounds_on_types
+/// [IfErr]: crate::contracts#std.IfErr
+/// [IfFault]: crate::contracts#item_headers.Fault.IfFault
+/// [HasNotBoth]: crate::contracts#item_headers.Fault.HasNotBoth
+/// [IsWellSpaced]: crate::contracts#pm_stream.WellSpaced.IsWellSpaced
 pub fn where_clause_with_bound(
     item: &TypeItem<'_>,
     bound: &TokenStream,

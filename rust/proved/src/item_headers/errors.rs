@@ -22,6 +22,12 @@ pub enum HeaderError {
 
 impl HeaderError {
     /// Where the fault stands, as [`Fault::span`] has it: `None` if more trees are missing, or for another error.
+    ///
+    /// # Contract
+    ///
+    /// - `ensures`: <code>result ≡ [header_span] self.now</code>
+    ///
+    /// [header_span]: crate::contracts#item_headers.Message.header_span
     pub fn span(&self) -> Option<Span>
     {
         match self {

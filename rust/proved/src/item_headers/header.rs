@@ -16,6 +16,30 @@ use crate::quoting::Quote;
 /// Of `struct S<'a, T: A = B> where T: C { .. }` and the trait `D<T>` it is
 /// `impl<'a, T: A> D<T> for S<'a, T> where T: C`. A fault tells that the generic parameters or the where clause aren't
 /// those of an item. What the trait is isn't looked at.
+///
+/// # Contract
+///
+/// - `ensures ok`: <code>[IfOk] result (λ stream. (params : [List] [ParamTrees]) × (predicates : [List]
+///   [PredicateTrees]) × [HasParams] item.now.generics.now params × [HasPredicates] item.now.where_clause.now
+///   predicates × (stream ≡ [respaced] ([header] params item.now.name.now trait_path.now ([where_with] predicates
+///   \[\]))))</code>
+/// - `ensures fault`: <code>[IfErr] result (λ error. [IfFault] error ([HasNotBoth] item.now.generics.now
+///   item.now.where_clause.now))</code>
+/// - `ensures spaced`: <code>[IfOk] result [IsWellSpaced]</code>
+///
+/// [IfOk]: crate::contracts#std.IfOk
+/// [List]: crate::contracts#std.List
+/// [ParamTrees]: crate::contracts#declarations.Param.ParamTrees
+/// [PredicateTrees]: crate::contracts#declarations.Param.PredicateTrees
+/// [HasParams]: crate::contracts#item_headers.Header.HasParams
+/// [HasPredicates]: crate::contracts#item_headers.Header.HasPredicates
+/// [respaced]: crate::contracts#quoting.Respaced.respaced
+/// [header]: crate::contracts#item_headers.Header.header
+/// [where_with]: crate::contracts#item_headers.Header.where_with
+/// [IfErr]: crate::contracts#std.IfErr
+/// [IfFault]: crate::contracts#item_headers.Fault.IfFault
+/// [HasNotBoth]: crate::contracts#item_headers.Fault.HasNotBoth
+/// [IsWellSpaced]: crate::contracts#pm_stream.WellSpaced.IsWellSpaced
 pub fn impl_header(
     item: &TypeItem<'_>,
     trait_path: &TokenStream,
@@ -31,6 +55,24 @@ pub fn impl_header(
 ///
 /// Of the same item and `where T: C, T: D<T>` it is `impl<'a, T: A> D<T> for S<'a, T> where T: C, T: D<T>`. A fault
 /// tells that the generic parameters aren't those of an item. What the trait and the clause are isn't looked at.
+///
+/// # Contract
+///
+/// - `ensures ok`: <code>[IfOk] result (λ stream. (params : [List] [ParamTrees]) × [HasParams] item.now.generics.now
+///   params × (stream ≡ [respaced] ([header] params item.now.name.now trait_path.now where_clause.now)))</code>
+/// - `ensures fault`: <code>[IfErr] result (λ error. [IfFault] error ([HasNoParams] item.now.generics.now))</code>
+/// - `ensures spaced`: <code>[IfOk] result [IsWellSpaced]</code>
+///
+/// [IfOk]: crate::contracts#std.IfOk
+/// [List]: crate::contracts#std.List
+/// [ParamTrees]: crate::contracts#declarations.Param.ParamTrees
+/// [HasParams]: crate::contracts#item_headers.Header.HasParams
+/// [respaced]: crate::contracts#quoting.Respaced.respaced
+/// [header]: crate::contracts#item_headers.Header.header
+/// [IfErr]: crate::contracts#std.IfErr
+/// [IfFault]: crate::contracts#item_headers.Fault.IfFault
+/// [HasNoParams]: crate::contracts#item_headers.Fault.HasNoParams
+/// [IsWellSpaced]: crate::contracts#pm_stream.WellSpaced.IsWellSpaced
 pub fn impl_header_where(
     item: &TypeItem<'_>,
     trait_path: &TokenStream,

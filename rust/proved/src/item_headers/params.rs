@@ -21,6 +21,24 @@ pub(crate) enum Form {
 ///
 /// Of `struct S<'a, T: A = B, const N: usize = 3>` they are `<'a, T: A, const N: usize>`. A fault tells that the trees
 /// in their place aren't the generic parameters of an item.
+///
+/// # Contract
+///
+/// - `ensures ok`: <code>[IfOk] result (λ stream. (params : [List] [ParamTrees]) × [HasParams] item.now.generics.now
+///   params × (stream ≡ [respaced] ([impl_generics] params)))</code>
+/// - `ensures fault`: <code>[IfErr] result (λ error. [IfFault] error ([HasNoParams] item.now.generics.now))</code>
+/// - `ensures spaced`: <code>[IfOk] result [IsWellSpaced]</code>
+///
+/// [IfOk]: crate::contracts#std.IfOk
+/// [List]: crate::contracts#std.List
+/// [ParamTrees]: crate::contracts#declarations.Param.ParamTrees
+/// [HasParams]: crate::contracts#item_headers.Header.HasParams
+/// [respaced]: crate::contracts#quoting.Respaced.respaced
+/// [impl_generics]: crate::contracts#item_headers.Header.impl_generics
+/// [IfErr]: crate::contracts#std.IfErr
+/// [IfFault]: crate::contracts#item_headers.Fault.IfFault
+/// [HasNoParams]: crate::contracts#item_headers.Fault.HasNoParams
+/// [IsWellSpaced]: crate::contracts#pm_stream.WellSpaced.IsWellSpaced
 pub fn impl_generics(item: &TypeItem<'_>) -> Result<TokenStream, HeaderError>
 {
     let mut quote = Quote::new();
@@ -36,6 +54,24 @@ pub fn impl_generics(item: &TypeItem<'_>) -> Result<TokenStream, HeaderError>
 /// The arguments of the item's type: the names of its parameters in order, or nothing where it has none.
 ///
 /// Of `struct S<'a, T: A = B, const N: usize = 3>` they are `<'a, T, N>`. It fails as [`impl_generics`] does.
+///
+/// # Contract
+///
+/// - `ensures ok`: <code>[IfOk] result (λ stream. (params : [List] [ParamTrees]) × [HasParams] item.now.generics.now
+///   params × (stream ≡ [respaced] ([type_generics] params)))</code>
+/// - `ensures fault`: <code>[IfErr] result (λ error. [IfFault] error ([HasNoParams] item.now.generics.now))</code>
+/// - `ensures spaced`: <code>[IfOk] result [IsWellSpaced]</code>
+///
+/// [IfOk]: crate::contracts#std.IfOk
+/// [List]: crate::contracts#std.List
+/// [ParamTrees]: crate::contracts#declarations.Param.ParamTrees
+/// [HasParams]: crate::contracts#item_headers.Header.HasParams
+/// [respaced]: crate::contracts#quoting.Respaced.respaced
+/// [type_generics]: crate::contracts#item_headers.Header.type_generics
+/// [IfErr]: crate::contracts#std.IfErr
+/// [IfFault]: crate::contracts#item_headers.Fault.IfFault
+/// [HasNoParams]: crate::contracts#item_headers.Fault.HasNoParams
+/// [IsWellSpaced]: crate::contracts#pm_stream.WellSpaced.IsWellSpaced
 pub fn type_generics(item: &TypeItem<'_>) -> Result<TokenStream, HeaderError>
 {
     let mut quote = Quote::new();
@@ -45,6 +81,24 @@ pub fn type_generics(item: &TypeItem<'_>) -> Result<TokenStream, HeaderError>
 
 /// The same as an expression wants them, as `::<'a, T, N>`; nothing where the item has none. It fails as
 /// [`impl_generics`] does.
+///
+/// # Contract
+///
+/// - `ensures ok`: <code>[IfOk] result (λ stream. (params : [List] [ParamTrees]) × [HasParams] item.now.generics.now
+///   params × (stream ≡ [respaced] ([turbofish] params)))</code>
+/// - `ensures fault`: <code>[IfErr] result (λ error. [IfFault] error ([HasNoParams] item.now.generics.now))</code>
+/// - `ensures spaced`: <code>[IfOk] result [IsWellSpaced]</code>
+///
+/// [IfOk]: crate::contracts#std.IfOk
+/// [List]: crate::contracts#std.List
+/// [ParamTrees]: crate::contracts#declarations.Param.ParamTrees
+/// [HasParams]: crate::contracts#item_headers.Header.HasParams
+/// [respaced]: crate::contracts#quoting.Respaced.respaced
+/// [turbofish]: crate::contracts#item_headers.Header.turbofish
+/// [IfErr]: crate::contracts#std.IfErr
+/// [IfFault]: crate::contracts#item_headers.Fault.IfFault
+/// [HasNoParams]: crate::contracts#item_headers.Fault.HasNoParams
+/// [IsWellSpaced]: crate::contracts#pm_stream.WellSpaced.IsWellSpaced
 pub fn turbofish(item: &TypeItem<'_>) -> Result<TokenStream, HeaderError>
 {
     let mut quote = Quote::new();

@@ -37,6 +37,12 @@ pub trait Chooser {
     // Relates the chooser before a call, the place with the gap that it gave, and the chooser after it.
 
     /// The gap that is wished here. It is asked once for each place, in order.
+    ///
+    /// # Contract
+    ///
+    /// - `ensures`: <code>gap_gives self.old ([choice_of] place.entry result) self.new</code>
+    ///
+    /// [choice_of]: crate::contracts#layout.Written.choice_of
     fn gap(&mut self, place: Place<'_>) -> Gap;
 }
 

@@ -11,5 +11,13 @@
 ///
 /// The printed text is a layout. `a+=b` and `a += b` on two lines, broken after `=`, are layouts of one stream;
 /// `a + = b` is none of it.
+///
+/// # Contract
+///
+/// - `ensures back`: <code>[LayoutsComeBack]</code>
+/// - `ensures printed`: <code>[PrintedIsLayout]</code>
+///
+/// [LayoutsComeBack]: crate::contracts#layout.Laws.LayoutsComeBack
+/// [PrintedIsLayout]: crate::contracts#layout.Laws.PrintedIsLayout
 pub fn layouts_come_back()
 {}

@@ -17,6 +17,26 @@ use crate::shim::io::Write;
 ///
 /// Fails with `NotWellSpaced` exactly where the stream isn't `well-spaced`, and with `Memory`. It takes time
 /// proportional to the length of the text.
+///
+/// # Contract
+///
+/// - `ensures written`: <code>[IfOk] result (λ text. [IsWritten] C.gap_gives chooser.old chooser.new stream.now
+///   ([chars] ([string_bytes] text)))</code>
+/// - `ensures layout`: <code>[IfOk] result (λ text. [IsLayout] stream.now ([chars] ([string_bytes] text)))</code>
+/// - `ensures back`: <code>[IfOk] result (λ text. [ReadsBack] stream.now ([chars] ([string_bytes] text)))</code>
+/// - `ensures refused`: <code>(result ≡ [Err] NotWellSpaced) ↔ ([IsWellSpaced] stream.now → ⊥)</code>
+/// - `ensures unwritten`: <code>[IfErr] result [IsNoWrite]</code>
+///
+/// [IfOk]: crate::contracts#std.IfOk
+/// [IsWritten]: crate::contracts#layout.Written.IsWritten
+/// [chars]: crate::contracts#std.chars
+/// [string_bytes]: crate::contracts#std.string_bytes
+/// [IsLayout]: crate::contracts#layout.Layout.IsLayout
+/// [ReadsBack]: crate::contracts#layout.Writing.ReadsBack
+/// [Err]: crate::contracts#std.Err
+/// [IsWellSpaced]: crate::contracts#pm_stream.WellSpaced.IsWellSpaced
+/// [IfErr]: crate::contracts#std.IfErr
+/// [IsNoWrite]: crate::contracts#layout.Writing.IsNoWrite
 pub fn text_with<C: Chooser>(
     stream: &TokenStream,
     chooser: &mut C,
@@ -150,6 +170,21 @@ pub(crate) fn closer(delimiter: Delimiter) -> Option<char>
 ///
 /// Fails with `NotWellSpaced` and with `Memory` before anything is written, and with `Write`; then a beginning of the
 /// text may stand.
+///
+/// # Contract
+///
+/// - `ensures ok`: <code>[OnOk] result ([Writes] ([IsWritten] C.gap_gives chooser.old chooser.new stream.now)
+///   stream.now (W.contents writer.old) (W.contents writer.new))</code>
+/// - `ensures refused`: <code>(result ≡ [Err] NotWellSpaced) ↔ ([IsWellSpaced] stream.now → ⊥)</code>
+/// - `ensures untouched`: <code>[IfErr] result (λ error. error ≡ NotWellSpaced → W.contents writer.new ≡ W.contents
+///   writer.old)</code>
+///
+/// [OnOk]: crate::contracts#std.OnOk
+/// [Writes]: crate::contracts#layout.Written.Writes
+/// [IsWritten]: crate::contracts#layout.Written.IsWritten
+/// [Err]: crate::contracts#std.Err
+/// [IsWellSpaced]: crate::contracts#pm_stream.WellSpaced.IsWellSpaced
+/// [IfErr]: crate::contracts#std.IfErr
 pub fn write_with<C: Chooser, W: Write>(
     stream: &TokenStream,
     chooser: &mut C,

@@ -156,6 +156,12 @@ fn kinds(class: Class) -> u16
 }
 
 /// Whether the byte is an ASCII character of the class.
+///
+/// # Contract
+///
+/// - `ensures`: <code>result ≡ [ascii_in] class byte</code>
+///
+/// [ascii_in]: crate::contracts#lexical.Bytes.ascii_in
 #[inline(always)]
 pub fn holds_ascii(class: Class, byte: u8) -> bool
 {
@@ -163,6 +169,12 @@ pub fn holds_ascii(class: Class, byte: u8) -> bool
 }
 
 /// Whether the character is of the class.
+///
+/// # Contract
+///
+/// - `ensures`: <code>result ≡ [is_in] class c</code>
+///
+/// [is_in]: crate::contracts#lexical.Bytes.is_in
 #[inline(always)]
 pub fn holds(class: Class, c: char) -> bool
 {
@@ -178,6 +190,14 @@ pub fn holds(class: Class, c: char) -> bool
 }
 
 /// How many bytes at the front are ASCII characters of the class.
+///
+/// # Contract
+///
+/// - `ensures`: <code>result ≡ [length] ([while_front] ([ascii_in] class) bytes.now)</code>
+///
+/// [length]: crate::contracts#std.length
+/// [while_front]: crate::contracts#lexical.Finder.while_front
+/// [ascii_in]: crate::contracts#lexical.Bytes.ascii_in
 #[inline(always)]
 pub fn count_ascii(bytes: &[u8], class: Class) -> usize
 {
@@ -203,6 +223,14 @@ fn skip_ascii(at: Cursor<'_>, class: Class) -> Cursor<'_>
 }
 
 /// The cursor after all the characters of the class, up to one that isn't.
+///
+/// # Contract
+///
+/// - `ensures`: <code>[Passes] ([Run] ([is_in] class)) at.entry result</code>
+///
+/// [Passes]: crate::contracts#lexical.Step.Passes
+/// [Run]: crate::contracts#lexical.Rule.Run
+/// [is_in]: crate::contracts#lexical.Bytes.is_in
 #[inline]
 pub fn skip(at: Cursor<'_>, class: Class) -> Cursor<'_>
 {
@@ -214,6 +242,14 @@ pub fn skip(at: Cursor<'_>, class: Class) -> Cursor<'_>
 }
 
 /// The cursor after the character at the cursor, if it is of the class.
+///
+/// # Contract
+///
+/// - `ensures`: <code>[Reads] ([One] ([is_in] class)) at.entry result</code>
+///
+/// [Reads]: crate::contracts#lexical.Step.Reads
+/// [One]: crate::contracts#lexical.Rule.One
+/// [is_in]: crate::contracts#lexical.Bytes.is_in
 #[inline]
 pub fn one(at: Cursor<'_>, class: Class) -> Option<Cursor<'_>>
 {
@@ -222,6 +258,14 @@ pub fn one(at: Cursor<'_>, class: Class) -> Option<Cursor<'_>>
 }
 
 /// Whether a character of the class stands at the cursor.
+///
+/// # Contract
+///
+/// - `ensures`: <code>result ≡ [first_passes] ([is_in] class) ([chars] at.entry.rest.now)</code>
+///
+/// [first_passes]: crate::contracts#lexical.Text.first_passes
+/// [is_in]: crate::contracts#lexical.Bytes.is_in
+/// [chars]: crate::contracts#std.chars
 #[inline]
 pub fn is_next(at: Cursor<'_>, class: Class) -> bool
 {

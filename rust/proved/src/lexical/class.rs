@@ -31,12 +31,24 @@ pub enum PieceStart {
 }
 
 /// Whether the character is white space or one of the two marks of direction, by the rule `white`.
+///
+/// # Contract
+///
+/// - `ensures`: <code>result ≡ [white] c</code>
+///
+/// [white]: crate::contracts#lexical.Class.is_white
 pub fn is_white(c: char) -> bool
 {
     c.is_whitespace() || c == '\u{200E}' || c == '\u{200F}'
 }
 
 /// Whether an identifier may begin with the character, by the rule `identifier-start`.
+///
+/// # Contract
+///
+/// - `ensures`: <code>result ≡ [is_ident_start] c</code>
+///
+/// [is_ident_start]: crate::contracts#lexical.Class.is_ident_start
 pub fn starts_identifier(c: char) -> bool
 {
     if c.is_ascii() {
@@ -46,6 +58,12 @@ pub fn starts_identifier(c: char) -> bool
 }
 
 /// Whether an identifier may go on with the character, by the rule `identifier-continue`.
+///
+/// # Contract
+///
+/// - `ensures`: <code>result ≡ [is_ident_continue] c</code>
+///
+/// [is_ident_continue]: crate::contracts#lexical.Class.is_ident_continue
 pub fn continues_identifier(c: char) -> bool
 {
     if c.is_ascii() {
@@ -105,6 +123,12 @@ static STARTS: [PieceStart; 256] = [
 ];
 
 /// What the first byte of a text says of the piece that may stand there: nothing, where it is past ASCII.
+///
+/// # Contract
+///
+/// - `ensures`: <code>result ≡ [byte_starts] byte</code>
+///
+/// [byte_starts]: crate::contracts#lexical.Quick.byte_starts
 #[inline(always)]
 pub fn byte_start(byte: u8) -> PieceStart
 {
@@ -112,6 +136,12 @@ pub fn byte_start(byte: u8) -> PieceStart
 }
 
 /// What the first character of a text says of the piece that may stand there.
+///
+/// # Contract
+///
+/// - `ensures`: <code>result ≡ [piece_start] c</code>
+///
+/// [piece_start]: crate::contracts#lexical.PieceFinder.piece_start
 #[inline(always)]
 pub fn piece_start_of(c: char) -> PieceStart
 {

@@ -43,6 +43,13 @@ fn skip_block(at: Cursor<'_>) -> Option<Cursor<'_>>
 }
 
 /// The cursor after the comment that stands at the cursor.
+///
+/// # Contract
+///
+/// - `ensures`: <code>[Reads] rule.[comment] at.entry result</code>
+///
+/// [Reads]: crate::contracts#lexical.Step.Reads
+/// [comment]: crate::contracts#lexical.Comment.comment
 pub fn skip_comment(at: Cursor<'_>) -> Option<Cursor<'_>>
 {
     match skip_line(at) {
@@ -53,6 +60,17 @@ pub fn skip_comment(at: Cursor<'_>) -> Option<Cursor<'_>>
 
 /// The comment that stands at the cursor, a gap or a doc comment: its kind, and the cursor after it.
 /// None stands where a doc comment has a CR that no LF follows in its text.
+///
+/// # Contract
+///
+/// - `ensures`: <code>[Answers] ([comment_found] ([find] rule.[comment] ([chars] at.entry.rest.now))) at.entry
+///   result</code>
+///
+/// [Answers]: crate::contracts#lexical.PieceStep.Answers
+/// [comment_found]: crate::contracts#lexical.PieceFinder.comment_found
+/// [find]: crate::contracts#lexical.Rule.find
+/// [comment]: crate::contracts#lexical.Comment.comment
+/// [chars]: crate::contracts#std.chars
 #[inline(never)]
 pub fn comment(at: Cursor<'_>) -> Option<(PieceKind<'_>, Cursor<'_>)>
 {

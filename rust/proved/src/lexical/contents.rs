@@ -7,6 +7,12 @@ use crate::lexical::quoted::StringKind;
 use crate::shim::memchr::memchr;
 
 /// Whether a string of the kind may have the character, be it raw or not.
+///
+/// # Contract
+///
+/// - `ensures`: <code>result ≡ [may_stand_raw] kind c</code>
+///
+/// [may_stand_raw]: crate::contracts#lexical.RawString.may_stand_raw
 pub fn may_stand(c: char, kind: StringKind) -> bool
 {
     match kind {
@@ -33,6 +39,14 @@ fn count_ascii(bytes: &[u8]) -> usize
 }
 
 /// How many bytes of the stretch come before the first that a string of the kind forbids.
+///
+/// # Contract
+///
+/// - `ensures`: <code>result ≡ [length] ([while_front] ([may_stand_raw] kind) stretch.now)</code>
+///
+/// [length]: crate::contracts#std.length
+/// [while_front]: crate::contracts#lexical.Finder.while_front
+/// [may_stand_raw]: crate::contracts#lexical.RawString.may_stand_raw
 pub fn count_allowed(stretch: &[u8], kind: StringKind) -> usize
 {
     match kind {

@@ -15,6 +15,11 @@ pub struct Cursor<'a> {
 
 impl<'a> Cursor<'a> {
     /// The front of a text.
+    ///
+    /// # Contract
+    ///
+    /// - `ensures rest`: <code>result.rest.now ≡ text.now</code>
+    /// - `ensures chars`: <code>result.chars_before ≡ 0</code>
     #[inline(always)]
     pub fn new(text: &'a str) -> Self
     {
@@ -27,6 +32,14 @@ impl<'a> Cursor<'a> {
     }
 
     /// The character after the cursor, and the cursor after that character.
+    ///
+    /// # Contract
+    ///
+    /// - `ensures`: <code>[MatchOption] result ([chars] self.entry.rest.now ≡ \[\]) (λ x. ([chars] self.entry.rest.now ≡
+    ///   x.0 ∷ [chars] x.1.rest.now) × (x.1.chars_before ≡ self.entry.chars_before + 1))</code>
+    ///
+    /// [MatchOption]: crate::contracts#std.MatchOption
+    /// [chars]: crate::contracts#std.chars
     #[inline(always)]
     pub fn advance(self) -> Option<(char, Self)>
     {
@@ -39,6 +52,16 @@ impl<'a> Cursor<'a> {
     }
 
     /// The cursor after the ASCII text `front`, where that stands at the cursor.
+    ///
+    /// # Contract
+    ///
+    /// - `requires`: <code>[IsTrue] ([all_ascii] front.now)</code>
+    /// - `ensures`: <code>[Reads] ([Exactly] front.now) self.entry result</code>
+    ///
+    /// [IsTrue]: crate::contracts#std.IsTrue
+    /// [all_ascii]: crate::contracts#lexical.Ascii.all_ascii
+    /// [Reads]: crate::contracts#lexical.Step.Reads
+    /// [Exactly]: crate::contracts#lexical.Rule.Exactly
     #[inline(always)]
     pub fn past(self, front: &str) -> Option<Self>
     {
@@ -51,6 +74,19 @@ impl<'a> Cursor<'a> {
     }
 
     /// The cursor after the next `size` bytes, which are whole characters.
+    ///
+    /// # Contract
+    ///
+    /// - `requires`: <code>[IsCharBoundary] self.rest.now size</code>
+    /// - `ensures rest`: <code>result.rest.now ≡ [drop] size self.entry.rest.now</code>
+    /// - `ensures count`: <code>result.chars_before ≡ self.entry.chars_before + [length] ([chars] ([take] size
+    ///   self.entry.rest.now))</code>
+    ///
+    /// [IsCharBoundary]: crate::contracts#std.IsCharBoundary
+    /// [drop]: crate::contracts#std.drop
+    /// [length]: crate::contracts#std.length
+    /// [chars]: crate::contracts#std.chars
+    /// [take]: crate::contracts#std.take
     pub fn after_bytes(self, size: usize) -> Self
     {
         Cursor {
@@ -60,6 +96,17 @@ impl<'a> Cursor<'a> {
     }
 
     /// How many bytes of the text stand before the cursor, which lies in it.
+    ///
+    /// # Contract
+    ///
+    /// - `requires`: <code>(front : [List] ℕ) × ([chars] text.now ≡ front ++ [chars] self.rest.now)</code>
+    /// - `ensures`: <code>(front : [List] ℕ) → [chars] text.now ≡ front ++ [chars] self.entry.rest.now → result ≡ [length]
+    ///   ([encode_utf8_all] front)</code>
+    ///
+    /// [List]: crate::contracts#std.List
+    /// [chars]: crate::contracts#std.chars
+    /// [length]: crate::contracts#std.length
+    /// [encode_utf8_all]: crate::contracts#std.encode_utf8_all
     #[inline(always)]
     pub fn bytes_in(self, text: &str) -> usize
     {

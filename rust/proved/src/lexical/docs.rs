@@ -47,6 +47,17 @@ fn has_bare_return(text: &str) -> bool
 
 /// What kind of piece the comment before `rest` is. It is none where a doc comment has a CR that
 /// no LF follows in its text.
+///
+/// # Contract
+///
+/// - `requires`: <code>[Comment] ([chars] comment.now) ([chars] rest.now)</code>
+/// - `ensures`: <code>[Tells] ([kind_of_comment] ([chars] comment.now) ([chars] rest.now)) ([chars] comment.now)
+///   result</code>
+///
+/// [Comment]: crate::contracts#lexical.Comment.Comment
+/// [chars]: crate::contracts#std.chars
+/// [Tells]: crate::contracts#lexical.PieceStep.Tells
+/// [kind_of_comment]: crate::contracts#lexical.CommentKind.comment_kind
 pub fn comment_kind<'a>(comment: &'a str, rest: &str) -> Option<PieceKind<'a>>
 {
     if !is_doc(comment) {

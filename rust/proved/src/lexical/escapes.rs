@@ -8,6 +8,13 @@ use crate::lexical::skip::one as one_that;
 use crate::lexical::text::{before, begins};
 
 /// Whether the letter is a simple escape, by the rule `simple-escape`.
+///
+/// # Contract
+///
+/// - `ensures`: <code>result ≡ [is_one_of] (rule.[letters] kind) c</code>
+///
+/// [is_one_of]: crate::contracts#lexical.Quoted.is_one_of
+/// [letters]: crate::contracts#lexical.Quoted.letters
 pub fn is_letter(c: char, kind: StringKind) -> bool
 {
     match c {
@@ -64,6 +71,17 @@ fn allows(kind: StringKind, value: u32) -> bool
 const MOST_DIGITS: u32 = 6;
 
 /// Whether the hex digits, six at most, write a character that is allowed, whatever `_` stand between them.
+///
+/// # Contract
+///
+/// - `requires`: <code>[IsTrue] ([list_all] [is_code_digit] code.now)</code>
+/// - `ensures`: <code>result ≡ [is_code] (rule.[allows] kind) code.now</code>
+///
+/// [IsTrue]: crate::contracts#std.IsTrue
+/// [list_all]: crate::contracts#std.list_all
+/// [is_code_digit]: crate::contracts#lexical.Quoted.is_code_digit
+/// [is_code]: crate::contracts#lexical.Quoted.is_code
+/// [allows]: crate::contracts#lexical.Quoted.allows
 pub fn writes_character(code: &[u8], kind: StringKind) -> bool
 {
     let mut value: u32 = 0;
@@ -98,6 +116,13 @@ fn unicode(at: Cursor<'_>, kind: StringKind) -> Option<Cursor<'_>>
 }
 
 /// The cursor after an escape: a letter, `x` and two digits, or the code of a character.
+///
+/// # Contract
+///
+/// - `ensures`: <code>[Reads] (rule.[escape] kind) at.entry result</code>
+///
+/// [Reads]: crate::contracts#lexical.Step.Reads
+/// [escape]: crate::contracts#lexical.Quoted.escape
 pub fn escape(at: Cursor<'_>, kind: StringKind) -> Option<Cursor<'_>>
 {
     if let Some(end) = simple(at, kind) {

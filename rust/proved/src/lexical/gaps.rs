@@ -19,6 +19,15 @@ fn spaces(bytes: &[u8]) -> usize
 ///
 /// Where none stands, it is the whole text, after 0 characters. At two spaces and `a b` it answers
 /// `a b` and 2.
+///
+/// # Contract
+///
+/// - `ensures passed`: <code>[IsPastWhite] ([chars] text.now) ([chars] result.0.now) result.1</code>
+/// - `ensures utf8`: <code>[IsUtf8] result.0.now</code>
+///
+/// [IsPastWhite]: crate::contracts#lexical.WhiteRun.IsPastWhite
+/// [chars]: crate::contracts#std.chars
+/// [IsUtf8]: crate::contracts#std.IsUtf8
 #[inline(always)]
 pub fn past_white(text: &str) -> (&str, usize)
 {

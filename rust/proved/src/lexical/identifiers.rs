@@ -7,6 +7,13 @@ use crate::lexical::piece::PieceKind;
 use crate::lexical::text::{before, begins, is_text};
 
 /// The cursor after the name that stands at the cursor, by the rule `name`.
+///
+/// # Contract
+///
+/// - `ensures`: <code>[Reads] rule.[name] at.entry result</code>
+///
+/// [Reads]: crate::contracts#lexical.Step.Reads
+/// [name]: crate::contracts#lexical.Identifier.name
 pub fn name(at: Cursor<'_>) -> Option<Cursor<'_>>
 {
     let after = one(at, Class::IdentifierStart)?;
@@ -31,6 +38,13 @@ fn begins_literal(text: &str, first: char) -> bool
 
 /// Whether no raw identifier has the name, by the rule `raw-reserved`: it is `_`, `super`, `self`,
 /// `Self` or `crate`.
+///
+/// # Contract
+///
+/// - `ensures`: <code>result ≡ [reserved] ([chars] name.now)</code>
+///
+/// [reserved]: crate::contracts#lexical.Identifier.is_reserved
+/// [chars]: crate::contracts#std.chars
 pub fn is_reserved(name: &str) -> bool
 {
     is_text(name, "_")
@@ -41,6 +55,13 @@ pub fn is_reserved(name: &str) -> bool
 }
 
 /// The cursor after the name of a raw identifier that stands at the cursor, after `r#`.
+///
+/// # Contract
+///
+/// - `ensures`: <code>[Reads] rule.[raw_name] at.entry result</code>
+///
+/// [Reads]: crate::contracts#lexical.Step.Reads
+/// [raw_name]: crate::contracts#lexical.Identifier.raw_name
 #[inline(never)]
 pub fn raw_name(at: Cursor<'_>) -> Option<Cursor<'_>>
 {
@@ -53,6 +74,17 @@ pub fn raw_name(at: Cursor<'_>) -> Option<Cursor<'_>>
 
 /// The cursor after the identifier that stands at the cursor, whatever literal begins there, where
 /// `raw` says whether `r#` does.
+///
+/// # Contract
+///
+/// - `requires`: <code>[begins_with] ([codes] \"r#\") ([chars] at.rest.now) ≡ raw</code>
+/// - `ensures`: <code>[Reads] (rule.[written] raw) at.entry result</code>
+///
+/// [begins_with]: crate::contracts#lexical.Text.begins_with
+/// [codes]: crate::contracts#std.codes
+/// [chars]: crate::contracts#std.chars
+/// [Reads]: crate::contracts#lexical.Step.Reads
+/// [written]: crate::contracts#lexical.Identifier.written
 pub fn written(at: Cursor<'_>, raw: bool) -> Option<Cursor<'_>>
 {
     if raw {
@@ -64,6 +96,19 @@ pub fn written(at: Cursor<'_>, raw: bool) -> Option<Cursor<'_>>
 
 /// The identifier that stands at the cursor, by the rule `identifier`: its kind, and the cursor after
 /// it. `first` is the character at the cursor, and `after` the cursor after that.
+///
+/// # Contract
+///
+/// - `requires starts`: <code>[IsTrue] ([is_ident_start] first)</code>
+/// - `requires split`: <code>[chars] at.rest.now ≡ first ∷ [chars] after.rest.now</code>
+/// - `requires one`: <code>after.chars_before ≡ at.chars_before + 1</code>
+/// - `ensures`: <code>[Answers] ([found_identifier] ([chars] at.entry.rest.now)) at.entry result</code>
+///
+/// [IsTrue]: crate::contracts#std.IsTrue
+/// [is_ident_start]: crate::contracts#lexical.Class.is_ident_start
+/// [chars]: crate::contracts#std.chars
+/// [Answers]: crate::contracts#lexical.PieceStep.Answers
+/// [found_identifier]: crate::contracts#lexical.PieceFinder.found_identifier
 #[inline(always)]
 pub fn identifier<'a>(
     at: Cursor<'a>,

@@ -2,5 +2,15 @@
 //! The laws of pieces.
 
 /// At most one piece stands at a byte offset: its kind, its text and what follows it are determined.
+///
+/// # Contract
+///
+/// - `ensures`: <code>(first : [Bool]) (k l : [Kind]) (p q r s : [List] ℕ) → [IsPiece] first k p r → [IsPiece] first l
+///   q s → p ++ r ≡ q ++ s → (k ≡ l) × (p ≡ q) × (r ≡ s)</code>
+///
+/// [Bool]: crate::contracts#std.Bool
+/// [Kind]: crate::contracts#lexical.Piece.Kind
+/// [List]: crate::contracts#std.List
+/// [IsPiece]: crate::contracts#lexical.Piece.IsPiece
 pub fn one_piece()
 {}

@@ -80,6 +80,17 @@ fn read_piece(at: Cursor<'_>, at_front: bool) -> Option<(PieceKind<'_>, Cursor<'
 /// stands at a byte offset, as `one_piece` says.
 /// At `+=` the mark `+` stands, Joint, of 1 byte and 1 character. At `/* /* */` none stands, as one
 /// comment is open at the end.
+///
+/// # Contract
+///
+/// - `ensures found`: <code>[IfSome] result (λ piece. [IsPieceAt] first ([chars] text.now) piece)</code>
+/// - `ensures none`: <code>[IfNone] result ([HasNoPiece] first ([chars] text.now))</code>
+///
+/// [IfSome]: crate::contracts#std.IfSome
+/// [IsPieceAt]: crate::contracts#lexical.Found.IsPieceAt
+/// [chars]: crate::contracts#std.chars
+/// [IfNone]: crate::contracts#std.IfNone
+/// [HasNoPiece]: crate::contracts#lexical.Piece.HasNoPiece
 #[inline(always)]
 pub fn piece_at(text: &str, first: bool) -> Option<Piece<'_>>
 {
@@ -265,6 +276,18 @@ fn piece_by_characters(text: &str, first: bool) -> Option<Piece<'_>>
 ///
 /// It answers `None` where none stands. At `b"a"b+` it answers 5, at `1.0e+-5` it answers 4, and at
 /// `0b12` that none stands.
+///
+/// # Contract
+///
+/// - `ensures found`: <code>[IfSome] result ([IsAt] [Literal] ([chars] text.now))</code>
+/// - `ensures none`: <code>[IfNone] result ([HasNone] [Literal] ([chars] text.now))</code>
+///
+/// [IfSome]: crate::contracts#std.IfSome
+/// [IsAt]: crate::contracts#lexical.Found.IsAt
+/// [Literal]: crate::contracts#lexical.Literal.Literal
+/// [chars]: crate::contracts#std.chars
+/// [IfNone]: crate::contracts#std.IfNone
+/// [HasNone]: crate::contracts#lexical.Form.HasNone
 pub fn literal_at(text: &str) -> Option<usize>
 {
     match quick_literal(text) {
@@ -285,6 +308,18 @@ fn literal_by_characters(text: &str) -> Option<usize>
 /// that may begin an identifier and all that go on with it.
 ///
 /// It answers `None` where no such character stands. At `r#a` it answers 1.
+///
+/// # Contract
+///
+/// - `ensures found`: <code>[IfSome] result ([IsAt] [Name] ([chars] text.now))</code>
+/// - `ensures none`: <code>[IfNone] result ([HasNone] [Name] ([chars] text.now))</code>
+///
+/// [IfSome]: crate::contracts#std.IfSome
+/// [IsAt]: crate::contracts#lexical.Found.IsAt
+/// [Name]: crate::contracts#lexical.Identifier.Name
+/// [chars]: crate::contracts#std.chars
+/// [IfNone]: crate::contracts#std.IfNone
+/// [HasNone]: crate::contracts#lexical.Form.HasNone
 pub fn name_at(text: &str) -> Option<usize>
 {
     let end = name(Cursor::new(text))?;

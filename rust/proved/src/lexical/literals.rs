@@ -9,6 +9,13 @@ use crate::lexical::single_quotes::single;
 
 /// The cursor after the literal between quotes that stands at the cursor, by the rule
 /// `quoted-literal`.
+///
+/// # Contract
+///
+/// - `ensures`: <code>[Reads] rule.[quoted_literal] at.entry result</code>
+///
+/// [Reads]: crate::contracts#lexical.Step.Reads
+/// [quoted_literal]: crate::contracts#lexical.Literal.quoted_literal
 #[inline(never)]
 pub fn quoted(at: Cursor<'_>) -> Option<Cursor<'_>>
 {
@@ -43,6 +50,13 @@ fn any_string<'a>(
 }
 
 /// The cursor after the literal that stands at the cursor, by the rule `literal`.
+///
+/// # Contract
+///
+/// - `ensures`: <code>[Reads] rule.[literal] at.entry result</code>
+///
+/// [Reads]: crate::contracts#lexical.Step.Reads
+/// [literal]: crate::contracts#lexical.Literal.literal
 pub fn literal(at: Cursor<'_>) -> Option<Cursor<'_>>
 {
     match quoted(at) {

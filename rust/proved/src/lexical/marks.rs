@@ -8,6 +8,12 @@ use crate::lexical::piece::PieceKind;
 use crate::lexical::text::{begins, split_first};
 
 /// Whether the character is one of the 22 marks, by the rule `marks`.
+///
+/// # Contract
+///
+/// - `ensures`: <code>result ≡ [is_one_of_marks] c</code>
+///
+/// [is_one_of_marks]: crate::contracts#lexical.Mark.is_mark
 #[inline(always)]
 pub fn is_mark(c: char) -> bool
 {
@@ -15,6 +21,14 @@ pub fn is_mark(c: char) -> bool
 }
 
 /// Whether a comment begins the text.
+///
+/// # Contract
+///
+/// - `ensures`: <code>result ≡ [begins_any] [comment_fronts] ([chars] text.now)</code>
+///
+/// [begins_any]: crate::contracts#lexical.Text.begins_any
+/// [comment_fronts]: crate::contracts#lexical.Mark.comment_fronts
+/// [chars]: crate::contracts#std.chars
 #[inline(always)]
 pub fn begins_comment(text: &str) -> bool
 {
@@ -22,6 +36,13 @@ pub fn begins_comment(text: &str) -> bool
 }
 
 /// The kind of the mark that stands before `rest`, by the rules `mark` and `joint`.
+///
+/// # Contract
+///
+/// - `ensures`: <code>result ≡ kinds.Mark ([joint_before] ([chars] rest.now)) mark</code>
+///
+/// [joint_before]: crate::contracts#lexical.Mark.joint_before
+/// [chars]: crate::contracts#std.chars
 #[inline(always)]
 pub fn mark<'a>(mark: char, rest: &str) -> PieceKind<'a>
 {
@@ -42,6 +63,13 @@ fn is_unbarred(end: Cursor<'_>, raw: bool) -> bool
 }
 
 /// Whether a lone quote may stand before the cursor, by the rule `lone-quote`.
+///
+/// # Contract
+///
+/// - `ensures`: <code>result ≡ [follows] ([chars] at.entry.rest.now)</code>
+///
+/// [follows]: crate::contracts#lexical.Mark.follows_quote
+/// [chars]: crate::contracts#std.chars
 #[inline(never)]
 pub fn follows_quote(at: Cursor<'_>) -> bool
 {

@@ -114,6 +114,13 @@ fn begins_based(text: &str) -> bool
 }
 
 /// The cursor after the number that stands at the cursor, by the rule `number`.
+///
+/// # Contract
+///
+/// - `ensures`: <code>[Reads] rule.[number] at.entry result</code>
+///
+/// [Reads]: crate::contracts#lexical.Step.Reads
+/// [number]: crate::contracts#lexical.Number.number
 #[inline(never)]
 pub fn number(at: Cursor<'_>) -> Option<Cursor<'_>>
 {

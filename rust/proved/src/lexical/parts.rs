@@ -17,6 +17,12 @@ use crate::lexical::walk::PieceWalk;
 ///
 /// Each of them is a gap, which the walk would give by itself. A loop that asks nothing of such gaps takes less time
 /// so. Where none stands the text is empty, and nothing changes. Of two spaces and `a` it answers the two spaces.
+///
+/// # Contract
+///
+/// - `ensures`: <code>[PassesWhite] walk.old result.now walk.new</code>
+///
+/// [PassesWhite]: crate::contracts#lexical.Walk.PassesWhite
 #[inline(always)]
 pub fn pass_white<'a>(walk: &mut PieceWalk<'a>) -> &'a str
 {

@@ -16,6 +16,12 @@ use numbers::{long_number_size, number_size};
 use quoted::{byte_size, byte_string_size, character_size, string_size};
 
 /// The byte at the index, or a space where there is none.
+///
+/// # Contract
+///
+/// - `ensures`: <code>result ≡ [get_or] bytes.now index 32</code>
+///
+/// [get_or]: crate::contracts#std.get_or
 #[inline(always)]
 pub fn byte_at(bytes: &[u8], index: usize) -> u8
 {
@@ -82,6 +88,15 @@ fn line_size(text: &str) -> Option<usize>
 }
 
 /// The line comment at the front, which is no inner doc comment.
+///
+/// # Contract
+///
+/// - `ensures`: <code>(first : [Bool]) → [IfSome] result (λ piece. [IsPieceAt] first ([chars] text.now) piece)</code>
+///
+/// [Bool]: crate::contracts#std.Bool
+/// [IfSome]: crate::contracts#std.IfSome
+/// [IsPieceAt]: crate::contracts#lexical.Found.IsPieceAt
+/// [chars]: crate::contracts#std.chars
 #[inline(always)]
 pub fn line_comment(text: &str) -> Option<Piece<'_>>
 {
@@ -147,6 +162,14 @@ fn counted(text: &str, size: usize) -> Extent
 }
 
 /// The extent of the byte or byte string at the front.
+///
+/// # Contract
+///
+/// - `ensures`: <code>[IfSome] result ([IsLiteralAt] ([chars] text.now))</code>
+///
+/// [IfSome]: crate::contracts#std.IfSome
+/// [IsLiteralAt]: crate::contracts#lexical.Quick.IsLiteralAt
+/// [chars]: crate::contracts#std.chars
 #[inline(always)]
 pub fn byte_literal(text: &str) -> Option<Extent>
 {
@@ -157,6 +180,15 @@ pub fn byte_literal(text: &str) -> Option<Extent>
 }
 
 /// The piece at the front of the text, where a few bytes tell it. `None` says nothing.
+///
+/// # Contract
+///
+/// - `ensures`: <code>(first : [Bool]) → [IfSome] result (λ piece. [IsPieceAt] first ([chars] text.now) piece)</code>
+///
+/// [Bool]: crate::contracts#std.Bool
+/// [IfSome]: crate::contracts#std.IfSome
+/// [IsPieceAt]: crate::contracts#lexical.Found.IsPieceAt
+/// [chars]: crate::contracts#std.chars
 #[inline(always)]
 pub fn quick(text: &str) -> Option<Piece<'_>>
 {
@@ -201,6 +233,14 @@ pub fn quick(text: &str) -> Option<Piece<'_>>
 
 /// The extent of the number at the front, be it a float or an integer with a base or a suffix, where a few bytes tell
 /// it. `None` says nothing.
+///
+/// # Contract
+///
+/// - `ensures`: <code>[IfSome] result ([IsLiteralAt] ([chars] text.now))</code>
+///
+/// [IfSome]: crate::contracts#std.IfSome
+/// [IsLiteralAt]: crate::contracts#lexical.Quick.IsLiteralAt
+/// [chars]: crate::contracts#std.chars
 #[inline(always)]
 pub fn long_number(text: &str) -> Option<Extent>
 {
@@ -208,6 +248,15 @@ pub fn long_number(text: &str) -> Option<Extent>
 }
 
 /// The lone quote at the front, before a name that bars none. `None` says nothing.
+///
+/// # Contract
+///
+/// - `ensures`: <code>(first : [Bool]) → [IfSome] result (λ piece. [IsPieceAt] first ([chars] text.now) piece)</code>
+///
+/// [Bool]: crate::contracts#std.Bool
+/// [IfSome]: crate::contracts#std.IfSome
+/// [IsPieceAt]: crate::contracts#lexical.Found.IsPieceAt
+/// [chars]: crate::contracts#std.chars
 #[inline(always)]
 pub fn lone_quote(text: &str) -> Option<Piece<'_>>
 {
@@ -223,6 +272,15 @@ pub fn lone_quote(text: &str) -> Option<Piece<'_>>
 }
 
 /// How many bytes the literal has that stands at the front, where a few bytes tell it. `None` says nothing.
+///
+/// # Contract
+///
+/// - `ensures`: <code>[IfSome] result ([IsAt] [Literal] ([chars] text.now))</code>
+///
+/// [IfSome]: crate::contracts#std.IfSome
+/// [IsAt]: crate::contracts#lexical.Found.IsAt
+/// [Literal]: crate::contracts#lexical.Literal.Literal
+/// [chars]: crate::contracts#std.chars
 #[inline(never)]
 pub fn quick_literal(text: &str) -> Option<usize>
 {

@@ -20,6 +20,13 @@ pub enum StringKind {
 }
 
 /// The cursor after the suffix of a literal, by the rule `suffix`.
+///
+/// # Contract
+///
+/// - `ensures`: <code>[Passes] rule.[suffix] at.entry result</code>
+///
+/// [Passes]: crate::contracts#lexical.Step.Passes
+/// [suffix]: crate::contracts#lexical.Quoted.suffix
 pub fn suffix(at: Cursor<'_>) -> Cursor<'_>
 {
     match name(at) {
@@ -78,6 +85,21 @@ fn unit(at: Cursor<'_>, kind: StringKind) -> Option<Cursor<'_>>
 
 /// The cursor after the string with escapes that stands at the cursor, which the text `front` opens,
 /// by the rules `string`, `byte-string` and `c-string`.
+///
+/// # Contract
+///
+/// - `requires ascii`: <code>[IsTrue] ([all_ascii] front.now)</code>
+/// - `ensures`: <code>[Reads] ([Then] ([Exactly] front.now) (rule.[body] (rule.[unit] kind) ([codes] \"\\\"\")))
+///   at.entry result</code>
+///
+/// [IsTrue]: crate::contracts#std.IsTrue
+/// [all_ascii]: crate::contracts#lexical.Ascii.all_ascii
+/// [Reads]: crate::contracts#lexical.Step.Reads
+/// [Then]: crate::contracts#lexical.Rule.Then
+/// [Exactly]: crate::contracts#lexical.Rule.Exactly
+/// [body]: crate::contracts#lexical.Quoted.body
+/// [unit]: crate::contracts#lexical.Quoted.unit
+/// [codes]: crate::contracts#std.codes
 pub fn string<'a>(at: Cursor<'a>, front: &str, kind: StringKind) -> Option<Cursor<'a>>
 {
     let inside = at.past(front)?;

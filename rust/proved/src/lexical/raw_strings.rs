@@ -50,6 +50,17 @@ fn raw_unit<'a>(at: Cursor<'a>, kind: StringKind, hashes: &str) -> Option<Cursor
 
 /// The cursor after the raw string that stands at the cursor, which the text `front` opens, by the
 /// rules `raw-string`, `raw-byte-string` and `raw-c-string`.
+///
+/// # Contract
+///
+/// - `requires ascii`: <code>[IsTrue] ([all_ascii] front.now)</code>
+/// - `ensures`: <code>[Reads] (rule.[raw] front.now ([may_stand_raw] kind)) at.entry result</code>
+///
+/// [IsTrue]: crate::contracts#std.IsTrue
+/// [all_ascii]: crate::contracts#lexical.Ascii.all_ascii
+/// [Reads]: crate::contracts#lexical.Step.Reads
+/// [raw]: crate::contracts#lexical.RawString.raw
+/// [may_stand_raw]: crate::contracts#lexical.RawString.may_stand_raw
 pub fn raw_string<'a>(at: Cursor<'a>, front: &str, kind: StringKind) -> Option<Cursor<'a>>
 {
     let (hashes, quote) = hashes(at.past(front)?)?;

@@ -7,6 +7,15 @@ use crate::lexical::cursor::Cursor;
 use crate::shim::memchr::{memchr, memchr2};
 
 /// The cursor before the first `stop`, an ASCII character, or at the end of the text where none stands.
+///
+/// # Contract
+///
+/// - `requires`: <code>stop &lt; 128</code>
+/// - `ensures`: <code>[Passes] ([Run] (λ c. [not] (c == stop))) at.entry result</code>
+///
+/// [Passes]: crate::contracts#lexical.Step.Passes
+/// [Run]: crate::contracts#lexical.Rule.Run
+/// [not]: crate::contracts#std.not
 pub fn skip_to(at: Cursor<'_>, stop: u8) -> Cursor<'_>
 {
     let bytes = at.rest.as_bytes();
@@ -15,6 +24,17 @@ pub fn skip_to(at: Cursor<'_>, stop: u8) -> Cursor<'_>
 }
 
 /// The text from the first `stop` on, an ASCII character, or its end where none stands. It counts no characters.
+///
+/// # Contract
+///
+/// - `requires`: <code>stop &lt; 128</code>
+/// - `ensures rest`: <code>[chars] result.now ≡ [while_rest] (λ c. [not] (c == stop)) ([chars] text.now)</code>
+/// - `ensures utf8`: <code>[IsUtf8] result.now</code>
+///
+/// [chars]: crate::contracts#std.chars
+/// [while_rest]: crate::contracts#lexical.Finder.while_rest
+/// [not]: crate::contracts#std.not
+/// [IsUtf8]: crate::contracts#std.IsUtf8
 pub fn from_first(text: &str, stop: u8) -> &str
 {
     let bytes = text.as_bytes();
@@ -23,6 +43,16 @@ pub fn from_first(text: &str, stop: u8) -> &str
 }
 
 /// The cursor before the first of the two ASCII characters, or at the end of the text where none stands.
+///
+/// # Contract
+///
+/// - `requires ascii_a`: <code>a &lt; 128</code>
+/// - `requires ascii_b`: <code>b &lt; 128</code>
+/// - `ensures`: <code>[Passes] ([Run] (λ c. [not] (c == a \|\| c == b))) at.entry result</code>
+///
+/// [Passes]: crate::contracts#lexical.Step.Passes
+/// [Run]: crate::contracts#lexical.Rule.Run
+/// [not]: crate::contracts#std.not
 pub fn skip_to_either(at: Cursor<'_>, a: u8, b: u8) -> Cursor<'_>
 {
     let bytes = at.rest.as_bytes();

@@ -7,6 +7,12 @@ use crate::lexical::quoted::{StringKind, suffix};
 use crate::lexical::skip::one;
 
 /// Whether the character stands for itself between single quotes.
+///
+/// # Contract
+///
+/// - `ensures`: <code>result ≡ [is_plain] kind c</code>
+///
+/// [is_plain]: crate::contracts#lexical.SingleQuoted.is_plain
 pub fn stands_bare(c: char, kind: StringKind) -> bool
 {
     match c {
@@ -32,6 +38,18 @@ fn unit(at: Cursor<'_>, kind: StringKind) -> Option<Cursor<'_>>
 
 /// The cursor after the literal between single quotes that stands at the cursor, which the text
 /// `front` opens, by the rules `character` and `byte`.
+///
+/// # Contract
+///
+/// - `requires ascii`: <code>[IsTrue] ([all_ascii] front.now)</code>
+/// - `ensures`: <code>[Reads] (rule.[single] front.now ([is_plain] kind) ([escape] kind)) at.entry result</code>
+///
+/// [IsTrue]: crate::contracts#std.IsTrue
+/// [all_ascii]: crate::contracts#lexical.Ascii.all_ascii
+/// [Reads]: crate::contracts#lexical.Step.Reads
+/// [single]: crate::contracts#lexical.SingleQuoted.single
+/// [is_plain]: crate::contracts#lexical.SingleQuoted.is_plain
+/// [escape]: crate::contracts#lexical.Quoted.escape
 pub fn single<'a>(at: Cursor<'a>, front: &str, kind: StringKind) -> Option<Cursor<'a>>
 {
     let end = unit(at.past(front)?, kind)?;

@@ -4,6 +4,16 @@
 use crate::lexical::cursor::Cursor;
 
 /// The cursor after the character at the cursor, if it passes.
+///
+/// # Contract
+///
+/// - `requires`: <code>F.IsAlwaysCallable passes</code>
+/// - `ensures`: <code>(test : ℕ → [Bool]) → ((c : ℕ) (b : [Bool]) → F.post passes c b → b ≡ test c) → [Reads] ([One]
+///   test) at.entry result</code>
+///
+/// [Bool]: crate::contracts#std.Bool
+/// [Reads]: crate::contracts#lexical.Step.Reads
+/// [One]: crate::contracts#lexical.Rule.One
 pub fn one<F: Fn(char) -> bool>(at: Cursor<'_>, passes: F) -> Option<Cursor<'_>>
 {
     let (c, after) = at.advance()?;

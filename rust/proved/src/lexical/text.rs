@@ -2,6 +2,17 @@
 //! The few steps over the bytes of a text.
 
 /// The first character of a text, and the text after it.
+///
+/// # Contract
+///
+/// - `ensures split`: <code>[MatchOption] result ([chars] text.now ≡ \[\]) (λ x. [chars] text.now ≡ x.0 ∷ [chars]
+///   x.1.now)</code>
+/// - `ensures utf8`: <code>[IfSome] result (λ x. [IsUtf8] x.1.now)</code>
+///
+/// [MatchOption]: crate::contracts#std.MatchOption
+/// [chars]: crate::contracts#std.chars
+/// [IfSome]: crate::contracts#std.IfSome
+/// [IsUtf8]: crate::contracts#std.IsUtf8
 #[inline(always)]
 pub fn split_first(text: &str) -> Option<(char, &str)>
 {
@@ -14,6 +25,13 @@ pub fn split_first(text: &str) -> Option<(char, &str)>
 const BLOCK: usize = 64;
 
 /// How many characters the text has: as many as its bytes that begin one.
+///
+/// # Contract
+///
+/// - `ensures`: <code>result ≡ [length] ([chars] text.now)</code>
+///
+/// [length]: crate::contracts#std.length
+/// [chars]: crate::contracts#std.chars
 pub fn char_count(text: &str) -> usize
 {
     if text.is_ascii() {
@@ -44,6 +62,16 @@ fn first_bytes(bytes: &[u8]) -> usize
 }
 
 /// Whether the text begins with the ASCII text `front`.
+///
+/// # Contract
+///
+/// - `requires`: <code>[IsTrue] ([all_ascii] front.now)</code>
+/// - `ensures`: <code>result ≡ [begins_with] front.now ([chars] text.now)</code>
+///
+/// [IsTrue]: crate::contracts#std.IsTrue
+/// [all_ascii]: crate::contracts#lexical.Ascii.all_ascii
+/// [begins_with]: crate::contracts#lexical.Text.begins_with
+/// [chars]: crate::contracts#std.chars
 #[inline(always)]
 pub fn begins(text: &str, front: &str) -> bool
 {
@@ -51,12 +79,32 @@ pub fn begins(text: &str, front: &str) -> bool
 }
 
 /// Whether the text is the ASCII text `ascii`.
+///
+/// # Contract
+///
+/// - `requires`: <code>[IsTrue] ([all_ascii] ascii.now)</code>
+/// - `ensures`: <code>result ≡ [pointwise] [nat_eq] ([chars] text.now) ascii.now</code>
+///
+/// [IsTrue]: crate::contracts#std.IsTrue
+/// [all_ascii]: crate::contracts#lexical.Ascii.all_ascii
+/// [pointwise]: crate::contracts#std.pointwise
+/// [nat_eq]: crate::contracts#std.nat_eq
+/// [chars]: crate::contracts#std.chars
 pub fn is_text(text: &str, ascii: &str) -> bool
 {
     text == ascii
 }
 
 /// What stands before `rest`, an end of the text.
+///
+/// # Contract
+///
+/// - `requires`: <code>(front : [List] ℕ) × ([chars] text.now ≡ front ++ [chars] rest.now)</code>
+/// - `ensures`: <code>(front : [List] ℕ) → [chars] text.now ≡ front ++ [chars] rest.now → [chars] result.now ≡
+///   front</code>
+///
+/// [List]: crate::contracts#std.List
+/// [chars]: crate::contracts#std.chars
 #[inline(always)]
 pub fn before<'a>(text: &'a str, rest: &str) -> &'a str
 {
@@ -64,6 +112,22 @@ pub fn before<'a>(text: &'a str, rest: &str) -> &'a str
 }
 
 /// What follows the ASCII text `front`, if the text begins with it.
+///
+/// # Contract
+///
+/// - `requires`: <code>[IsTrue] ([all_ascii] front.now)</code>
+/// - `ensures split`: <code>[MatchOption] result ([begins_with] front.now ([chars] text.now) ≡ [false]) (λ rest.
+///   [chars] text.now ≡ front.now ++ [chars] rest.now)</code>
+/// - `ensures utf8`: <code>[IfSome] result (λ rest. [IsUtf8] rest.now)</code>
+///
+/// [IsTrue]: crate::contracts#std.IsTrue
+/// [all_ascii]: crate::contracts#lexical.Ascii.all_ascii
+/// [MatchOption]: crate::contracts#std.MatchOption
+/// [begins_with]: crate::contracts#lexical.Text.begins_with
+/// [chars]: crate::contracts#std.chars
+/// [false]: crate::contracts#std.false
+/// [IfSome]: crate::contracts#std.IfSome
+/// [IsUtf8]: crate::contracts#std.IsUtf8
 #[inline(always)]
 pub fn strip<'a>(text: &'a str, front: &str) -> Option<&'a str>
 {
@@ -71,6 +135,15 @@ pub fn strip<'a>(text: &'a str, front: &str) -> Option<&'a str>
 }
 
 /// The text without the CR at its end, if one stands there.
+///
+/// # Contract
+///
+/// - `ensures`: <code>[chars] text.now ≡ [chars] result.now ++ (if [ends_with] [carriage_return] ([chars] text.now)
+///   then [carriage_return] ∷ \[\] else \[\])</code>
+///
+/// [chars]: crate::contracts#std.chars
+/// [ends_with]: crate::contracts#lexical.Text.ends_with
+/// [carriage_return]: crate::contracts#lexical.Character.carriage_return
 pub fn without_return(text: &str) -> &str
 {
     match text.strip_suffix('\r') {

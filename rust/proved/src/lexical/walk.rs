@@ -29,6 +29,14 @@ pub struct PieceWalk<'a> {
 /// one by one. It takes no memory.
 ///
 /// Of `a /**/+` they are `a` at byte 0, a gap at 1, the gap `/**/` at 2 and the mark `+` at 6.
+///
+/// # Contract
+///
+/// - `ensures rest`: <code>result.rest.now ≡ text.now</code>
+/// - `ensures byte_offset`: <code>result.byte_offset ≡ 0</code>
+/// - `ensures front`: <code>result.at_front ≡ [true]</code>
+///
+/// [true]: crate::contracts#std.true
 pub fn pieces(text: &str) -> PieceWalk<'_>
 {
     // Its contract bounds how many bytes a text has.
@@ -47,6 +55,18 @@ impl<'a> PieceWalk<'a> {
     /// It answers `None` where no piece stands, as [`piece_at`](crate::lexical::piece_at) says, and then
     /// changes nothing: at the end of the text, or where what follows begins no piece.
     /// Of `+ "a` it gives the mark and the gap, and then `None`, with the rest `"a`.
+    ///
+    /// # Contract
+    ///
+    /// - `ensures found`: <code>[IfSome] result (λ next. [IsNext] self.old next self.new)</code>
+    /// - `ensures none`: <code>[IfNone] result ([HasNoPiece] self.old.at_front ([chars] self.old.rest.now))</code>
+    /// - `ensures unchanged`: <code>[IfNone] result (self.new ≡ self.old)</code>
+    ///
+    /// [IfSome]: crate::contracts#std.IfSome
+    /// [IsNext]: crate::contracts#lexical.Walk.IsNext
+    /// [IfNone]: crate::contracts#std.IfNone
+    /// [HasNoPiece]: crate::contracts#lexical.Piece.HasNoPiece
+    /// [chars]: crate::contracts#std.chars
     #[inline(always)]
     pub fn next_piece(&mut self) -> Option<PlacedPiece<'a>>
     {
@@ -80,6 +100,13 @@ impl<'a> PieceWalk<'a> {
     }
 
     /// What follows the pieces that it gave: the end of the text, empty once they cover all of it.
+    ///
+    /// # Contract
+    ///
+    /// - `ensures rest`: <code>result.now ≡ self.now.rest.now</code>
+    /// - `ensures utf8`: <code>[IsUtf8] result.now</code>
+    ///
+    /// [IsUtf8]: crate::contracts#std.IsUtf8
     pub fn rest(&self) -> &'a str
     {
         self.rest

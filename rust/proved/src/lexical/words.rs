@@ -25,6 +25,14 @@ fn count_in_word(bytes: &[u8; 8]) -> Option<usize>
 }
 
 /// How many bytes at the front are of ASCII, and such that a name goes on with them.
+///
+/// # Contract
+///
+/// - `ensures`: <code>result ≡ [length] ([while_front] ([ascii_in] IdentifierContinue) bytes.now)</code>
+///
+/// [length]: crate::contracts#std.length
+/// [while_front]: crate::contracts#lexical.Finder.while_front
+/// [ascii_in]: crate::contracts#lexical.Bytes.ascii_in
 #[inline(always)]
 pub fn count_name(bytes: &[u8]) -> usize
 {
@@ -72,6 +80,15 @@ fn count_plain_bytes(bytes: &[u8]) -> usize
 }
 
 /// The same, by words: so many bytes before the first that is past ASCII, a quote, a backslash or a CR.
+///
+/// # Contract
+///
+/// - `ensures`: <code>[IsTrue] ([list_all] [is_plain_ascii] ([take] result bytes.now))</code>
+///
+/// [IsTrue]: crate::contracts#std.IsTrue
+/// [list_all]: crate::contracts#std.list_all
+/// [is_plain_ascii]: crate::contracts#lexical.Word.is_plain_ascii
+/// [take]: crate::contracts#std.take
 #[inline(always)]
 pub fn count_plain(bytes: &[u8]) -> usize
 {
@@ -86,6 +103,15 @@ pub fn count_plain(bytes: &[u8]) -> usize
 }
 
 /// The same, of the first 8 bytes, or of all where they are fewer: it needs fewer registers.
+///
+/// # Contract
+///
+/// - `ensures`: <code>[IsTrue] ([list_all] [is_plain_ascii] ([take] result bytes.now))</code>
+///
+/// [IsTrue]: crate::contracts#std.IsTrue
+/// [list_all]: crate::contracts#std.list_all
+/// [is_plain_ascii]: crate::contracts#lexical.Word.is_plain_ascii
+/// [take]: crate::contracts#std.take
 #[inline(always)]
 pub fn count_few_plain(bytes: &[u8]) -> usize
 {
@@ -128,6 +154,17 @@ fn count_line_bytes(bytes: &[u8]) -> usize
 }
 
 /// The same, by words: so many bytes before the first that is past ASCII, a LF or a CR.
+///
+/// # Contract
+///
+/// - `ensures within`: <code>result ≤ [length] bytes.now</code>
+/// - `ensures plain`: <code>[IsTrue] ([list_all] [is_line_ascii] ([take] result bytes.now))</code>
+///
+/// [length]: crate::contracts#std.length
+/// [IsTrue]: crate::contracts#std.IsTrue
+/// [list_all]: crate::contracts#std.list_all
+/// [is_line_ascii]: crate::contracts#lexical.Word.is_line_ascii
+/// [take]: crate::contracts#std.take
 #[inline(always)]
 pub fn count_line(bytes: &[u8]) -> usize
 {

@@ -90,6 +90,15 @@ impl<'a> CheckForErrors<'a> {
 ///
 /// `abc` for a character gives 0..2 `MoreThanOneChar`; `a"` for a string gives 1..2 `EscapeOnlyChar`,
 /// and for a raw string nothing.
+///
+/// # Contract
+///
+/// - `ensures value`: <code>result ≡ [errors_in] mode ([chars] src.now)</code>
+/// - `ensures within`: <code>[AreWithin] src.now result</code>
+///
+/// [errors_in]: crate::contracts#literal_escaper.Errors.errors_in
+/// [chars]: crate::contracts#std.chars
+/// [AreWithin]: crate::contracts#literal_escaper.Within.AreWithin
 pub fn check_for_errors(src: &str, mode: Mode) -> CheckForErrors<'_>
 {
     CheckForErrors::new(src, mode)

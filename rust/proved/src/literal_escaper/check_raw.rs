@@ -25,6 +25,16 @@ impl Iterator for CheckRawStr<'_> {
 /// and the character or what is wrong there, by the rules `raw-items` and `string-kind`.
 ///
 /// `\n` gives 0..1 `\` and 1..2 `n`; a CR gives 0..1 `BareCarriageReturnInRawString`.
+///
+/// # Contract
+///
+/// - `ensures value`: <code>result ≡ [raw_items] [any_char] ([chars] src.now)</code>
+/// - `ensures within`: <code>[AreWithin] src.now result</code>
+///
+/// [raw_items]: crate::contracts#literal_escaper.Items.raw_items
+/// [any_char]: crate::contracts#literal_escaper.Kind.any_char
+/// [chars]: crate::contracts#std.chars
+/// [AreWithin]: crate::contracts#literal_escaper.Within.AreWithin
 pub fn check_raw_str(src: &str) -> CheckRawStr<'_>
 {
     CheckRawStr {
@@ -49,6 +59,16 @@ impl Iterator for CheckRawByteStr<'_> {
 /// bytes for units, by the rules `raw-items` and `byte-kind`.
 ///
 /// `aé` gives 0..1 0x61 and 1..3 `NonAsciiCharInByte`.
+///
+/// # Contract
+///
+/// - `ensures value`: <code>result ≡ [raw_items] [ascii_byte] ([chars] src.now)</code>
+/// - `ensures within`: <code>[AreWithin] src.now result</code>
+///
+/// [raw_items]: crate::contracts#literal_escaper.Items.raw_items
+/// [ascii_byte]: crate::contracts#literal_escaper.Kind.ascii_byte
+/// [chars]: crate::contracts#std.chars
+/// [AreWithin]: crate::contracts#literal_escaper.Within.AreWithin
 pub fn check_raw_byte_str(src: &str) -> CheckRawByteStr<'_>
 {
     CheckRawByteStr {
@@ -73,6 +93,16 @@ impl Iterator for CheckRawCStr<'_> {
 /// characters other than NUL for units, by the rules `raw-items` and `c-kind`.
 ///
 /// `a` and NUL give 0..1 `a` and 1..2 `NulInCStr`.
+///
+/// # Contract
+///
+/// - `ensures value`: <code>result ≡ [raw_items] [raw_c_char] ([chars] src.now)</code>
+/// - `ensures within`: <code>[AreWithin] src.now result</code>
+///
+/// [raw_items]: crate::contracts#literal_escaper.Items.raw_items
+/// [raw_c_char]: crate::contracts#literal_escaper.Units.raw_c_char
+/// [chars]: crate::contracts#std.chars
+/// [AreWithin]: crate::contracts#literal_escaper.Within.AreWithin
 pub fn check_raw_c_str(src: &str) -> CheckRawCStr<'_>
 {
     CheckRawCStr {

@@ -98,6 +98,12 @@ fn bit(class: Class) -> u8
 }
 
 /// Whether the character is of the class.
+///
+/// # Contract
+///
+/// - `ensures`: <code>result ≡ [is_in] class c</code>
+///
+/// [is_in]: crate::contracts#literal_escaper.Class.is_in
 #[inline(always)]
 pub fn holds(class: Class, c: char) -> bool
 {

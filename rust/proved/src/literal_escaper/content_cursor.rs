@@ -13,6 +13,14 @@ pub struct ContentCursor<'a> {
 
 impl<'a> ContentCursor<'a> {
     /// The front of a content.
+    ///
+    /// # Contract
+    ///
+    /// - `ensures rest`: <code>[chars] result.rest.now ≡ [chars] content.now</code>
+    /// - `ensures end`: <code>result.end ≡ [bytes] ([chars] content.now)</code>
+    ///
+    /// [chars]: crate::contracts#std.chars
+    /// [bytes]: crate::contracts#literal_escaper.Text.bytes
     pub fn new(content: &'a str) -> Self
     {
         ContentCursor {
@@ -22,12 +30,27 @@ impl<'a> ContentCursor<'a> {
     }
 
     /// How many bytes of the content stand before the cursor.
+    ///
+    /// # Contract
+    ///
+    /// - `ensures`: <code>result ≡ [byte_offset] self.entry.end ([chars] self.entry.rest.now)</code>
+    ///
+    /// [byte_offset]: crate::contracts#literal_escaper.Items.byte_offset
+    /// [chars]: crate::contracts#std.chars
     pub fn byte_offset(self) -> usize
     {
         self.end - self.rest.len()
     }
 
     /// The character after the cursor, and the cursor after that character.
+    ///
+    /// # Contract
+    ///
+    /// - `ensures`: <code>[MatchOption] result ([chars] self.entry.rest.now ≡ \[\]) (λ x. ([chars] self.entry.rest.now ≡
+    ///   x.0 ∷ [chars] x.1.rest.now) × (x.1.end ≡ self.entry.end))</code>
+    ///
+    /// [MatchOption]: crate::contracts#std.MatchOption
+    /// [chars]: crate::contracts#std.chars
     pub fn advance(self) -> Option<(char, Self)>
     {
         let mut characters = self.rest.chars();

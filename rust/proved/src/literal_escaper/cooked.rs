@@ -17,6 +17,17 @@ pub struct Cooked<'a> {
 
 impl<'a> Cooked<'a> {
     /// The whole content.
+    ///
+    /// # Contract
+    ///
+    /// - `ensures rest`: <code>[text_at] result.cursor ≡ [chars] content.now</code>
+    /// - `ensures end`: <code>result.cursor.end ≡ [bytes] ([chars] content.now)</code>
+    /// - `ensures warning`: <code>result.warning ≡ [None]</code>
+    ///
+    /// [text_at]: crate::contracts#literal_escaper.Unescaping.text_at
+    /// [chars]: crate::contracts#std.chars
+    /// [bytes]: crate::contracts#literal_escaper.Text.bytes
+    /// [None]: crate::contracts#std.None
     pub fn new(content: &'a str) -> Self
     {
         Cooked {
@@ -27,6 +38,13 @@ impl<'a> Cooked<'a> {
 }
 
 /// The next item of the content.
+///
+/// # Contract
+///
+/// - `ensures`: <code>[YieldsFirst] ([cooked_left] K.kind) content.old result content.new</code>
+///
+/// [YieldsFirst]: crate::contracts#std.YieldsFirst
+/// [cooked_left]: crate::contracts#literal_escaper.Unescaping.cooked_left
 pub fn next_item<K: Unescape>(content: &mut Cooked<'_>) -> Option<Item<K::Unit>>
 {
     if let Some(range) = content.warning.take() {

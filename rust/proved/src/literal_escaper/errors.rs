@@ -60,6 +60,12 @@ pub enum EscapeError {
 impl EscapeError {
     /// Whether it is a fault, and not one of the two warnings, by the rule `fatal`: `true` for
     /// `LoneSlash`, `false` for `MultipleSkippedLinesWarning`.
+    ///
+    /// # Contract
+    ///
+    /// - `ensures`: <code>result ≡ [is_fault] self.now</code>
+    ///
+    /// [is_fault]: crate::contracts#literal_escaper.Warning.is_fault
     pub fn is_fatal(&self) -> bool
     {
         match self {
@@ -70,6 +76,12 @@ impl EscapeError {
     }
 
     /// What is wrong, in a few words, as `Display` writes it: `nothing follows the backslash` for `LoneSlash`.
+    ///
+    /// # Contract
+    ///
+    /// - `ensures`: <code>result.now ≡ [escape_message] self.now</code>
+    ///
+    /// [escape_message]: crate::contracts#literal_escaper.EscapeMessage.escape_message
     pub fn message(&self) -> &'static str
     {
         match self {

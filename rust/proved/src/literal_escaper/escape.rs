@@ -168,6 +168,14 @@ fn unicode_escape<K: Unescape>(
 }
 
 /// The unit of what stands after a backslash, by the rule `item-escape`.
+///
+/// # Contract
+///
+/// - `ensures`: <code>[Gives] ([what_escapes] K.kind ([text_at] at.entry)) at.entry result</code>
+///
+/// [Gives]: crate::contracts#literal_escaper.Unescaping.Gives
+/// [what_escapes]: crate::contracts#literal_escaper.Escape.escape
+/// [text_at]: crate::contracts#literal_escaper.Unescaping.text_at
 pub fn escape<K: Unescape>(
     at: ContentCursor<'_>,
 ) -> (Result<K::Unit, EscapeError>, ContentCursor<'_>)

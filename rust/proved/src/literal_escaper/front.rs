@@ -101,6 +101,19 @@ fn line_feed(at: ContentCursor<'_>) -> Option<ContentCursor<'_>>
 }
 
 /// What stands at the front of the content from the cursor on, unless nothing is left of it.
+///
+/// # Contract
+///
+/// - `ensures value`: <code>[MatchOption] result ([text_at] at.entry ≡ \[\]) (λ x. [GivesFront] ([front] K.kind
+///   at.entry.end ([text_at] at.entry)) at.entry x.item x.warning x.after)</code>
+/// - `ensures more`: <code>[IfSome] result (λ x. 0 &lt; [length] ([text_at] at.entry))</code>
+///
+/// [MatchOption]: crate::contracts#std.MatchOption
+/// [text_at]: crate::contracts#literal_escaper.Unescaping.text_at
+/// [GivesFront]: crate::contracts#literal_escaper.Unescaping.GivesFront
+/// [front]: crate::contracts#literal_escaper.Items.front
+/// [IfSome]: crate::contracts#std.IfSome
+/// [length]: crate::contracts#std.length
 pub fn read_front<K: Unescape>(at: ContentCursor<'_>) -> Option<Front<'_, K::Unit>>
 {
     let (c, after) = at.advance()?;
@@ -118,6 +131,18 @@ pub fn read_front<K: Unescape>(at: ContentCursor<'_>) -> Option<Front<'_, K::Uni
 }
 
 /// The first front from the cursor on that gives an item, or else the end of the content.
+///
+/// # Contract
+///
+/// - `ensures left`: <code>[items_from] K.kind at.entry.end ([text_at] at.entry) ≡ [front_items] result.item
+///   result.warning ++ [items_from] K.kind result.after.end ([text_at] result.after)</code>
+/// - `ensures none`: <code>[IfNone] result.item ((result.warning ≡ [None]) × ([text_at] result.after ≡ \[\]))</code>
+///
+/// [items_from]: crate::contracts#literal_escaper.Items.items_from
+/// [text_at]: crate::contracts#literal_escaper.Unescaping.text_at
+/// [front_items]: crate::contracts#literal_escaper.Unescaping.front_items
+/// [IfNone]: crate::contracts#std.IfNone
+/// [None]: crate::contracts#std.None
 pub fn next_front<K: Unescape>(at: ContentCursor<'_>) -> Front<'_, K::Unit>
 {
     let mut cursor = at;

@@ -13,6 +13,10 @@ pub trait CheckRaw {
     // The unit of a character.
 
     /// The unit of a character.
+    ///
+    /// # Contract
+    ///
+    /// - `ensures`: <code>result ≡ unit_of c</code>
     fn of_char(c: char) -> Result<Self::Unit, EscapeError>;
 }
 
@@ -31,12 +35,24 @@ pub trait Unescape {
     // It is what the kind makes of the character.
 
     /// The unit of a character.
+    ///
+    /// # Contract
+    ///
+    /// - `ensures`: <code>result ≡ kind.of_char c</code>
     fn of_char(c: char) -> Result<Self::Unit, EscapeError>;
 
     /// The unit of the number of two hex digits.
+    ///
+    /// # Contract
+    ///
+    /// - `ensures`: <code>result ≡ kind.of_hex byte</code>
     fn of_hex(byte: u8) -> Result<Self::Unit, EscapeError>;
 
     /// The unit of the character whose code stands in braces, or of what is wrong with the code.
+    ///
+    /// # Contract
+    ///
+    /// - `ensures`: <code>result ≡ kind.of_code code</code>
     fn of_code(code: Result<char, EscapeError>) -> Result<Self::Unit, EscapeError>;
 }
 
@@ -143,6 +159,12 @@ impl Unescape for CStr {
 }
 
 /// The character of this code.
+///
+/// # Contract
+///
+/// - `ensures`: <code>result ≡ [character] code</code>
+///
+/// [character]: crate::contracts#literal_escaper.Kind.character
 pub fn character_of(code: u32) -> Result<char, EscapeError>
 {
     match char::from_u32(code) {

@@ -25,6 +25,12 @@ pub enum Mode {
 impl Mode {
     /// Whether such a literal stands between double quotes: `false` for a character and a byte, and
     /// `true` for the rest.
+    ///
+    /// # Contract
+    ///
+    /// - `ensures`: <code>result ≡ [is_double_quoted] self</code>
+    ///
+    /// [is_double_quoted]: crate::contracts#literal_escaper.Mode.is_double_quoted
     pub fn in_double_quotes(self) -> bool
     {
         !matches!(self, Mode::Char | Mode::Byte)
@@ -32,6 +38,12 @@ impl Mode {
 
     /// What stands before the literal's first quote or its `r`: `b`, `c` or nothing. `c` for a C
     /// string, also a raw one.
+    ///
+    /// # Contract
+    ///
+    /// - `ensures`: <code>result.now ≡ [prefix] self</code>
+    ///
+    /// [prefix]: crate::contracts#literal_escaper.Mode.prefix
     pub fn prefix_noraw(self) -> &'static str
     {
         match self {

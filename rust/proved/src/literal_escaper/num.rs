@@ -7,6 +7,12 @@ pub struct NonZeroChar(char);
 
 impl NonZeroChar {
     /// The character, unless it is NUL: `a` for `a`, and `None` for U+0000.
+    ///
+    /// # Contract
+    ///
+    /// - `ensures`: <code>[MatchOption] result (c ≡ 0) (λ other. (other ≡ c) × (0 &lt; c))</code>
+    ///
+    /// [MatchOption]: crate::contracts#std.MatchOption
     pub fn new(c: char) -> Option<NonZeroChar>
     {
         match c {
@@ -16,6 +22,11 @@ impl NonZeroChar {
     }
 
     /// The character itself.
+    ///
+    /// # Contract
+    ///
+    /// - `ensures value`: <code>result ≡ self</code>
+    /// - `ensures within`: <code>0 &lt; result</code>
     pub fn get(self) -> char
     {
         let NonZeroChar(c) = self;
@@ -29,12 +40,23 @@ pub struct NonZeroU8(u8);
 
 impl NonZeroU8 {
     /// The byte, unless it is zero: 1 for 1, and `None` for 0.
+    ///
+    /// # Contract
+    ///
+    /// - `ensures`: <code>[MatchOption] result (n ≡ 0) (λ b. (b ≡ n) × (0 &lt; n))</code>
+    ///
+    /// [MatchOption]: crate::contracts#std.MatchOption
     pub fn new(n: u8) -> Option<NonZeroU8>
     {
         if n == 0 { None } else { Some(NonZeroU8(n)) }
     }
 
     /// The byte itself.
+    ///
+    /// # Contract
+    ///
+    /// - `ensures value`: <code>result ≡ self</code>
+    /// - `ensures within`: <code>0 &lt; result</code>
     pub fn get(self) -> u8
     {
         let NonZeroU8(byte) = self;

@@ -18,6 +18,13 @@ fn unit<K: CheckRaw>(c: char) -> Result<K::Unit, EscapeError>
 }
 
 /// The next item of a raw content, and the cursor after it.
+///
+/// # Contract
+///
+/// - `ensures`: <code>[YieldsFirst] ([raw_left] K.unit_of) cursor.old result cursor.new</code>
+///
+/// [YieldsFirst]: crate::contracts#std.YieldsFirst
+/// [raw_left]: crate::contracts#literal_escaper.Unescaping.raw_left
 pub fn next_raw_item<K: CheckRaw>(cursor: &mut ContentCursor<'_>) -> Option<Item<K::Unit>>
 {
     let (c, after) = cursor.advance()?;

@@ -24,6 +24,14 @@ fn first_unit<K: Unescape>(
 }
 
 /// The one unit of the content, by the rule `single-item`, and the cursor after what was read.
+///
+/// # Contract
+///
+/// - `ensures`: <code>[Gives] ([single] K.kind ([text_at] at.entry)) at.entry result</code>
+///
+/// [Gives]: crate::contracts#literal_escaper.Unescaping.Gives
+/// [single]: crate::contracts#literal_escaper.Single.single
+/// [text_at]: crate::contracts#literal_escaper.Unescaping.text_at
 pub fn unescape_single<K: Unescape>(
     at: ContentCursor<'_>,
 ) -> (Result<K::Unit, EscapeError>, ContentCursor<'_>)

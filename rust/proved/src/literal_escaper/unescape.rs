@@ -27,6 +27,16 @@ impl Iterator for UnescapeStr<'_> {
 /// `items` and `string-kind`.
 ///
 /// `\x41b` gives 0..4 `A` and 4..5 `b`; `\x80` gives 0..4 `OutOfRangeHexEscape`.
+///
+/// # Contract
+///
+/// - `ensures value`: <code>result ≡ [items] [string_kind] ([chars] src.now)</code>
+/// - `ensures within`: <code>[AreWithin] src.now result</code>
+///
+/// [items]: crate::contracts#literal_escaper.Items.items
+/// [string_kind]: crate::contracts#literal_escaper.Kind.string_kind
+/// [chars]: crate::contracts#std.chars
+/// [AreWithin]: crate::contracts#literal_escaper.Within.AreWithin
 pub fn unescape_str(src: &str) -> UnescapeStr<'_>
 {
     UnescapeStr {
@@ -51,6 +61,16 @@ impl Iterator for UnescapeByteStr<'_> {
 /// for units, by the rules `items` and `byte-kind`.
 ///
 /// `\xFF` gives 0..4 0xFF; `\u{41}` gives 0..6 `UnicodeEscapeInByte`.
+///
+/// # Contract
+///
+/// - `ensures value`: <code>result ≡ [items] [byte_kind] ([chars] src.now)</code>
+/// - `ensures within`: <code>[AreWithin] src.now result</code>
+///
+/// [items]: crate::contracts#literal_escaper.Items.items
+/// [byte_kind]: crate::contracts#literal_escaper.Kind.byte_kind
+/// [chars]: crate::contracts#std.chars
+/// [AreWithin]: crate::contracts#literal_escaper.Within.AreWithin
 pub fn unescape_byte_str(src: &str) -> UnescapeByteStr<'_>
 {
     UnescapeByteStr {
@@ -75,6 +95,16 @@ impl Iterator for UnescapeCStr<'_> {
 /// and bytes past ASCII for units, none of them zero, by the rules `items` and `c-kind`.
 ///
 /// `\x80` gives 0..4 the byte 0x80; `\0` gives 0..2 `NulInCStr`.
+///
+/// # Contract
+///
+/// - `ensures value`: <code>result ≡ [items] [c_kind] ([chars] src.now)</code>
+/// - `ensures within`: <code>[AreWithin] src.now result</code>
+///
+/// [items]: crate::contracts#literal_escaper.Items.items
+/// [c_kind]: crate::contracts#literal_escaper.Kind.c_kind
+/// [chars]: crate::contracts#std.chars
+/// [AreWithin]: crate::contracts#literal_escaper.Within.AreWithin
 pub fn unescape_c_str(src: &str) -> UnescapeCStr<'_>
 {
     UnescapeCStr {
@@ -85,6 +115,14 @@ pub fn unescape_c_str(src: &str) -> UnescapeCStr<'_>
 /// The one character of a character literal's content, by the rule `single-item`, or what is wrong.
 ///
 /// `\n` gives LF, the empty text `ZeroChars`, `ab` `MoreThanOneChar`, and a bare `'` `EscapeOnlyChar`.
+///
+/// # Contract
+///
+/// - `ensures`: <code>result ≡ ([single] [string_kind] ([chars] src.now)).unit</code>
+///
+/// [single]: crate::contracts#literal_escaper.Single.single
+/// [string_kind]: crate::contracts#literal_escaper.Kind.string_kind
+/// [chars]: crate::contracts#std.chars
 pub fn unescape_char(src: &str) -> Result<char, EscapeError>
 {
     let (unit, _) = unescape_single::<Str>(ContentCursor::new(src));
@@ -94,6 +132,14 @@ pub fn unescape_char(src: &str) -> Result<char, EscapeError>
 /// The one byte of a byte literal's content, by the rule `single-item`, or what is wrong.
 ///
 /// `\xFF` gives 0xFF, `ab` `MoreThanOneChar`, and `\u{41}` `UnicodeEscapeInByte`.
+///
+/// # Contract
+///
+/// - `ensures`: <code>result ≡ ([single] [byte_kind] ([chars] src.now)).unit</code>
+///
+/// [single]: crate::contracts#literal_escaper.Single.single
+/// [byte_kind]: crate::contracts#literal_escaper.Kind.byte_kind
+/// [chars]: crate::contracts#std.chars
 pub fn unescape_byte(src: &str) -> Result<u8, EscapeError>
 {
     let (unit, _) = unescape_single::<Bytes>(ContentCursor::new(src));

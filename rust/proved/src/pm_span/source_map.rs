@@ -60,6 +60,12 @@ impl fmt::Debug for SourceMap {
 
 impl SourceMap {
     /// A map with no file but file 0, whose positions go up to 4294967295; takes no memory.
+    ///
+    /// # Contract
+    ///
+    /// - `ensures`: <code>result ≡ [new_map]</code>
+    ///
+    /// [new_map]: crate::contracts#pm_span.Files.new_map
     pub fn new() -> SourceMap
     {
         SourceMap::with_limit(u32::MAX)
@@ -69,6 +75,10 @@ impl SourceMap {
     ///
     /// A text whose file would end past the limit doesn't fit (`fits`). With the limit 5, `abcd`
     /// stands at 1..5, and then not even the empty text fits.
+    ///
+    /// # Contract
+    ///
+    /// - `ensures`: <code>result ≡ record { texts = \[\]; limit = limit }</code>
     pub fn with_limit(limit: u32) -> SourceMap
     {
         SourceMap {
@@ -81,6 +91,10 @@ impl SourceMap {
     /// Takes all files but file 0 away, and keeps the limit.
     ///
     /// The next text begins at 1 again, so the spans of the texts before may be held by chance alone.
+    ///
+    /// # Contract
+    ///
+    /// - `ensures`: <code>self.new ≡ record self.old { texts = \[\] }</code>
     pub fn invalidate(&mut self)
     {
         self.files.clear();
@@ -91,6 +105,13 @@ impl SourceMap {
     ///
     /// A file has the position at its end too. With the one text `ab` the map holds 0..0, 1..3
     /// and 3..3, and neither 0..1 nor 3..4.
+    ///
+    /// # Contract
+    ///
+    /// - `ensures`: <code>[IsTrue] result ↔ [Holds] self.now span</code>
+    ///
+    /// [IsTrue]: crate::contracts#std.IsTrue
+    /// [Holds]: crate::contracts#pm_span.Files.Holds
     pub fn holds(&self, span: Span) -> bool
     {
         let (lo, hi) = span.bounds();

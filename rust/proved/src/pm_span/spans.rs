@@ -14,12 +14,30 @@ pub struct Span {
 
 impl Span {
     /// The span 0..0, in the empty file 0, which every map holds: that of what was read from no text.
+    ///
+    /// # Contract
+    ///
+    /// - `ensures value`: <code>result ≡ [nowhere]</code>
+    /// - `ensures held`: <code>(map : [Files]) → [Holds] map result</code>
+    ///
+    /// [nowhere]: crate::contracts#pm_span.Extent.nowhere
+    /// [Files]: crate::contracts#pm_span.Files.Files
+    /// [Holds]: crate::contracts#pm_span.Files.Holds
     pub fn call_site() -> Span
     {
         Span { lo: 0, hi: 0 }
     }
 
     /// The span 0..0, as [`call_site`](Span::call_site): in a compiler, that of names with mixed hygiene.
+    ///
+    /// # Contract
+    ///
+    /// - `ensures value`: <code>result ≡ [nowhere]</code>
+    /// - `ensures held`: <code>(map : [Files]) → [Holds] map result</code>
+    ///
+    /// [nowhere]: crate::contracts#pm_span.Extent.nowhere
+    /// [Files]: crate::contracts#pm_span.Files.Files
+    /// [Holds]: crate::contracts#pm_span.Files.Holds
     pub fn mixed_site() -> Span
     {
         Span::call_site()
@@ -27,6 +45,15 @@ impl Span {
 
     /// The span 0..0, as [`call_site`](Span::call_site): in a compiler, that of names that resolve where a
     /// macro is defined.
+    ///
+    /// # Contract
+    ///
+    /// - `ensures value`: <code>result ≡ [nowhere]</code>
+    /// - `ensures held`: <code>(map : [Files]) → [Holds] map result</code>
+    ///
+    /// [nowhere]: crate::contracts#pm_span.Extent.nowhere
+    /// [Files]: crate::contracts#pm_span.Files.Files
+    /// [Holds]: crate::contracts#pm_span.Files.Holds
     pub fn def_site() -> Span
     {
         Span::mixed_site()
@@ -35,6 +62,10 @@ impl Span {
     /// This span, resolved as the other one is.
     ///
     /// No names are resolved here, so it is this span: 1..2 resolved at 3..4 is 1..2.
+    ///
+    /// # Contract
+    ///
+    /// - `ensures`: <code>result ≡ self</code>
     pub fn resolved_at(self, _other: Span) -> Span
     {
         // A span has positions alone.
@@ -44,6 +75,10 @@ impl Span {
     /// The other span, resolved as this one is.
     ///
     /// No names are resolved here, so it is the other span: 1..2 located at 3..4 is 3..4.
+    ///
+    /// # Contract
+    ///
+    /// - `ensures`: <code>result ≡ other</code>
     pub fn located_at(self, other: Span) -> Span
     {
         // Nothing of this span is kept.
@@ -51,6 +86,12 @@ impl Span {
     }
 
     /// The path of the file on disk that the span is in: always `None`, as every text is handed in.
+    ///
+    /// # Contract
+    ///
+    /// - `ensures`: <code>result ≡ [None]</code>
+    ///
+    /// [None]: crate::contracts#std.None
     pub fn local_file(self) -> Option<String>
     {
         None
@@ -68,6 +109,14 @@ impl Span {
     }
 
     /// Whether two spans have the same positions.
+    ///
+    /// # Contract
+    ///
+    /// - `ensures value`: <code>result ≡ [extent_eq] self.now other.now</code>
+    /// - `ensures same`: <code>[IsTrue] result ↔ (self.now ≡ other.now)</code>
+    ///
+    /// [extent_eq]: crate::contracts#pm_span.Extent.extent_eq
+    /// [IsTrue]: crate::contracts#std.IsTrue
     pub fn eq(&self, other: &Span) -> bool
     {
         self.lo == other.lo && self.hi == other.hi

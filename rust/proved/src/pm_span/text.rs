@@ -4,6 +4,13 @@
 use crate::pm_span::plain::count_plain;
 
 /// How many characters the text has, which are as many as its bytes or fewer.
+///
+/// # Contract
+///
+/// - `ensures`: <code>result ≡ [length] ([chars] text.now)</code>
+///
+/// [length]: crate::contracts#std.length
+/// [chars]: crate::contracts#std.chars
 pub fn char_count(text: &str) -> usize
 {
     if text.is_ascii() {

@@ -12,6 +12,13 @@ impl TokenStream {
     ///
     /// The literal `-3i32` gives two trees, the mark `-` Alone and the literal `3i32`, both with the
     /// span of that literal. Any other tree gives itself.
+    ///
+    /// # Contract
+    ///
+    /// - `ensures ok`: <code>[IfOk] result (λ stream. stream ≡ [split] tree)</code>
+    ///
+    /// [IfOk]: crate::contracts#std.IfOk
+    /// [split]: crate::contracts#pm_stream.Building.split
     pub fn from_tree(tree: TokenTree) -> Result<TokenStream, AllocError>
     {
         let mut stream = TokenStream::new();
@@ -21,6 +28,21 @@ impl TokenStream {
 
     /// The stream of these trees, in order, each by the rule `split`. Fails where memory runs out,
     /// which it doesn't for no trees.
+    ///
+    /// # Contract
+    ///
+    /// - `requires`: <code>[IsFiniteIterable] I.into_iter_gives I.IntoIter.can_next I.IntoIter.remaining trees</code>
+    /// - `ensures ok`: <code>[IfOk] result (λ stream. [GivesAll] I.into_iter_gives I.IntoIter.next_gives trees (λ trees.
+    ///   stream ≡ [gathered] [split] trees))</code>
+    /// - `ensures memory`: <code>[IfErr] result (λ \_. [GivesAnItem] I.into_iter_gives I.IntoIter.next_gives trees)</code>
+    ///
+    /// [IsFiniteIterable]: crate::contracts#std.IsFiniteIterable
+    /// [IfOk]: crate::contracts#std.IfOk
+    /// [GivesAll]: crate::contracts#pm_stream.Building.GivesAll
+    /// [gathered]: crate::contracts#pm_stream.Building.gathered
+    /// [split]: crate::contracts#pm_stream.Building.split
+    /// [IfErr]: crate::contracts#std.IfErr
+    /// [GivesAnItem]: crate::contracts#pm_stream.Building.GivesAnItem
     pub fn from_trees<I: IntoIterator<Item = TokenTree>>(
         trees: I,
     ) -> Result<TokenStream, AllocError>
@@ -34,6 +56,21 @@ impl TokenStream {
     /// out, which it doesn't for no streams.
     ///
     /// The trees of a stream that shares them with no other are moved, not copied.
+    ///
+    /// # Contract
+    ///
+    /// - `requires`: <code>[IsFiniteIterable] I.into_iter_gives I.IntoIter.can_next I.IntoIter.remaining streams</code>
+    /// - `ensures ok`: <code>[IfOk] result (λ stream. [GivesAll] I.into_iter_gives I.IntoIter.next_gives streams (λ
+    ///   streams. stream ≡ [gathered] (λ stream. stream) streams))</code>
+    /// - `ensures memory`: <code>[IfErr] result (λ \_. [GivesAnItem] I.into_iter_gives I.IntoIter.next_gives
+    ///   streams)</code>
+    ///
+    /// [IsFiniteIterable]: crate::contracts#std.IsFiniteIterable
+    /// [IfOk]: crate::contracts#std.IfOk
+    /// [GivesAll]: crate::contracts#pm_stream.Building.GivesAll
+    /// [gathered]: crate::contracts#pm_stream.Building.gathered
+    /// [IfErr]: crate::contracts#std.IfErr
+    /// [GivesAnItem]: crate::contracts#pm_stream.Building.GivesAnItem
     pub fn from_streams<I: IntoIterator<Item = TokenStream>>(
         streams: I,
     ) -> Result<TokenStream, AllocError>
@@ -48,6 +85,23 @@ impl TokenStream {
     /// Where memory runs out the trees before that which found none stay, both halves of a negative
     /// literal or none. It doesn't run out for no trees. Other streams that share the trees keep
     /// what they had.
+    ///
+    /// # Contract
+    ///
+    /// - `requires`: <code>[IsFiniteIterable] I.into_iter_gives I.IntoIter.can_next I.IntoIter.remaining trees</code>
+    /// - `ensures ran`: <code>[ExtendsWithItems] I.into_iter_gives I.IntoIter.next_gives ([PutsIn] [split]) trees self.old
+    ///   self.new result</code>
+    /// - `ensures memory`: <code>[OnErr] result ([GivesAnItem] I.into_iter_gives I.IntoIter.next_gives trees)</code>
+    /// - `ensures refused`: <code>[OnErr] result ([RefusesAnItem] I.into_iter_gives I.IntoIter.next_gives ([PutsIn]
+    ///   [split]) trees self.old self.new)</code>
+    ///
+    /// [IsFiniteIterable]: crate::contracts#std.IsFiniteIterable
+    /// [ExtendsWithItems]: crate::contracts#std.ExtendsWithItems
+    /// [PutsIn]: crate::contracts#pm_stream.Building.PutsIn
+    /// [split]: crate::contracts#pm_stream.Building.split
+    /// [OnErr]: crate::contracts#std.OnErr
+    /// [GivesAnItem]: crate::contracts#pm_stream.Building.GivesAnItem
+    /// [RefusesAnItem]: crate::contracts#pm_stream.Building.RefusesAnItem
     pub fn extend_trees<I: IntoIterator<Item = TokenTree>>(
         &mut self,
         trees: I,
@@ -63,6 +117,22 @@ impl TokenStream {
     ///
     /// Where memory runs out the streams before that which found none stay whole, and no tree of that
     /// one. The trees of a stream that shares them with no other are moved, not copied.
+    ///
+    /// # Contract
+    ///
+    /// - `requires`: <code>[IsFiniteIterable] I.into_iter_gives I.IntoIter.can_next I.IntoIter.remaining streams</code>
+    /// - `ensures ran`: <code>[ExtendsWithItems] I.into_iter_gives I.IntoIter.next_gives ([PutsIn] (λ stream. stream))
+    ///   streams self.old self.new result</code>
+    /// - `ensures memory`: <code>[OnErr] result ([GivesAnItem] I.into_iter_gives I.IntoIter.next_gives streams)</code>
+    /// - `ensures refused`: <code>[OnErr] result ([RefusesAnItem] I.into_iter_gives I.IntoIter.next_gives ([PutsIn] (λ
+    ///   stream. stream)) streams self.old self.new)</code>
+    ///
+    /// [IsFiniteIterable]: crate::contracts#std.IsFiniteIterable
+    /// [ExtendsWithItems]: crate::contracts#std.ExtendsWithItems
+    /// [PutsIn]: crate::contracts#pm_stream.Building.PutsIn
+    /// [OnErr]: crate::contracts#std.OnErr
+    /// [GivesAnItem]: crate::contracts#pm_stream.Building.GivesAnItem
+    /// [RefusesAnItem]: crate::contracts#pm_stream.Building.RefusesAnItem
     pub fn extend_streams<I: IntoIterator<Item = TokenStream>>(
         &mut self,
         streams: I,
@@ -75,6 +145,23 @@ impl TokenStream {
     }
 
     /// Puts these groups after its trees, as [`extend_trees`](TokenStream::extend_trees) does.
+    ///
+    /// # Contract
+    ///
+    /// - `requires`: <code>[IsFiniteIterable] I.into_iter_gives I.IntoIter.can_next I.IntoIter.remaining groups</code>
+    /// - `ensures ran`: <code>[ExtendsWithItems] I.into_iter_gives I.IntoIter.next_gives ([PutsIn] (λ group. [split]
+    ///   (GroupTree group))) groups self.old self.new result</code>
+    /// - `ensures memory`: <code>[OnErr] result ([GivesAnItem] I.into_iter_gives I.IntoIter.next_gives groups)</code>
+    /// - `ensures refused`: <code>[OnErr] result ([RefusesAnItem] I.into_iter_gives I.IntoIter.next_gives ([PutsIn] (λ
+    ///   group. [split] (GroupTree group))) groups self.old self.new)</code>
+    ///
+    /// [IsFiniteIterable]: crate::contracts#std.IsFiniteIterable
+    /// [ExtendsWithItems]: crate::contracts#std.ExtendsWithItems
+    /// [PutsIn]: crate::contracts#pm_stream.Building.PutsIn
+    /// [split]: crate::contracts#pm_stream.Building.split
+    /// [OnErr]: crate::contracts#std.OnErr
+    /// [GivesAnItem]: crate::contracts#pm_stream.Building.GivesAnItem
+    /// [RefusesAnItem]: crate::contracts#pm_stream.Building.RefusesAnItem
     pub fn extend_groups<I: IntoIterator<Item = Group>>(
         &mut self,
         groups: I,
@@ -87,6 +174,23 @@ impl TokenStream {
     }
 
     /// Puts these identifiers after its trees, as [`extend_trees`](TokenStream::extend_trees) does.
+    ///
+    /// # Contract
+    ///
+    /// - `requires`: <code>[IsFiniteIterable] I.into_iter_gives I.IntoIter.can_next I.IntoIter.remaining idents</code>
+    /// - `ensures ran`: <code>[ExtendsWithItems] I.into_iter_gives I.IntoIter.next_gives ([PutsIn] (λ ident. [split]
+    ///   (IdentTree ident))) idents self.old self.new result</code>
+    /// - `ensures memory`: <code>[OnErr] result ([GivesAnItem] I.into_iter_gives I.IntoIter.next_gives idents)</code>
+    /// - `ensures refused`: <code>[OnErr] result ([RefusesAnItem] I.into_iter_gives I.IntoIter.next_gives ([PutsIn] (λ
+    ///   ident. [split] (IdentTree ident))) idents self.old self.new)</code>
+    ///
+    /// [IsFiniteIterable]: crate::contracts#std.IsFiniteIterable
+    /// [ExtendsWithItems]: crate::contracts#std.ExtendsWithItems
+    /// [PutsIn]: crate::contracts#pm_stream.Building.PutsIn
+    /// [split]: crate::contracts#pm_stream.Building.split
+    /// [OnErr]: crate::contracts#std.OnErr
+    /// [GivesAnItem]: crate::contracts#pm_stream.Building.GivesAnItem
+    /// [RefusesAnItem]: crate::contracts#pm_stream.Building.RefusesAnItem
     pub fn extend_idents<I: IntoIterator<Item = Ident>>(
         &mut self,
         idents: I,
@@ -99,6 +203,23 @@ impl TokenStream {
     }
 
     /// Puts these marks after its trees, as [`extend_trees`](TokenStream::extend_trees) does.
+    ///
+    /// # Contract
+    ///
+    /// - `requires`: <code>[IsFiniteIterable] I.into_iter_gives I.IntoIter.can_next I.IntoIter.remaining puncts</code>
+    /// - `ensures ran`: <code>[ExtendsWithItems] I.into_iter_gives I.IntoIter.next_gives ([PutsIn] (λ punct. [split]
+    ///   (PunctTree punct))) puncts self.old self.new result</code>
+    /// - `ensures memory`: <code>[OnErr] result ([GivesAnItem] I.into_iter_gives I.IntoIter.next_gives puncts)</code>
+    /// - `ensures refused`: <code>[OnErr] result ([RefusesAnItem] I.into_iter_gives I.IntoIter.next_gives ([PutsIn] (λ
+    ///   punct. [split] (PunctTree punct))) puncts self.old self.new)</code>
+    ///
+    /// [IsFiniteIterable]: crate::contracts#std.IsFiniteIterable
+    /// [ExtendsWithItems]: crate::contracts#std.ExtendsWithItems
+    /// [PutsIn]: crate::contracts#pm_stream.Building.PutsIn
+    /// [split]: crate::contracts#pm_stream.Building.split
+    /// [OnErr]: crate::contracts#std.OnErr
+    /// [GivesAnItem]: crate::contracts#pm_stream.Building.GivesAnItem
+    /// [RefusesAnItem]: crate::contracts#pm_stream.Building.RefusesAnItem
     pub fn extend_puncts<I: IntoIterator<Item = Punct>>(
         &mut self,
         puncts: I,
@@ -112,6 +233,23 @@ impl TokenStream {
 
     /// Puts these literals after its trees, as [`extend_trees`](TokenStream::extend_trees) does: a
     /// negative one as its `-` and the rest.
+    ///
+    /// # Contract
+    ///
+    /// - `requires`: <code>[IsFiniteIterable] I.into_iter_gives I.IntoIter.can_next I.IntoIter.remaining literals</code>
+    /// - `ensures ran`: <code>[ExtendsWithItems] I.into_iter_gives I.IntoIter.next_gives ([PutsIn] (λ literal. [split]
+    ///   (LiteralTree literal))) literals self.old self.new result</code>
+    /// - `ensures memory`: <code>[OnErr] result ([GivesAnItem] I.into_iter_gives I.IntoIter.next_gives literals)</code>
+    /// - `ensures refused`: <code>[OnErr] result ([RefusesAnItem] I.into_iter_gives I.IntoIter.next_gives ([PutsIn] (λ
+    ///   literal. [split] (LiteralTree literal))) literals self.old self.new)</code>
+    ///
+    /// [IsFiniteIterable]: crate::contracts#std.IsFiniteIterable
+    /// [ExtendsWithItems]: crate::contracts#std.ExtendsWithItems
+    /// [PutsIn]: crate::contracts#pm_stream.Building.PutsIn
+    /// [split]: crate::contracts#pm_stream.Building.split
+    /// [OnErr]: crate::contracts#std.OnErr
+    /// [GivesAnItem]: crate::contracts#pm_stream.Building.GivesAnItem
+    /// [RefusesAnItem]: crate::contracts#pm_stream.Building.RefusesAnItem
     pub fn extend_literals<I: IntoIterator<Item = Literal>>(
         &mut self,
         literals: I,

@@ -29,6 +29,21 @@ impl Group {
     /// A doc comment is read as `#`, perhaps `!`, and this group: in brackets the identifier `doc`, the mark `=` Alone
     /// and a literal (`doc-tokens`). What stands before the group doesn't count, so the one of the attribute
     /// `#[doc = "x"]` has its literal too.
+    ///
+    /// # Contract
+    ///
+    /// - `ensures value`: <code>[option_copied] result ≡ [doc_of] self.now</code>
+    /// - `ensures trees`: <code>[IfSome] result (λ text. (name : [Name]) × (mark : [Mark]) × (self.now.stream ≡ [forest]
+    ///   (IdentTree name ∷ PunctTree mark ∷ LiteralTree text.now ∷ \[\])))</code>
+    /// - `ensures printed`: <code>[IfSome] result (λ text. [IsDocOf] self.now text.now.text)</code>
+    ///
+    /// [option_copied]: crate::contracts#std.option_copied
+    /// [doc_of]: crate::contracts#pm_stream.DocGroup.doc_of
+    /// [IfSome]: crate::contracts#std.IfSome
+    /// [Name]: crate::contracts#pm_token.Leaf.Name
+    /// [Mark]: crate::contracts#pm_token.Leaf.Mark
+    /// [forest]: crate::contracts#pm_stream.Trees.forest
+    /// [IsDocOf]: crate::contracts#pm_stream.DocGroup.IsDocOf
     pub fn doc(&self) -> Option<&Literal>
 
         // The group holds the three trees, and is printed as `[doc = `, the literal and `]`.

@@ -17,6 +17,10 @@ pub struct DelimSpan {
 
 impl DelimSpan {
     /// The span of the whole group, with its delimiters.
+    ///
+    /// # Contract
+    ///
+    /// - `ensures`: <code>result ≡ self.now</code>
     pub fn join(&self) -> Span
     {
         self.span
@@ -25,6 +29,12 @@ impl DelimSpan {
     /// The span of the opening delimiter (`open-span`): the first character of the group's span.
     ///
     /// It is empty where the group's span is: of 1..4 it is 1..2, and of 0..0 it is 0..0.
+    ///
+    /// # Contract
+    ///
+    /// - `ensures`: <code>result ≡ [opening_span] self.now</code>
+    ///
+    /// [opening_span]: crate::contracts#pm_stream.DelimSpan.opening_span
     pub fn open(&self) -> Span
     {
         let (lo, hi) = bounds(self.span);
@@ -34,6 +44,12 @@ impl DelimSpan {
     /// The span of the closing delimiter (`close-span`): the last character of the group's span.
     ///
     /// It is empty where the group's span is: of 1..4 it is 3..4, and of 0..0 it is 0..0.
+    ///
+    /// # Contract
+    ///
+    /// - `ensures`: <code>result ≡ [closing_span] self.now</code>
+    ///
+    /// [closing_span]: crate::contracts#pm_stream.DelimSpan.closing_span
     pub fn close(&self) -> Span
     {
         let (lo, hi) = bounds(self.span);
@@ -52,6 +68,12 @@ impl Group {
     /// The span of its opening delimiter (`open-span`): the first character of its span.
     ///
     /// It is empty where the group's span is: of 1..4 it is 1..2, and of 0..0 it is 0..0.
+    ///
+    /// # Contract
+    ///
+    /// - `ensures`: <code>result ≡ [opening_span] self.now.span</code>
+    ///
+    /// [opening_span]: crate::contracts#pm_stream.DelimSpan.opening_span
     pub fn span_open(&self) -> Span
     {
         self.delim_span().open()
@@ -60,12 +82,22 @@ impl Group {
     /// The span of its closing delimiter (`close-span`): the last character of its span.
     ///
     /// It is empty where the group's span is: of 1..4 it is 3..4, and of 0..0 it is 0..0.
+    ///
+    /// # Contract
+    ///
+    /// - `ensures`: <code>result ≡ [closing_span] self.now.span</code>
+    ///
+    /// [closing_span]: crate::contracts#pm_stream.DelimSpan.closing_span
     pub fn span_close(&self) -> Span
     {
         self.delim_span().close()
     }
 
     /// Its span, together with those of its delimiters.
+    ///
+    /// # Contract
+    ///
+    /// - `ensures`: <code>result ≡ self.now.span</code>
     pub fn delim_span(&self) -> DelimSpan
     {
         DelimSpan { span: self.span() }

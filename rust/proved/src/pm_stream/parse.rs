@@ -28,6 +28,42 @@ impl TokenStream {
     ///
     /// In a new map `a += b` gives four trees, the first the identifier `a` at 1..2. The fault of
     /// `(]` is 2..2, that of `a ( b` is 3..3.
+    ///
+    /// # Contract
+    ///
+    /// - `ensures ok`: <code>[IfOk] result (λ stream. [ParsesTo] ([next_lo] map.old) ([chars] text.now) stream)</code>
+    /// - `ensures built`: <code>[IfOk] result [IsBuilt]</code>
+    /// - `ensures apart`: <code>[IfOk] result (λ \_. [HasNoFault] ([next_lo] map.old) ([chars] text.now))</code>
+    /// - `ensures spans`: <code>[IfOk] result ([HoldsAll] map.new)</code>
+    /// - `ensures within`: <code>[IsTrue] ([was_read] result) → [Fits] map.old ([length] ([chars] text.now))</code>
+    /// - `ensures lex`: <code>[IfErr] result (λ error. [IfLex] error (λ fault. (fault.lo ≡ fault.hi) × [FaultAt] ([next_lo]
+    ///   map.old) ([chars] text.now) fault.lo))</code>
+    /// - `ensures only`: <code>[IfErr] result (λ error. [IfLex] error (λ fault. [IsOnlyFault] ([next_lo] map.old) ([chars]
+    ///   text.now) fault.lo))</code>
+    /// - `ensures held`: <code>[IfErr] result (λ error. [IfLex] error ([Holds] map.new))</code>
+    /// - `ensures map_full`: <code>(result ≡ [Err] ParseError.MapFull) ↔ ([Fits] map.old ([length] ([chars] text.now)) →
+    ///   ⊥)</code>
+    /// - `ensures kept`: <code>map.new ≡ (if [was_read] result then [with_file] map.old ([chars] text.now) else
+    ///   map.old)</code>
+    ///
+    /// [IfOk]: crate::contracts#std.IfOk
+    /// [ParsesTo]: crate::contracts#pm_stream.Parsing.ParsesTo
+    /// [next_lo]: crate::contracts#pm_span.Files.next_lo
+    /// [chars]: crate::contracts#std.chars
+    /// [IsBuilt]: crate::contracts#pm_stream.Forest.IsBuilt
+    /// [HasNoFault]: crate::contracts#pm_stream.Parsing.HasNoFault
+    /// [HoldsAll]: crate::contracts#pm_stream.HeldSpans.HoldsAll
+    /// [IsTrue]: crate::contracts#std.IsTrue
+    /// [was_read]: crate::contracts#pm_token.Outcome.was_read
+    /// [Fits]: crate::contracts#pm_span.Files.Fits
+    /// [length]: crate::contracts#std.length
+    /// [IfErr]: crate::contracts#std.IfErr
+    /// [IfLex]: crate::contracts#pm_token.Outcome.IfLex
+    /// [FaultAt]: crate::contracts#pm_stream.Parsing.FaultAt
+    /// [IsOnlyFault]: crate::contracts#pm_stream.Parsing.IsOnlyFault
+    /// [Holds]: crate::contracts#pm_span.Files.Holds
+    /// [Err]: crate::contracts#std.Err
+    /// [with_file]: crate::contracts#pm_span.Files.with_file
     pub fn from_str(text: &str, map: &mut SourceMap) -> Result<TokenStream, ParseError>
 
         // The fault has one position, and the map holds it.
@@ -51,6 +87,33 @@ impl TokenStream {
     /// a map: `from_str` finds it at the same position.
     ///
     /// `a += b` gives four trees, the first the identifier `a` at 1..2. The fault of `(]` is 2..2.
+    ///
+    /// # Contract
+    ///
+    /// - `ensures ok`: <code>[IfOk] result (λ stream. [ParsesTo] ([next_lo] [new_map]) ([chars] text.now) stream)</code>
+    /// - `ensures built`: <code>[IfOk] result [IsBuilt]</code>
+    /// - `ensures apart`: <code>[IfOk] result (λ \_. [HasNoFault] ([next_lo] [new_map]) ([chars] text.now))</code>
+    /// - `ensures lex`: <code>[IfErr] result (λ error. [IfLex] error (λ fault. (fault.lo ≡ fault.hi) × [FaultAt] ([next_lo]
+    ///   [new_map]) ([chars] text.now) fault.lo))</code>
+    /// - `ensures only`: <code>[IfErr] result (λ error. [IfLex] error (λ fault. [IsOnlyFault] ([next_lo] [new_map])
+    ///   ([chars] text.now) fault.lo))</code>
+    /// - `ensures map_full`: <code>(result ≡ [Err] ParseError.MapFull) ↔ ([Fits] [new_map] ([length] ([chars] text.now)) →
+    ///   ⊥)</code>
+    ///
+    /// [IfOk]: crate::contracts#std.IfOk
+    /// [ParsesTo]: crate::contracts#pm_stream.Parsing.ParsesTo
+    /// [next_lo]: crate::contracts#pm_span.Files.next_lo
+    /// [new_map]: crate::contracts#pm_span.Files.new_map
+    /// [chars]: crate::contracts#std.chars
+    /// [IsBuilt]: crate::contracts#pm_stream.Forest.IsBuilt
+    /// [HasNoFault]: crate::contracts#pm_stream.Parsing.HasNoFault
+    /// [IfErr]: crate::contracts#std.IfErr
+    /// [IfLex]: crate::contracts#pm_token.Outcome.IfLex
+    /// [FaultAt]: crate::contracts#pm_stream.Parsing.FaultAt
+    /// [IsOnlyFault]: crate::contracts#pm_stream.Parsing.IsOnlyFault
+    /// [Err]: crate::contracts#std.Err
+    /// [Fits]: crate::contracts#pm_span.Files.Fits
+    /// [length]: crate::contracts#std.length
     pub fn parse_unmapped(text: &str) -> Result<TokenStream, ParseError>
     {
         let Some(lo) = fits_new(text) else {

@@ -7,12 +7,25 @@ use crate::pm_token::{Delimiter, Ident, Literal, Punct};
 use crate::shim::alloc::AllocError;
 
 /// The group of these parts.
+///
+/// # Contract
+///
+/// - `ensures`: <code>result ≡ record { delimiter = delimiter; stream = stream; span = span }</code>
 pub fn group(delimiter: Delimiter, stream: TokenStream, span: Span) -> Group
 {
     Group::from_parts(delimiter, stream, span)
 }
 
 /// The stream of these trees. Fails where memory runs out.
+///
+/// # Contract
+///
+/// - `requires`: <code>[IsBuilt] ([forest] trees.items)</code>
+/// - `ensures ok`: <code>[IfOk] result (λ stream. stream ≡ [forest] trees.items)</code>
+///
+/// [IsBuilt]: crate::contracts#pm_stream.Forest.IsBuilt
+/// [forest]: crate::contracts#pm_stream.Trees.forest
+/// [IfOk]: crate::contracts#std.IfOk
 pub fn stream(trees: Vec<TokenTree>) -> Result<TokenStream, AllocError>
 {
     TokenStream::from_vec(trees)
@@ -20,12 +33,28 @@ pub fn stream(trees: Vec<TokenTree>) -> Result<TokenStream, AllocError>
 
 /// The trees of the stream, in order. A list that no other stream shares is taken over. Another is copied, which fails
 /// where memory runs out.
+///
+/// # Contract
+///
+/// - `ensures value`: <code>[IfOk] result (λ list. [forest] list.items ≡ stream)</code>
+/// - `ensures built`: <code>[IsBuilt] stream</code>
+///
+/// [IfOk]: crate::contracts#std.IfOk
+/// [forest]: crate::contracts#pm_stream.Trees.forest
+/// [IsBuilt]: crate::contracts#pm_stream.Forest.IsBuilt
 pub fn into_trees(stream: TokenStream) -> Result<Vec<TokenTree>, AllocError>
 {
     stream.into_list()
 }
 
 /// The trees of the group, which keeps none.
+///
+/// # Contract
+///
+/// - `ensures value`: <code>result ≡ group.old.stream</code>
+/// - `ensures left`: <code>group.new ≡ record group.old { stream = [nil] }</code>
+///
+/// [nil]: crate::contracts#pm_stream.Forest.nil
 #[inline(always)]
 pub fn take_stream(group: &mut Group) -> TokenStream
 {
@@ -33,6 +62,10 @@ pub fn take_stream(group: &mut Group) -> TokenStream
 }
 
 /// Puts these trees into the group in place of its own.
+///
+/// # Contract
+///
+/// - `ensures`: <code>group.new ≡ record group.old { stream = stream }</code>
 #[inline(always)]
 pub fn set_stream(group: &mut Group, stream: TokenStream)
 {
@@ -40,6 +73,16 @@ pub fn set_stream(group: &mut Group, stream: TokenStream)
 }
 
 /// Puts a group after the trees of a stream. Where memory runs out the stream stays as it was.
+///
+/// # Contract
+///
+/// - `ensures ok`: <code>[OnOk] result (stream.new ≡ [joined] stream.old ([split] (GroupTree group)))</code>
+/// - `ensures err`: <code>[OnErr] result (stream.new ≡ stream.old)</code>
+///
+/// [OnOk]: crate::contracts#std.OnOk
+/// [joined]: crate::contracts#pm_stream.Forest.joined
+/// [split]: crate::contracts#pm_stream.Building.split
+/// [OnErr]: crate::contracts#std.OnErr
 #[inline(always)]
 pub fn put_group(stream: &mut TokenStream, group: Group) -> Result<(), AllocError>
 {
@@ -47,6 +90,16 @@ pub fn put_group(stream: &mut TokenStream, group: Group) -> Result<(), AllocErro
 }
 
 /// Puts an identifier after the trees of a stream. Where memory runs out the stream stays as it was.
+///
+/// # Contract
+///
+/// - `ensures ok`: <code>[OnOk] result (stream.new ≡ [joined] stream.old ([split] (IdentTree ident)))</code>
+/// - `ensures err`: <code>[OnErr] result (stream.new ≡ stream.old)</code>
+///
+/// [OnOk]: crate::contracts#std.OnOk
+/// [joined]: crate::contracts#pm_stream.Forest.joined
+/// [split]: crate::contracts#pm_stream.Building.split
+/// [OnErr]: crate::contracts#std.OnErr
 #[inline(always)]
 pub fn put_ident(stream: &mut TokenStream, ident: Ident) -> Result<(), AllocError>
 {
@@ -54,6 +107,16 @@ pub fn put_ident(stream: &mut TokenStream, ident: Ident) -> Result<(), AllocErro
 }
 
 /// Puts a mark after the trees of a stream. Where memory runs out the stream stays as it was.
+///
+/// # Contract
+///
+/// - `ensures ok`: <code>[OnOk] result (stream.new ≡ [joined] stream.old ([split] (PunctTree punct)))</code>
+/// - `ensures err`: <code>[OnErr] result (stream.new ≡ stream.old)</code>
+///
+/// [OnOk]: crate::contracts#std.OnOk
+/// [joined]: crate::contracts#pm_stream.Forest.joined
+/// [split]: crate::contracts#pm_stream.Building.split
+/// [OnErr]: crate::contracts#std.OnErr
 #[inline(always)]
 pub fn put_punct(stream: &mut TokenStream, punct: Punct) -> Result<(), AllocError>
 {
@@ -62,6 +125,16 @@ pub fn put_punct(stream: &mut TokenStream, punct: Punct) -> Result<(), AllocErro
 
 /// Puts a literal after the trees of a stream, a negative one as its `-` and the rest. Where memory runs out the
 /// stream stays as it was.
+///
+/// # Contract
+///
+/// - `ensures ok`: <code>[OnOk] result (stream.new ≡ [joined] stream.old ([split] (LiteralTree literal)))</code>
+/// - `ensures err`: <code>[OnErr] result (stream.new ≡ stream.old)</code>
+///
+/// [OnOk]: crate::contracts#std.OnOk
+/// [joined]: crate::contracts#pm_stream.Forest.joined
+/// [split]: crate::contracts#pm_stream.Building.split
+/// [OnErr]: crate::contracts#std.OnErr
 #[inline(always)]
 pub fn put_literal(stream: &mut TokenStream, literal: Literal) -> Result<(), AllocError>
 {

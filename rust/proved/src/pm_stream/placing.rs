@@ -55,6 +55,32 @@ pub struct PlacedTree {
 ///
 /// `a (b)` has an identifier from 1:0 to 1:1, a group from 1:2 to 1:5, and an identifier from 1:3 to 1:4. The fault
 /// of `(]` is 2..2.
+///
+/// # Contract
+///
+/// - `ensures ok`: <code>[IfOk] result (λ trees. [ArePlaced] ([next_lo] [new_map]) ([chars] text.now)
+///   trees.items)</code>
+/// - `ensures apart`: <code>[IfOk] result (λ \_. [HasNoFault] ([next_lo] [new_map]) ([chars] text.now))</code>
+/// - `ensures lex`: <code>[IfErr] result (λ error. [IfLex] error (λ fault. (fault.lo ≡ fault.hi) × [FaultAt] ([next_lo]
+///   [new_map]) ([chars] text.now) fault.lo))</code>
+/// - `ensures only`: <code>[IfErr] result (λ error. [IfLex] error (λ fault. [IsOnlyFault] ([next_lo] [new_map])
+///   ([chars] text.now) fault.lo))</code>
+/// - `ensures map_full`: <code>(result ≡ [Err] ParseError.MapFull) ↔ ([Fits] [new_map] ([length] ([chars] text.now)) →
+///   ⊥)</code>
+///
+/// [IfOk]: crate::contracts#std.IfOk
+/// [ArePlaced]: crate::contracts#pm_stream.Places.ArePlaced
+/// [next_lo]: crate::contracts#pm_span.Files.next_lo
+/// [new_map]: crate::contracts#pm_span.Files.new_map
+/// [chars]: crate::contracts#std.chars
+/// [HasNoFault]: crate::contracts#pm_stream.Parsing.HasNoFault
+/// [IfErr]: crate::contracts#std.IfErr
+/// [IfLex]: crate::contracts#pm_token.Outcome.IfLex
+/// [FaultAt]: crate::contracts#pm_stream.Parsing.FaultAt
+/// [IsOnlyFault]: crate::contracts#pm_stream.Parsing.IsOnlyFault
+/// [Err]: crate::contracts#std.Err
+/// [Fits]: crate::contracts#pm_span.Files.Fits
+/// [length]: crate::contracts#std.length
 pub fn place_trees(text: &str) -> Result<Vec<PlacedTree>, ParseError>
 {
     let Some(lo) = fits_new(text) else {

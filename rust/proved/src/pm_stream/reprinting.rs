@@ -20,6 +20,33 @@ use crate::shim::alloc::AllocError;
 /// (`fits`), and `Memory` where a growth was refused.
 ///
 /// `a+=b` gives `a += b`, and `{x}` gives `{ x }`. The fault of `(]` is 2..2.
+///
+/// # Contract
+///
+/// - `ensures ok`: <code>[IfOk] result (λ out. [PrintsText] ([next_lo] [new_map]) ([chars] text.now) ([string_bytes]
+///   out))</code>
+/// - `ensures apart`: <code>[IfOk] result (λ \_. [HasNoFault] ([next_lo] [new_map]) ([chars] text.now))</code>
+/// - `ensures lex`: <code>[IfErr] result (λ error. [IfLex] error (λ fault. (fault.lo ≡ fault.hi) × [FaultAt] ([next_lo]
+///   [new_map]) ([chars] text.now) fault.lo))</code>
+/// - `ensures only`: <code>[IfErr] result (λ error. [IfLex] error (λ fault. [IsOnlyFault] ([next_lo] [new_map])
+///   ([chars] text.now) fault.lo))</code>
+/// - `ensures map_full`: <code>(result ≡ [Err] ParseError.MapFull) ↔ ([Fits] [new_map] ([length] ([chars] text.now)) →
+///   ⊥)</code>
+///
+/// [IfOk]: crate::contracts#std.IfOk
+/// [PrintsText]: crate::contracts#pm_stream.PrintsText.PrintsText
+/// [next_lo]: crate::contracts#pm_span.Files.next_lo
+/// [new_map]: crate::contracts#pm_span.Files.new_map
+/// [chars]: crate::contracts#std.chars
+/// [string_bytes]: crate::contracts#std.string_bytes
+/// [HasNoFault]: crate::contracts#pm_stream.Parsing.HasNoFault
+/// [IfErr]: crate::contracts#std.IfErr
+/// [IfLex]: crate::contracts#pm_token.Outcome.IfLex
+/// [FaultAt]: crate::contracts#pm_stream.Parsing.FaultAt
+/// [IsOnlyFault]: crate::contracts#pm_stream.Parsing.IsOnlyFault
+/// [Err]: crate::contracts#std.Err
+/// [Fits]: crate::contracts#pm_span.Files.Fits
+/// [length]: crate::contracts#std.length
 pub fn reprint(text: &str) -> Result<String, ParseError>
 {
     let Some(lo) = fits_new(text) else {

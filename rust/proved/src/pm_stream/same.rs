@@ -26,6 +26,13 @@ impl TokenStream {
     ///
     /// What `a` and `  a` parse to is the same. `(a)` and `[a]` are not, nor are `+ =` and `+=`, where
     /// one `+` is Alone and the other Joint.
+    ///
+    /// # Contract
+    ///
+    /// - `ensures`: <code>[IsTrue] result ↔ [Same] self.now other.now</code>
+    ///
+    /// [IsTrue]: crate::contracts#std.IsTrue
+    /// [Same]: crate::contracts#pm_stream.Same.Same
     pub fn same_tokens(&self, other: &TokenStream) -> bool
     {
         are_same(self.trees(), other.trees())

@@ -38,6 +38,12 @@ impl TokenStream {
     /// A traversal of all its trees, which goes into each group and out of it again. It takes no memory.
     ///
     /// `a (b) c` has the steps past `a`, into `(b)`, past `b`, out of `(b)` and past `c`.
+    ///
+    /// # Contract
+    ///
+    /// - `ensures`: <code>result ≡ [steps] self.now</code>
+    ///
+    /// [steps]: crate::contracts#pm_stream.Steps.steps
     pub fn steps(&self) -> Steps<'_>
     {
         Steps::new(self.trees())
@@ -46,6 +52,13 @@ impl TokenStream {
 
 impl<'a> Steps<'a> {
     /// A traversal of these trees. It takes no memory.
+    ///
+    /// # Contract
+    ///
+    /// - `ensures`: <code>result ≡ [steps] ([forest] trees.now)</code>
+    ///
+    /// [steps]: crate::contracts#pm_stream.Steps.steps
+    /// [forest]: crate::contracts#pm_stream.Trees.forest
     pub fn new(trees: &'a [TokenTree]) -> Steps<'a>
     {
         Steps {
@@ -58,6 +71,23 @@ impl<'a> Steps<'a> {
     ///
     /// It takes memory only on the way into a group, for what comes after that. Where it is refused, all stays as it
     /// was, and [`pass_over`](Steps::pass_over) gives the group.
+    ///
+    /// # Contract
+    ///
+    /// - `ensures ok`: <code>[IfOk] result (λ next. [MatchOption] next ((self.old ≡ \[\]) × (self.new ≡ \[\])) (λ step.
+    ///   self.old ≡ [step_of] step ∷ self.new))</code>
+    /// - `ensures siblings`: <code>[IfOk] result (λ next. [IfSome] next (λ step. [FollowedBy] ([step_of] step)
+    ///   self.new))</code>
+    /// - `ensures memory`: <code>[OnErr] result ([EntersNext] self.old)</code>
+    /// - `ensures err`: <code>[OnErr] result (self.new ≡ self.old)</code>
+    ///
+    /// [IfOk]: crate::contracts#std.IfOk
+    /// [MatchOption]: crate::contracts#std.MatchOption
+    /// [step_of]: crate::contracts#pm_stream.Steps.step_of
+    /// [IfSome]: crate::contracts#std.IfSome
+    /// [FollowedBy]: crate::contracts#pm_stream.Steps.FollowedBy
+    /// [OnErr]: crate::contracts#std.OnErr
+    /// [EntersNext]: crate::contracts#pm_stream.Steps.EntersNext
     #[inline(always)]
     pub fn try_next(&mut self) -> Result<Option<Step<'a>>, AllocError>
     {
@@ -79,6 +109,19 @@ impl<'a> Steps<'a> {
 
     /// Passes over the group that the next step goes into, and gives it with the trees that follow. `None` where the
     /// next step is another, and then nothing is passed over. It takes no memory.
+    ///
+    /// # Contract
+    ///
+    /// - `ensures`: <code>[MatchOption] result (([EntersNext] self.old → ⊥) × (self.new ≡ self.old)) (λ next. self.old ≡
+    ///   [Enter] next.0.now ([forest] next.1.now) ∷ [steps_onto] next.0.now.stream ([Leave] next.0.now ([forest]
+    ///   next.1.now) ∷ self.new))</code>
+    ///
+    /// [MatchOption]: crate::contracts#std.MatchOption
+    /// [EntersNext]: crate::contracts#pm_stream.Steps.EntersNext
+    /// [Enter]: crate::contracts#pm_stream.Steps.Enter
+    /// [forest]: crate::contracts#pm_stream.Trees.forest
+    /// [steps_onto]: crate::contracts#pm_stream.Steps.steps_onto
+    /// [Leave]: crate::contracts#pm_stream.Steps.Leave
     pub fn pass_over(&mut self) -> Option<(&'a Group, &'a [TokenTree])>
     {
         let Some((tree, after)) = self.left.split_first() else {

@@ -120,6 +120,12 @@ fn put_last(shared: &mut Rc<Vec<TokenTree>>, tree: TokenTree) -> Result<(), Toke
 
 impl TokenStream {
     /// A stream with no trees. It takes no memory.
+    ///
+    /// # Contract
+    ///
+    /// - `ensures`: <code>result ≡ [nil]</code>
+    ///
+    /// [nil]: crate::contracts#pm_stream.Forest.nil
     pub fn new() -> TokenStream
     {
         TokenStream { trees: None }
@@ -138,6 +144,12 @@ impl TokenStream {
     }
 
     /// Whether it has no trees.
+    ///
+    /// # Contract
+    ///
+    /// - `ensures`: <code>result ≡ [is_nil] self.now</code>
+    ///
+    /// [is_nil]: crate::contracts#pm_stream.Size.is_nil
     pub fn is_empty(&self) -> bool
     {
         self.trees().is_empty()
@@ -146,6 +158,21 @@ impl TokenStream {
     /// Its trees, in order. Proofs learn by it what every stream is (`built`), and that each of its
     /// trees may be put into a stream again. A map that holds all spans of the stream holds those of
     /// each tree.
+    ///
+    /// # Contract
+    ///
+    /// - `ensures value`: <code>[forest] result.now ≡ self.now</code>
+    /// - `ensures built`: <code>[IsBuilt] self.now</code>
+    /// - `ensures inside`: <code>[All] [GoesInside] result.now</code>
+    /// - `ensures held`: <code>(map : [Files]) → [HoldsAll] map self.now → [HoldsEach] map result.now</code>
+    ///
+    /// [forest]: crate::contracts#pm_stream.Trees.forest
+    /// [IsBuilt]: crate::contracts#pm_stream.Forest.IsBuilt
+    /// [All]: crate::contracts#std.All
+    /// [GoesInside]: crate::contracts#pm_stream.Trees.GoesInside
+    /// [Files]: crate::contracts#pm_span.Files.Files
+    /// [HoldsAll]: crate::contracts#pm_stream.HeldSpans.HoldsAll
+    /// [HoldsEach]: crate::contracts#pm_stream.HeldSpans.HoldsEach
     pub fn trees(&self) -> &[TokenTree]
     {
         listed(&self.trees)
@@ -195,6 +222,16 @@ fn listed(trees: &Option<Rc<Vec<TokenTree>>>) -> &[TokenTree]
 
 impl TokenTree {
     /// Where it stands. Proofs learn by it that a tree that may be put into a stream is `built`.
+    ///
+    /// # Contract
+    ///
+    /// - `ensures value`: <code>result ≡ [extent_of] self.now</code>
+    /// - `ensures built`: <code>[GoesInside] self.now → [IsBuilt] ([alone] self.now)</code>
+    ///
+    /// [extent_of]: crate::contracts#pm_stream.TreeSpan.extent_of
+    /// [GoesInside]: crate::contracts#pm_stream.Trees.GoesInside
+    /// [IsBuilt]: crate::contracts#pm_stream.Forest.IsBuilt
+    /// [alone]: crate::contracts#pm_stream.Trees.alone
     pub fn span(&self) -> Span
     {
         match self {
@@ -206,6 +243,12 @@ impl TokenTree {
     }
 
     /// Sets where the tree stands, and changes nothing else. The trees in a group keep their spans.
+    ///
+    /// # Contract
+    ///
+    /// - `ensures`: <code>self.new ≡ [with_span] self.old span</code>
+    ///
+    /// [with_span]: crate::contracts#pm_stream.TreeSpan.with_span
     pub fn set_span(&mut self, span: Span)
     {
         match self {
@@ -250,18 +293,35 @@ impl Group {
     /// A group of these trees between these delimiters, with the span 0..0. It takes no memory.
     ///
     /// Of `Delimiter::Parenthesis` and the stream `x` it is `(x)`. The trees keep their spans.
+    ///
+    /// # Contract
+    ///
+    /// - `ensures`: <code>result ≡ record { delimiter = delimiter; stream = stream; span = [nowhere] }</code>
+    ///
+    /// [nowhere]: crate::contracts#pm_span.Extent.nowhere
     pub fn new(delimiter: Delimiter, stream: TokenStream) -> Group
     {
         Group::from_parts(delimiter, stream, Span::call_site())
     }
 
     /// What stands around its trees.
+    ///
+    /// # Contract
+    ///
+    /// - `ensures`: <code>result ≡ self.now.delimiter</code>
     pub fn delimiter(&self) -> Delimiter
     {
         self.delimiter
     }
 
     /// Its trees, without the delimiters. They are `built`, as those of every stream.
+    ///
+    /// # Contract
+    ///
+    /// - `ensures value`: <code>result.now ≡ self.now.stream</code>
+    /// - `ensures built`: <code>[IsBuilt] result.now</code>
+    ///
+    /// [IsBuilt]: crate::contracts#pm_stream.Forest.IsBuilt
     pub fn stream_ref(&self) -> &TokenStream
     {
         self.stream.built();
@@ -273,12 +333,29 @@ impl Group {
     /// They are shared until one of the two is changed, so that this takes no memory. It fails only where
     /// the trees have more owners than can be counted, and never for a group without trees.
     /// [`stream_ref`](Group::stream_ref) lends them.
+    ///
+    /// # Contract
+    ///
+    /// - `ensures ok`: <code>[IfOk] result (λ stream. stream ≡ self.now.stream)</code>
+    /// - `ensures empty`: <code>self.now.stream ≡ [nil] → [IsOk] result</code>
+    ///
+    /// [IfOk]: crate::contracts#std.IfOk
+    /// [nil]: crate::contracts#pm_stream.Forest.nil
+    /// [IsOk]: crate::contracts#std.IsOk
     pub fn stream(&self) -> Result<TokenStream, AllocError>
     {
         self.stream.try_clone()
     }
 
     /// Where it stands, delimiters and all. Proofs learn by it what every group is (`built`).
+    ///
+    /// # Contract
+    ///
+    /// - `ensures value`: <code>result ≡ self.now.span</code>
+    /// - `ensures built`: <code>[IsBuilt] ([alone] (GroupTree self.now))</code>
+    ///
+    /// [IsBuilt]: crate::contracts#pm_stream.Forest.IsBuilt
+    /// [alone]: crate::contracts#pm_stream.Trees.alone
     pub fn span(&self) -> Span
     {
         // They compute nothing: proofs learn what is inside, and that the span is in order.
@@ -288,6 +365,10 @@ impl Group {
     }
 
     /// Sets where the group stands, and changes nothing else. The trees in it keep their spans.
+    ///
+    /// # Contract
+    ///
+    /// - `ensures`: <code>self.new ≡ record self.old { span = span }</code>
     pub fn set_span(&mut self, span: Span)
     {
         self.span = span;

@@ -22,6 +22,22 @@ impl TokenStream {
     ///
     /// Where another stream shares the trees they are copied, and this fails where memory for that runs
     /// out; the other stream stays as it was. Else it takes no memory.
+    ///
+    /// # Contract
+    ///
+    /// - `ensures value`: <code>[IfOk] result (λ it. [forest] it ≡ self)</code>
+    /// - `ensures built`: <code>[IsBuilt] self</code>
+    /// - `ensures inside`: <code>[IfOk] result ([All] [GoesInside])</code>
+    /// - `ensures held`: <code>(map : [Files]) → [HoldsAll] map self → [IfOk] result ([HoldsEach] map)</code>
+    ///
+    /// [IfOk]: crate::contracts#std.IfOk
+    /// [forest]: crate::contracts#pm_stream.Trees.forest
+    /// [IsBuilt]: crate::contracts#pm_stream.Forest.IsBuilt
+    /// [All]: crate::contracts#std.All
+    /// [GoesInside]: crate::contracts#pm_stream.Trees.GoesInside
+    /// [Files]: crate::contracts#pm_span.Files.Files
+    /// [HoldsAll]: crate::contracts#pm_stream.HeldSpans.HoldsAll
+    /// [HoldsEach]: crate::contracts#pm_stream.HeldSpans.HoldsEach
     pub fn try_into_iter(self) -> Result<IntoIter, AllocError>
     {
         Ok(IntoIter {

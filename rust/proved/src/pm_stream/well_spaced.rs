@@ -18,6 +18,15 @@ impl TokenStream {
     ///
     /// The stream of `+` Joint and the identifier `a` is not well spaced: it prints `+a`, which is
     /// `+` Alone and `a`.
+    ///
+    /// # Contract
+    ///
+    /// - `ensures value`: <code>[IsTrue] result ↔ [IsWellSpaced] self.now</code>
+    /// - `ensures built`: <code>[IsBuilt] self.now</code>
+    ///
+    /// [IsTrue]: crate::contracts#std.IsTrue
+    /// [IsWellSpaced]: crate::contracts#pm_stream.WellSpaced.IsWellSpaced
+    /// [IsBuilt]: crate::contracts#pm_stream.Forest.IsBuilt
     pub fn is_well_spaced(&self) -> bool
     {
         are_well_spaced(self.trees())
@@ -94,6 +103,16 @@ fn mark_fits(punct: &Punct, after: &[TokenTree]) -> bool
 /// nowhere.
 ///
 /// `+` may before `=`, and may not before `a` or at the end.
+///
+/// # Contract
+///
+/// - `ensures`: <code>result ≡ [fits] ([Mark] mark [true]) ([next_token] ([forest] after.now))</code>
+///
+/// [fits]: crate::contracts#pm_stream.WellSpaced.fits
+/// [Mark]: crate::contracts#lexical.Token.Mark
+/// [true]: crate::contracts#std.true
+/// [next_token]: crate::contracts#pm_stream.WellSpaced.next_token
+/// [forest]: crate::contracts#pm_stream.Trees.forest
 pub fn may_be_joint(mark: char, after: &[TokenTree]) -> bool
 {
     if mark == '\'' {

@@ -21,6 +21,10 @@ impl LexError {
     /// `fault`: before the character that can't be read, before the closer that doesn't close the
     /// innermost open group, or before the last opener that no closer matches. That of a literal has
     /// the span 0..0, which is in no text.
+    ///
+    /// # Contract
+    ///
+    /// - `ensures`: <code>result ≡ self.now</code>
     pub fn span(&self) -> Span
     {
         self.span
@@ -58,6 +62,12 @@ pub enum ParseError {
 
 impl ParseError {
     /// Where the fault of the text stands, as [`LexError::span`] has it; `None` if the text has no fault.
+    ///
+    /// # Contract
+    ///
+    /// - `ensures`: <code>result ≡ [fault_span] self.now</code>
+    ///
+    /// [fault_span]: crate::contracts#pm_token.Message.fault_span
     pub fn span(&self) -> Option<Span>
     {
         match self {

@@ -25,6 +25,12 @@ impl TextBuilder {
     }
 
     /// Nothing yet, with room for so many bytes. Fails where memory runs out.
+    ///
+    /// # Contract
+    ///
+    /// - `ensures`: <code>[IfOk] result (λ builder. builder ≡ \[\])</code>
+    ///
+    /// [IfOk]: crate::contracts#std.IfOk
     pub fn with_room(bytes: usize) -> Result<TextBuilder, AllocError>
     {
         Ok(TextBuilder {
@@ -39,18 +45,40 @@ impl TextBuilder {
     }
 
     /// The text. It takes no memory.
+    ///
+    /// # Contract
+    ///
+    /// - `ensures`: <code>[string_bytes] result ≡ [encode_utf8_all] self</code>
+    ///
+    /// [string_bytes]: crate::contracts#std.string_bytes
+    /// [encode_utf8_all]: crate::contracts#std.encode_utf8_all
     pub fn into_string(self) -> String
     {
         self.text
     }
 
     /// Writes the text. Fails where memory runs out.
+    ///
+    /// # Contract
+    ///
+    /// - `ensures ok`: <code>[OnOk] result (self.new ≡ self.old ++ [chars] text.now)</code>
+    ///
+    /// [OnOk]: crate::contracts#std.OnOk
+    /// [chars]: crate::contracts#std.chars
     pub fn push_text(&mut self, text: &str) -> Result<(), AllocError>
     {
         self.text.push_str_fallibly(text)
     }
 
     /// Writes the string literal of the text. Fails where memory runs out.
+    ///
+    /// # Contract
+    ///
+    /// - `ensures ok`: <code>[OnOk] result (self.new ≡ self.old ++ [string_text] ([chars] text.now))</code>
+    ///
+    /// [OnOk]: crate::contracts#std.OnOk
+    /// [string_text]: crate::contracts#pm_token.Escaped.string_text
+    /// [chars]: crate::contracts#std.chars
     pub fn push_string(&mut self, text: &str) -> Result<(), AllocError>
     {
         self.push('"')?;
@@ -59,6 +87,12 @@ impl TextBuilder {
     }
 
     /// Writes the character.
+    ///
+    /// # Contract
+    ///
+    /// - `ensures ok`: <code>[OnOk] result (self.new ≡ self.old ++ c ∷ \[\])</code>
+    ///
+    /// [OnOk]: crate::contracts#std.OnOk
     pub fn push(&mut self, c: char) -> Result<(), AllocError>
     {
         self.text.push_fallibly(c)
@@ -129,6 +163,16 @@ impl TextBuilder {
     }
 
     /// Writes the characters of the text between these quotes.
+    ///
+    /// # Contract
+    ///
+    /// - `ensures ok`: <code>[OnOk] result (self.new ≡ self.old ++ [content] quote [written_char] ([chars]
+    ///   text.now))</code>
+    ///
+    /// [OnOk]: crate::contracts#std.OnOk
+    /// [content]: crate::contracts#pm_token.Escaped.content
+    /// [written_char]: crate::contracts#pm_token.Escaped.written_char
+    /// [chars]: crate::contracts#std.chars
     pub fn push_content(&mut self, quote: char, text: &str) -> Result<(), AllocError>
     {
         let mut rest = self.push_plain(quote, text)?.chars();
@@ -161,6 +205,14 @@ pub(crate) fn stands_for_itself(byte: u8, quote: char) -> bool
 }
 
 /// Whether the text begins with one of the digits 0 to 7.
+///
+/// # Contract
+///
+/// - `ensures`: <code>result ≡ [first_passes] [is_octal_digit] ([chars] text.now)</code>
+///
+/// [first_passes]: crate::contracts#lexical.Text.first_passes
+/// [is_octal_digit]: crate::contracts#lexical.Quoted.is_octal_digit
+/// [chars]: crate::contracts#std.chars
 pub fn begins_octal(text: &str) -> bool
 {
     match text.chars().next() {
@@ -170,6 +222,12 @@ pub fn begins_octal(text: &str) -> bool
 }
 
 /// Whether the character stands for itself in a string literal, by the rule `bare`.
+///
+/// # Contract
+///
+/// - `ensures`: <code>result ≡ [bare] c</code>
+///
+/// [bare]: crate::contracts#pm_token.Escaped.is_bare
 pub fn is_bare(c: char) -> bool
 {
     if c.is_ascii() {

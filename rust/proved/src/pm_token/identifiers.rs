@@ -53,6 +53,26 @@ impl Ident {
     /// name has no character; `Number` where it has ASCII digits only; `Invalid` where it isn't a
     /// character that may begin an identifier and then characters that may go on with one. Only a
     /// name without a fault is refused for `Memory`. `255` is a `Number`, and `r#a` is `Invalid`.
+    ///
+    /// # Contract
+    ///
+    /// - `ensures ok`: <code>[IfOk] result (λ ident. ident ≡ record { name = [chars] name.now; raw = [false]; span = span
+    ///   })</code>
+    /// - `ensures empty`: <code>(result ≡ [Err] IdentError.Empty) ↔ ([ident_fault] [false] ([chars] name.now) ≡ [Some]
+    ///   IdentError.Empty)</code>
+    /// - `ensures number`: <code>(result ≡ [Err] IdentError.Number) ↔ ([ident_fault] [false] ([chars] name.now) ≡ [Some]
+    ///   IdentError.Number)</code>
+    /// - `ensures invalid`: <code>(result ≡ [Err] IdentError.Invalid) ↔ ([ident_fault] [false] ([chars] name.now) ≡ [Some]
+    ///   IdentError.Invalid)</code>
+    /// - `ensures reserved`: <code>(result ≡ [Err] IdentError.Reserved) ↔ ([ident_fault] [false] ([chars] name.now) ≡
+    ///   [Some] IdentError.Reserved)</code>
+    ///
+    /// [IfOk]: crate::contracts#std.IfOk
+    /// [chars]: crate::contracts#std.chars
+    /// [false]: crate::contracts#std.false
+    /// [Err]: crate::contracts#std.Err
+    /// [ident_fault]: crate::contracts#pm_token.IdentFault.ident_fault
+    /// [Some]: crate::contracts#std.Some
     #[inline(always)]
     pub fn new(name: &str, span: Span) -> Result<Ident, IdentError>
     {
@@ -63,6 +83,26 @@ impl Ident {
     ///
     /// Refused as by [`new`](Ident::new), and then with `Reserved` where the name is `_`, `super`,
     /// `self`, `Self` or `crate`. `fn` makes `r#fn`.
+    ///
+    /// # Contract
+    ///
+    /// - `ensures ok`: <code>[IfOk] result (λ ident. ident ≡ record { name = [chars] name.now; raw = [true]; span = span
+    ///   })</code>
+    /// - `ensures empty`: <code>(result ≡ [Err] IdentError.Empty) ↔ ([ident_fault] [true] ([chars] name.now) ≡ [Some]
+    ///   IdentError.Empty)</code>
+    /// - `ensures number`: <code>(result ≡ [Err] IdentError.Number) ↔ ([ident_fault] [true] ([chars] name.now) ≡ [Some]
+    ///   IdentError.Number)</code>
+    /// - `ensures invalid`: <code>(result ≡ [Err] IdentError.Invalid) ↔ ([ident_fault] [true] ([chars] name.now) ≡ [Some]
+    ///   IdentError.Invalid)</code>
+    /// - `ensures reserved`: <code>(result ≡ [Err] IdentError.Reserved) ↔ ([ident_fault] [true] ([chars] name.now) ≡ [Some]
+    ///   IdentError.Reserved)</code>
+    ///
+    /// [IfOk]: crate::contracts#std.IfOk
+    /// [chars]: crate::contracts#std.chars
+    /// [true]: crate::contracts#std.true
+    /// [Err]: crate::contracts#std.Err
+    /// [ident_fault]: crate::contracts#pm_token.IdentFault.ident_fault
+    /// [Some]: crate::contracts#std.Some
     #[inline(always)]
     pub fn new_raw(name: &str, span: Span) -> Result<Ident, IdentError>
     {
@@ -73,6 +113,20 @@ impl Ident {
     ///
     /// Of a text that a program writes out, as in `name.eq_str("fn")`, a proof learns by `spelled` that
     /// the identifier is written `fn`: `spelled (codes "fn")` computes to `codes "fn"`.
+    ///
+    /// # Contract
+    ///
+    /// - `ensures exactly`: <code>[IsTrue] result ↔ ([name_text] self.now ≡ [chars] text.now)</code>
+    /// - `ensures value`: <code>result ≡ [pointwise] [nat_eq] ([name_text] self.now) ([chars] text.now)</code>
+    /// - `ensures spelled`: <code>[IsTrue] result ↔ ([name_text] self.now ≡ [spelled] text.now)</code>
+    /// - `ensures computed`: <code>result ≡ [pointwise] [nat_eq] ([name_text] self.now) ([spelled] text.now)</code>
+    ///
+    /// [IsTrue]: crate::contracts#std.IsTrue
+    /// [name_text]: crate::contracts#pm_token.Spelling.name_text
+    /// [chars]: crate::contracts#std.chars
+    /// [pointwise]: crate::contracts#std.pointwise
+    /// [nat_eq]: crate::contracts#std.nat_eq
+    /// [spelled]: crate::contracts#pm_token.Spelling.spelled
     #[inline(always)]
     pub fn eq_str(&self, text: &str) -> bool
 
@@ -102,6 +156,13 @@ impl Ident {
     /// The first byte that the identifier is written with: `a` of `ab`, and `r` of a raw `ab`.
     ///
     /// A caller that looks for one of many words has to compare only those that begin so.
+    ///
+    /// # Contract
+    ///
+    /// - `ensures`: <code>result ≡ [get_or] ([spelling] self.now) 0 0</code>
+    ///
+    /// [get_or]: crate::contracts#std.get_or
+    /// [spelling]: crate::contracts#pm_token.Spelling.spelling
     #[inline(always)]
     pub fn first_byte(&self) -> u8
     {
@@ -129,6 +190,15 @@ impl Ident {
     }
 
     /// Where it stands. Proofs learn by it what every identifier is (`built`).
+    ///
+    /// # Contract
+    ///
+    /// - `ensures value`: <code>result ≡ self.now.span</code>
+    /// - `ensures built`: <code>[IsBuiltToken] ([name_token] self.now)</code>
+    /// - `ensures ordered`: <code>self.now.span.lo ≤ self.now.span.hi</code>
+    ///
+    /// [IsBuiltToken]: crate::contracts#pm_token.Built.IsBuiltToken
+    /// [name_token]: crate::contracts#pm_token.Leaf.name_token
     pub fn span(&self) -> Span
     {
         let Ident { span, .. } = self;
@@ -138,6 +208,10 @@ impl Ident {
     }
 
     /// Sets where it stands.
+    ///
+    /// # Contract
+    ///
+    /// - `ensures`: <code>self.new ≡ record self.old { span = span }</code>
     pub fn set_span(&mut self, span: Span)
     {
         self.span = span;

@@ -37,6 +37,12 @@ impl Literal {
     }
 
     /// The literal as it is written, with its quotes, its suffix and the `-` that may stand before it.
+    ///
+    /// # Contract
+    ///
+    /// - `ensures`: <code>[chars] result.now ≡ self.now.text</code>
+    ///
+    /// [chars]: crate::contracts#std.chars
     #[inline(always)]
     pub fn text(&self) -> &str
     {
@@ -45,6 +51,14 @@ impl Literal {
 
     /// Where it stands. Proofs learn by it what the text of every literal is: a `literal-token` or,
     /// outside of streams, a `negative-literal`.
+    ///
+    /// # Contract
+    ///
+    /// - `ensures value`: <code>result ≡ self.now.span</code>
+    /// - `ensures built`: <code>[IsLiteralText] self.now.text</code>
+    /// - `ensures ordered`: <code>self.now.span.lo ≤ self.now.span.hi</code>
+    ///
+    /// [IsLiteralText]: crate::contracts#pm_token.LiteralText.IsLiteralText
     pub fn span(&self) -> Span
     {
         // It computes nothing: proofs learn that the span is in order.
@@ -53,6 +67,10 @@ impl Literal {
     }
 
     /// Sets where it stands, and changes nothing else.
+    ///
+    /// # Contract
+    ///
+    /// - `ensures`: <code>self.new ≡ record self.old { span = span }</code>
     pub fn set_span(&mut self, span: Span)
     {
         self.span = span;

@@ -30,6 +30,12 @@ impl Punct {
     /// Whether the character is one of the 22 punctuation marks (`marks`).
     ///
     /// `+` and `'` are, and `_`, `(` and `"` are not.
+    ///
+    /// # Contract
+    ///
+    /// - `ensures`: <code>result ≡ [is_mark] c</code>
+    ///
+    /// [is_mark]: crate::contracts#lexical.Mark.is_mark
     pub fn is_punct_char(c: char) -> bool
     {
         crate::lexical::is_mark(c)
@@ -39,6 +45,15 @@ impl Punct {
     ///
     /// The character is one of the 22 `marks`: [`Punct::is_punct_char`] is the test. Of `'+'` it prints
     /// `+`, whatever its spacing.
+    ///
+    /// # Contract
+    ///
+    /// - `requires`: <code>[IsTrue] ([is_mark] mark)</code>
+    /// - `ensures`: <code>result ≡ record { mark = mark; spacing = spacing; span = [nowhere] }</code>
+    ///
+    /// [IsTrue]: crate::contracts#std.IsTrue
+    /// [is_mark]: crate::contracts#lexical.Mark.is_mark
+    /// [nowhere]: crate::contracts#pm_span.Extent.nowhere
     #[inline(always)]
     pub fn new(mark: char, spacing: Spacing) -> Punct
     {
@@ -56,6 +71,10 @@ impl Punct {
     }
 
     /// The mark's character.
+    ///
+    /// # Contract
+    ///
+    /// - `ensures`: <code>result ≡ self.now.mark</code>
     #[inline(always)]
     pub fn as_char(&self) -> char
     {
@@ -63,6 +82,10 @@ impl Punct {
     }
 
     /// Whether it goes together with what follows right after it.
+    ///
+    /// # Contract
+    ///
+    /// - `ensures`: <code>result ≡ self.now.spacing</code>
     #[inline(always)]
     pub fn spacing(&self) -> Spacing
     {
@@ -70,6 +93,15 @@ impl Punct {
     }
 
     /// Where it stands. Proofs learn by it what every mark is (`built`).
+    ///
+    /// # Contract
+    ///
+    /// - `ensures value`: <code>result ≡ self.now.span</code>
+    /// - `ensures built`: <code>[IsBuiltToken] ([mark_token] self.now)</code>
+    /// - `ensures ordered`: <code>self.now.span.lo ≤ self.now.span.hi</code>
+    ///
+    /// [IsBuiltToken]: crate::contracts#pm_token.Built.IsBuiltToken
+    /// [mark_token]: crate::contracts#pm_token.Leaf.mark_token
     pub fn span(&self) -> Span
     {
         // It computes nothing: proofs learn that the span is in order.
@@ -78,6 +110,10 @@ impl Punct {
     }
 
     /// Sets where it stands, and changes nothing else.
+    ///
+    /// # Contract
+    ///
+    /// - `ensures`: <code>self.new ≡ record self.old { span = span }</code>
     pub fn set_span(&mut self, span: Span)
     {
         self.span = span;

@@ -14,12 +14,28 @@ use crate::shim::fmt;
 /// The identifier of this name, which has no `r#` even if it is raw. Fails where memory runs out.
 // Inlined, as it is what most pieces of a text become.
 #[inline(always)]
+/// # Contract
+///
+/// - `requires`: <code>[IsBuiltToken] (tokens.[Name] raw ([chars] name.now))</code>
+/// - `ensures ok`: <code>[IfOk] result (λ ident. ident ≡ record { name = [chars] name.now; raw = raw; span = span
+///   })</code>
+///
+/// [IsBuiltToken]: crate::contracts#pm_token.Built.IsBuiltToken
+/// [Name]: crate::contracts#lexical.Token.Name
+/// [chars]: crate::contracts#std.chars
+/// [IfOk]: crate::contracts#std.IfOk
 pub fn ident(name: &str, raw: bool, span: Span) -> Result<Ident, AllocError>
 {
     Ident::from_parts(name, raw, span)
 }
 
 /// The name of the identifier, without `r#` even if it is raw. It is lent, and nothing is copied.
+///
+/// # Contract
+///
+/// - `ensures`: <code>[chars] result.now ≡ ident.now.name</code>
+///
+/// [chars]: crate::contracts#std.chars
 #[inline(always)]
 pub fn name_of(ident: &Ident) -> &str
 {
@@ -27,6 +43,10 @@ pub fn name_of(ident: &Ident) -> &str
 }
 
 /// Whether the identifier is raw.
+///
+/// # Contract
+///
+/// - `ensures`: <code>result ≡ ident.now.raw</code>
 #[inline(always)]
 pub fn is_raw(ident: &Ident) -> bool
 {
@@ -34,12 +54,30 @@ pub fn is_raw(ident: &Ident) -> bool
 }
 
 /// The mark of this character.
+///
+/// # Contract
+///
+/// - `requires`: <code>[IsTrue] ([is_mark] mark)</code>
+/// - `ensures`: <code>result ≡ record { mark = mark; spacing = spacing; span = span }</code>
+///
+/// [IsTrue]: crate::contracts#std.IsTrue
+/// [is_mark]: crate::contracts#lexical.Mark.is_mark
 pub fn punct(mark: char, spacing: Spacing, span: Span) -> Punct
 {
     Punct::from_parts(mark, spacing, span)
 }
 
 /// The literal of this text, by the rule `literal-token`. Fails where memory runs out.
+///
+/// # Contract
+///
+/// - `requires`: <code>[IsBuiltToken] (tokens.[Literal] ([chars] text.now))</code>
+/// - `ensures ok`: <code>[IfOk] result (λ literal. literal ≡ record { text = [chars] text.now; span = span })</code>
+///
+/// [IsBuiltToken]: crate::contracts#pm_token.Built.IsBuiltToken
+/// [Literal]: crate::contracts#lexical.Token.Literal
+/// [chars]: crate::contracts#std.chars
+/// [IfOk]: crate::contracts#std.IfOk
 pub fn literal(text: &str, span: Span) -> Result<Literal, AllocError>
 {
     Literal::from_parts(text, span)
@@ -47,18 +85,43 @@ pub fn literal(text: &str, span: Span) -> Result<Literal, AllocError>
 
 /// The `-` of a negative literal, Alone, and the rest, both with the literal's span. Of any other
 /// literal there is no mark, and the rest is the literal. It takes no memory.
+///
+/// # Contract
+///
+/// - `ensures`: <code>[MatchOption] result.0 (([has_minus] literal.text ≡ [false]) × (result.1 ≡ literal)) (λ minus.
+///   ([has_minus] literal.text ≡ [true]) × (minus ≡ [minus_of] literal) × (result.1 ≡ [number_of] literal))</code>
+///
+/// [MatchOption]: crate::contracts#std.MatchOption
+/// [has_minus]: crate::contracts#pm_token.Negative.has_minus
+/// [false]: crate::contracts#std.false
+/// [true]: crate::contracts#std.true
+/// [minus_of]: crate::contracts#pm_token.Negative.minus_of
+/// [number_of]: crate::contracts#pm_token.Negative.number_of
 pub fn split_minus(literal: Literal) -> (Option<Punct>, Literal)
 {
     literal.split_minus()
 }
 
 /// The string literal of the text. Fails where memory runs out.
+///
+/// # Contract
+///
+/// - `ensures ok`: <code>[IfOk] result (λ literal. literal ≡ record { text = [string_text] ([chars] text.now); span =
+///   span })</code>
+///
+/// [IfOk]: crate::contracts#std.IfOk
+/// [string_text]: crate::contracts#pm_token.Escaped.string_text
+/// [chars]: crate::contracts#std.chars
 pub fn string_literal(text: &str, span: Span) -> Result<Literal, AllocError>
 {
     Literal::string_at(text, span)
 }
 
 /// The fault that stands at this span.
+///
+/// # Contract
+///
+/// - `ensures`: <code>result ≡ span</code>
 pub fn fault(span: Span) -> LexError
 {
     LexError::at(span)

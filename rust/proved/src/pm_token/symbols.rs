@@ -105,6 +105,13 @@ pub struct Symbol {
 
 impl Symbol {
     /// Keeps a copy of the text. Fails where memory runs out.
+    ///
+    /// # Contract
+    ///
+    /// - `ensures ok`: <code>[IfOk] result (λ symbol. symbol ≡ [chars] text.now)</code>
+    ///
+    /// [IfOk]: crate::contracts#std.IfOk
+    /// [chars]: crate::contracts#std.chars
     #[inline(always)]
     pub fn new(text: &str) -> Result<Symbol, AllocError>
     {
@@ -114,6 +121,16 @@ impl Symbol {
     }
 
     /// Keeps the text. Fails where memory runs out.
+    ///
+    /// # Contract
+    ///
+    /// - `ensures ok`: <code>[IfOk] result (λ symbol. symbol ≡ [chars] ([string_bytes] text))</code>
+    /// - `ensures text`: <code>[IfOk] result [IsText]</code>
+    ///
+    /// [IfOk]: crate::contracts#std.IfOk
+    /// [chars]: crate::contracts#std.chars
+    /// [string_bytes]: crate::contracts#std.string_bytes
+    /// [IsText]: crate::contracts#pm_token.Text.IsText
     pub fn from_string(text: String) -> Result<Symbol, AllocError>
     {
         Ok(Symbol {
@@ -122,6 +139,15 @@ impl Symbol {
     }
 
     /// Both texts, one after the other, if together they are short. It takes no memory.
+    ///
+    /// # Contract
+    ///
+    /// - `ensures value`: <code>[IfSome] result (λ symbol. symbol ≡ [chars] (front.now ++ back.now))</code>
+    /// - `ensures text`: <code>[IfSome] result [IsText]</code>
+    ///
+    /// [IfSome]: crate::contracts#std.IfSome
+    /// [chars]: crate::contracts#std.chars
+    /// [IsText]: crate::contracts#pm_token.Text.IsText
     #[inline(always)]
     pub fn joined(front: &str, back: &str) -> Option<Symbol>
     {
@@ -144,6 +170,15 @@ impl Symbol {
     }
 
     /// Both texts, one after the other. Fails where memory runs out, which texts that are short together don't take.
+    ///
+    /// # Contract
+    ///
+    /// - `ensures ok`: <code>[IfOk] result (λ symbol. symbol ≡ [chars] (front.now ++ back.now))</code>
+    /// - `ensures text`: <code>[IfOk] result [IsText]</code>
+    ///
+    /// [IfOk]: crate::contracts#std.IfOk
+    /// [chars]: crate::contracts#std.chars
+    /// [IsText]: crate::contracts#pm_token.Text.IsText
     #[inline(always)]
     pub fn concat(front: &str, back: &str) -> Result<Symbol, AllocError>
     {
@@ -163,6 +198,14 @@ impl Symbol {
     }
 
     /// Takes away the `-` that the text begins with, and answers whether there was one.
+    ///
+    /// # Contract
+    ///
+    /// - `ensures found`: <code>result ≡ [has_minus] self.old</code>
+    /// - `ensures rest`: <code>self.new ≡ (if result then [drop] 1 self.old else self.old)</code>
+    ///
+    /// [has_minus]: crate::contracts#pm_token.Negative.has_minus
+    /// [drop]: crate::contracts#std.drop
     pub fn strip_minus(&mut self) -> bool
     {
         match &mut self.text {
@@ -174,6 +217,12 @@ impl Symbol {
     }
 
     /// The text.
+    ///
+    /// # Contract
+    ///
+    /// - `ensures`: <code>[chars] result.now ≡ self.now</code>
+    ///
+    /// [chars]: crate::contracts#std.chars
     #[inline(always)]
     pub fn as_str(&self) -> &str
     {

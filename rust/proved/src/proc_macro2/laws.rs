@@ -22,6 +22,20 @@ pub use crate::pm_token::laws::{
 
 /// A source has at most one cover by pieces, and parses to at most one stream. It parses or has a fault,
 /// never both and never neither, and its fault has one position.
+///
+/// # Contract
+///
+/// - `ensures cover`: <code>[OneCover]</code>
+/// - `ensures stream`: <code>[OneStream]</code>
+/// - `ensures outcome`: <code>[ParsesOrFails]</code>
+/// - `ensures apart`: <code>[NeverBoth]</code>
+/// - `ensures fault`: <code>[OneFault]</code>
+///
+/// [OneCover]: crate::contracts#proc_macro2.Laws.OneCover
+/// [OneStream]: crate::contracts#proc_macro2.Laws.OneStream
+/// [ParsesOrFails]: crate::contracts#proc_macro2.Laws.ParsesOrFails
+/// [NeverBoth]: crate::contracts#proc_macro2.Laws.NeverBoth
+/// [OneFault]: crate::contracts#proc_macro2.Laws.OneFault
 pub fn one_cover()
 {}
 
@@ -36,6 +50,24 @@ pub fn one_cover()
 /// or gives other tokens.
 ///
 /// `+` Joint before the identifier `a` doesn't come back: it prints `+a`, which parses to `+` Alone and `a`.
+///
+/// # Contract
+///
+/// - `ensures back`: <code>[ComesBack]</code>
+/// - `ensures parsed`: <code>[ParsedIsWellSpaced]</code>
+/// - `ensures given`: <code>[GivenIsWellSpaced]</code>
+/// - `ensures built`: <code>[ParsedIsBuilt]</code>
+/// - `ensures printed`: <code>[PrintedIsText]</code>
+/// - `ensures exactly`: <code>[WellSpacedIsParsed]</code>
+/// - `ensures text`: <code>[OneText]</code>
+///
+/// [ComesBack]: crate::contracts#proc_macro2.Laws.ComesBack
+/// [ParsedIsWellSpaced]: crate::contracts#proc_macro2.Laws.ParsedIsWellSpaced
+/// [GivenIsWellSpaced]: crate::contracts#proc_macro2.Laws.GivenIsWellSpaced
+/// [ParsedIsBuilt]: crate::contracts#proc_macro2.Laws.ParsedIsBuilt
+/// [PrintedIsText]: crate::contracts#proc_macro2.Laws.PrintedIsText
+/// [WellSpacedIsParsed]: crate::contracts#proc_macro2.Laws.WellSpacedIsParsed
+/// [OneText]: crate::contracts#proc_macro2.Laws.OneText
 pub fn printed_comes_back()
 {}
 
@@ -43,6 +75,12 @@ pub fn printed_comes_back()
 /// unless the second begins with U+FEFF.
 ///
 /// `x // c` and `y` give `x y`.
+///
+/// # Contract
+///
+/// - `ensures`: <code>[JoinedTexts]</code>
+///
+/// [JoinedTexts]: crate::contracts#proc_macro2.Laws.JoinedTexts
 pub fn joined_texts()
 {}
 
@@ -50,6 +88,12 @@ pub fn joined_texts()
 /// the same up to spans.
 ///
 /// `a+=b` broken behind the `a` is `a += b`; broken behind the `+` it would be `a + = b`.
+///
+/// # Contract
+///
+/// - `ensures`: <code>[BrokenLine]</code>
+///
+/// [BrokenLine]: crate::contracts#proc_macro2.Laws.BrokenLine
 pub fn broken_line()
 {}
 
@@ -59,6 +103,14 @@ pub fn broken_line()
 /// the span is that of the run (`gives-back`), in every map that extends the one after the parse.
 ///
 /// In `a (b) // c` the text of the group's span is `(b)`.
+///
+/// # Contract
+///
+/// - `ensures each`: <code>[SpansGiveBack]</code>
+/// - `ensures listed`: <code>[ListedGiveBack]</code>
+///
+/// [SpansGiveBack]: crate::contracts#proc_macro2.GivesBack.SpansGiveBack
+/// [ListedGiveBack]: crate::contracts#proc_macro2.GivesBack.ListedGiveBack
 pub fn spans_give_back()
 {}
 
@@ -67,5 +119,11 @@ pub fn spans_give_back()
 ///
 /// `TokenStream::trees` and `into_iter` promise of each of their trees that it may be put in again. The literal
 /// `-3i32` that `Literal::i32_suffixed` makes is no such tree.
+///
+/// # Contract
+///
+/// - `ensures`: <code>[TreesStandWhole]</code>
+///
+/// [TreesStandWhole]: crate::contracts#proc_macro2.Laws.TreesStandWhole
 pub fn trees_stand_whole()
 {}

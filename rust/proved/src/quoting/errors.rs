@@ -68,6 +68,12 @@ pub enum TemplateError {
 impl TemplateError {
     /// Where the fault stands in the template: its span, or that of the text's fault as [`ParseError::span`] has it.
     /// `None` if the map has no room or memory ran out.
+    ///
+    /// # Contract
+    ///
+    /// - `ensures`: <code>result ≡ [template_span] self.now</code>
+    ///
+    /// [template_span]: crate::contracts#quoting.Message.template_span
     pub fn span(&self) -> Option<Span>
     {
         match self {

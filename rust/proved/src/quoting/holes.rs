@@ -22,6 +22,14 @@ pub(crate) enum Filling<'a> {
 
 impl<'a> Hole<'a> {
     /// The hole `#name`, which stands for this stream. The name is the text of an identifier, or ASCII digits.
+    ///
+    /// # Contract
+    ///
+    /// - `ensures`: <code>[named] result ≡ record { name = [chars] name.now; filling = [OneStream] stream.now }</code>
+    ///
+    /// [named]: crate::contracts#quoting.Given.named
+    /// [chars]: crate::contracts#std.chars
+    /// [OneStream]: crate::contracts#quoting.Holes.One
     pub fn one(name: &'a str, stream: &'a TokenStream) -> Hole<'a>
     {
         Hole {
@@ -31,6 +39,14 @@ impl<'a> Hole<'a> {
     }
 
     /// The hole `#name`, which stands for the next of these streams in each turn of a repetition.
+    ///
+    /// # Contract
+    ///
+    /// - `ensures`: <code>[named] result ≡ record { name = [chars] name.now; filling = [EachStream] streams.now }</code>
+    ///
+    /// [named]: crate::contracts#quoting.Given.named
+    /// [chars]: crate::contracts#std.chars
+    /// [EachStream]: crate::contracts#quoting.Holes.Each
     pub fn each(name: &'a str, streams: &'a [TokenStream]) -> Hole<'a>
     {
         Hole {

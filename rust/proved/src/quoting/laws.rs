@@ -6,5 +6,19 @@
 /// keeps it, and so a well spaced stream comes out unchanged.
 ///
 /// So a stream has a fault exactly where no choice of spacings is well spaced.
+///
+/// # Contract
+///
+/// - `ensures spaced`: <code>[WellSpacedWithoutFault]</code>
+/// - `ensures hopeless`: <code>[AFaultIsHopeless]</code>
+/// - `ensures spacing`: <code>[OnlySpacing]</code>
+/// - `ensures keeps`: <code>[KeepsWhatItMay]</code>
+/// - `ensures unchanged`: <code>[NothingToDo]</code>
+///
+/// [WellSpacedWithoutFault]: crate::contracts#quoting.Laws.WellSpacedWithoutFault
+/// [AFaultIsHopeless]: crate::contracts#quoting.Laws.AFaultIsHopeless
+/// [OnlySpacing]: crate::contracts#quoting.Laws.OnlySpacing
+/// [KeepsWhatItMay]: crate::contracts#quoting.Laws.KeepsWhatItMay
+/// [NothingToDo]: crate::contracts#quoting.Laws.NothingToDo
 pub fn respacing()
 {}

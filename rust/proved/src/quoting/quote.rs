@@ -17,6 +17,12 @@ pub struct Quote {
 
 impl Quote {
     /// A quote to which nothing was pushed. It takes no memory.
+    ///
+    /// # Contract
+    ///
+    /// - `ensures`: <code>result ≡ [nil]</code>
+    ///
+    /// [nil]: crate::contracts#pm_stream.Forest.nil
     pub fn new() -> Quote
     {
         Quote {
@@ -28,12 +34,31 @@ impl Quote {
     /// the tree is dropped.
     ///
     /// The literal `-3i32` is put in as two trees, the mark `-` Alone and the literal `3i32`.
+    ///
+    /// # Contract
+    ///
+    /// - `ensures ok`: <code>[OnOk] result (self.new ≡ [joined] self.old ([split] tree))</code>
+    /// - `ensures err`: <code>[OnErr] result (self.new ≡ self.old)</code>
+    ///
+    /// [OnOk]: crate::contracts#std.OnOk
+    /// [joined]: crate::contracts#pm_stream.Forest.joined
+    /// [split]: crate::contracts#pm_stream.Building.split
+    /// [OnErr]: crate::contracts#std.OnErr
     pub fn push(&mut self, tree: TokenTree) -> Result<(), AllocError>
     {
         self.pushed.extend_trees([tree])
     }
 
     /// Puts the trees of the stream after the others. Fails where memory runs out; then nothing is changed.
+    ///
+    /// # Contract
+    ///
+    /// - `ensures ok`: <code>[OnOk] result (self.new ≡ [joined] self.old stream)</code>
+    /// - `ensures err`: <code>[OnErr] result (self.new ≡ self.old)</code>
+    ///
+    /// [OnOk]: crate::contracts#std.OnOk
+    /// [joined]: crate::contracts#pm_stream.Forest.joined
+    /// [OnErr]: crate::contracts#std.OnErr
     pub fn push_stream(&mut self, stream: TokenStream) -> Result<(), AllocError>
     {
         self.pushed.extend_streams([stream])
@@ -48,6 +73,26 @@ impl Quote {
     /// no list of trees is copied that needs no change.
     ///
     /// Of `+` Joint and the identifier `a`, which would print `+a` and come back as `+` Alone, it is `+` Alone and `a`.
+    ///
+    /// # Contract
+    ///
+    /// - `ensures ok`: <code>[IfOk] result (λ stream. (stream ≡ [respaced] self.now) × ([first_fault] self.now ≡
+    ///   [None]))</code>
+    /// - `ensures spaced`: <code>[IfOk] result [IsWellSpaced]</code>
+    /// - `ensures keeps`: <code>[IfOk] result ([KeepsAllItMay] self.now)</code>
+    /// - `ensures unchanged`: <code>[IfOk] result (λ stream. [IsWellSpaced] self.now → stream ≡ self.now)</code>
+    /// - `ensures fault`: <code>[IfErr] result ([IsFaultOf] self.now)</code>
+    /// - `ensures hopeless`: <code>[IfErr] result ([HopelessIfNamed] self.now)</code>
+    ///
+    /// [IfOk]: crate::contracts#std.IfOk
+    /// [respaced]: crate::contracts#quoting.Respaced.respaced
+    /// [first_fault]: crate::contracts#quoting.Fault.first_fault
+    /// [None]: crate::contracts#std.None
+    /// [IsWellSpaced]: crate::contracts#pm_stream.WellSpaced.IsWellSpaced
+    /// [KeepsAllItMay]: crate::contracts#quoting.Choice.KeepsAllItMay
+    /// [IfErr]: crate::contracts#std.IfErr
+    /// [IsFaultOf]: crate::contracts#quoting.Fault.IsFaultOf
+    /// [HopelessIfNamed]: crate::contracts#quoting.Choice.HopelessIfNamed
     pub fn finish(&self) -> Result<TokenStream, QuoteError>
 
         // A mark keeps its spacing wherever it may, and so what was well spaced comes out unchanged.

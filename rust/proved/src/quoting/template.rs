@@ -24,6 +24,25 @@ impl Quote {
     ///
     /// With the lists `x` of `a` and `y` of `b`, `#( #x: #y ),*` is `a : b`. Without `y` it has the fault `NoHole` at
     /// `y`, and with neither `NoList` at the parentheses.
+    ///
+    /// # Contract
+    ///
+    /// - `ensures ok`: <code>[OnOk] result ((stream : [Forest]) × ([filled] ([named_all] holes.now) template.now ≡ [Ok]
+    ///   stream) × (self.new ≡ [joined] self.old stream))</code>
+    /// - `ensures fault`: <code>[IfErr] result (λ fault. [UnlessMemory] fault ([filled] ([named_all] holes.now)
+    ///   template.now ≡ [Err] fault))</code>
+    /// - `ensures kept`: <code>[OnErr] result (self.new ≡ self.old)</code>
+    ///
+    /// [OnOk]: crate::contracts#std.OnOk
+    /// [Forest]: crate::contracts#pm_stream.Forest.Forest
+    /// [filled]: crate::contracts#quoting.Filled.filled
+    /// [named_all]: crate::contracts#quoting.Given.named_all
+    /// [Ok]: crate::contracts#std.Ok
+    /// [joined]: crate::contracts#pm_stream.Forest.joined
+    /// [IfErr]: crate::contracts#std.IfErr
+    /// [UnlessMemory]: crate::contracts#quoting.Given.UnlessMemory
+    /// [Err]: crate::contracts#std.Err
+    /// [OnErr]: crate::contracts#std.OnErr
     pub fn fill(&mut self, template: &TokenStream, holes: &[Hole<'_>]) -> Result<(), TemplateError>
     {
         let stream = filled(template, holes, None, DEPTH_LIMIT)?;
@@ -40,6 +59,35 @@ impl Quote {
     /// `Memory` of filling among them, the text is its next file.
     ///
     /// With `x` for `name`, `fn #name() {}` is `fn x() {}`.
+    ///
+    /// # Contract
+    ///
+    /// - `ensures ok`: <code>[OnOk] result ((trees : [Forest]) × (stream : [Forest]) × [ParsesTo] ([next_lo] map.old)
+    ///   ([chars] template.now) trees × ([filled] ([named_all] holes.now) trees ≡ [Ok] stream) × (self.new ≡ [joined]
+    ///   self.old stream))</code>
+    /// - `ensures fault`: <code>[IfErr] result ([IsTextFault] ([next_lo] map.old) ([chars] template.now) ([named_all]
+    ///   holes.now))</code>
+    /// - `ensures map_full`: <code>(result ≡ [Err] (TemplateError.Parse ParseError.MapFull)) ↔ ([Fits] map.old ([length]
+    ///   ([chars] template.now)) → ⊥)</code>
+    /// - `ensures map`: <code>[LeavesMap] map.old ([chars] template.now) map.new result</code>
+    /// - `ensures kept`: <code>[OnErr] result (self.new ≡ self.old)</code>
+    ///
+    /// [OnOk]: crate::contracts#std.OnOk
+    /// [Forest]: crate::contracts#pm_stream.Forest.Forest
+    /// [ParsesTo]: crate::contracts#pm_stream.Parsing.ParsesTo
+    /// [next_lo]: crate::contracts#pm_span.Files.next_lo
+    /// [chars]: crate::contracts#std.chars
+    /// [filled]: crate::contracts#quoting.Filled.filled
+    /// [named_all]: crate::contracts#quoting.Given.named_all
+    /// [Ok]: crate::contracts#std.Ok
+    /// [joined]: crate::contracts#pm_stream.Forest.joined
+    /// [IfErr]: crate::contracts#std.IfErr
+    /// [IsTextFault]: crate::contracts#quoting.TextFault.IsTextFault
+    /// [Err]: crate::contracts#std.Err
+    /// [Fits]: crate::contracts#pm_span.Files.Fits
+    /// [length]: crate::contracts#std.length
+    /// [LeavesMap]: crate::contracts#quoting.TextFault.LeavesMap
+    /// [OnErr]: crate::contracts#std.OnErr
     pub fn parse(
         &mut self,
         template: &str,

@@ -21,6 +21,19 @@ use crate::shim::alloc::AllocError;
 /// proportional to the length of the text.
 ///
 /// Of `#[doc = " a"]`, LF and `fn f() {}` it is `/// a`, LF and `fn f() {}`.
+///
+/// # Contract
+///
+/// - `ensures ok`: <code>[IfOk] result (λ out. [IsCommented] ([chars] text.now) ([chars] ([string_bytes] out)))</code>
+/// - `ensures no_piece`: <code>[IfErr] result ([IfNoPiece] ([HasNoCover] ([chars] text.now)))</code>
+///
+/// [IfOk]: crate::contracts#std.IfOk
+/// [IsCommented]: crate::contracts#relayout.Comments.IsCommented
+/// [chars]: crate::contracts#std.chars
+/// [string_bytes]: crate::contracts#std.string_bytes
+/// [IfErr]: crate::contracts#std.IfErr
+/// [IfNoPiece]: crate::contracts#relayout.Relaid.IfNoPiece
+/// [HasNoCover]: crate::contracts#relayout.Relaid.HasNoCover
 pub fn with_doc_comments(text: &str) -> Result<String, RelayoutError>
 {
     let mut out = TextBuilder::with_room(text.len())?;

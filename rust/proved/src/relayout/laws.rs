@@ -7,10 +7,22 @@
 /// the white space after it.
 ///
 /// `a  +b // c` and LF may become `a`, LF, `+b`, tab, `// c` and two LFs.
+///
+/// # Contract
+///
+/// - `ensures`: <code>[PiecesStay]</code>
+///
+/// [PiecesStay]: crate::contracts#relayout.Laws.PiecesStay
 pub fn pieces_stay()
 {}
 
 /// Texts with the same pieces but for white characters parse to the same tokens up to spans.
+///
+/// # Contract
+///
+/// - `ensures`: <code>[TokensStay]</code>
+///
+/// [TokensStay]: crate::contracts#relayout.Laws.TokensStay
 pub fn tokens_stay()
 {}
 
@@ -19,5 +31,11 @@ pub fn tokens_stay()
 /// (`doc-line`): one without LF and CR, and after `///` one that doesn't begin with a slash.
 ///
 /// `#[doc = " a"]` and LF may become `/// a` and LF, and `# ![doc = "/b"]` and LF `//!/b` and LF.
+///
+/// # Contract
+///
+/// - `ensures`: <code>[CommentsStay]</code>
+///
+/// [CommentsStay]: crate::contracts#relayout.Commented.CommentsStay
 pub fn comments_stay()
 {}

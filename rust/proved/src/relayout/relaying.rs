@@ -19,6 +19,20 @@ use crate::shim::alloc::AllocError;
 /// proportional to the length of the text and of what is written.
 ///
 /// Of `a  +\n// b\n c` with `Space`, `Lines` with 4 spaces and `Space` it is `a +\n    // b\nc`.
+///
+/// # Contract
+///
+/// - `ensures ok`: <code>[IfOk] result (λ out. [IsRelaid] choices.now ([chars] text.now) ([chars] ([string_bytes]
+///   out)))</code>
+/// - `ensures no_piece`: <code>[IfErr] result ([IfNoPiece] ([HasNoCover] ([chars] text.now)))</code>
+///
+/// [IfOk]: crate::contracts#std.IfOk
+/// [IsRelaid]: crate::contracts#relayout.Relaid.IsRelaid
+/// [chars]: crate::contracts#std.chars
+/// [string_bytes]: crate::contracts#std.string_bytes
+/// [IfErr]: crate::contracts#std.IfErr
+/// [IfNoPiece]: crate::contracts#relayout.Relaid.IfNoPiece
+/// [HasNoCover]: crate::contracts#relayout.Relaid.HasNoCover
 pub fn relayout(text: &str, choices: &[White]) -> Result<String, RelayoutError>
 {
     let mut out = TextBuilder::with_room(text.len())?;

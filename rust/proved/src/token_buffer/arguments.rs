@@ -10,6 +10,17 @@ impl<'a> Cursor<'a> {
     /// time in proportion to how many trees it passes.
     ///
     /// Of `<Vec<T>, fn() -> T> (x)` it is `(x)`. Of `< (x)` there is none.
+    ///
+    /// # Contract
+    ///
+    /// - `ensures`: <code>[MatchOption] result ([after_arguments] ([left] self.entry) ≡ [None]) (λ rest. [after_arguments]
+    ///   ([left] self.entry) ≡ [Some] ([left] rest))</code>
+    ///
+    /// [MatchOption]: crate::contracts#std.MatchOption
+    /// [after_arguments]: crate::contracts#token_buffer.Arguments.after_arguments
+    /// [left]: crate::contracts#token_buffer.Reads.left
+    /// [None]: crate::contracts#std.None
+    /// [Some]: crate::contracts#std.Some
     pub fn generic_arguments(self) -> Option<Cursor<'a>>
     {
         let Some(('<', _, inside)) = self.punct() else {
@@ -38,6 +49,17 @@ impl<'a> Cursor<'a> {
     /// one does.
     ///
     /// Of `::<T>(x)` it is `(x)`. Of `::f` there is none.
+    ///
+    /// # Contract
+    ///
+    /// - `ensures`: <code>[MatchOption] result ([after_turbofish] ([left] self.entry) ≡ [None]) (λ rest. [after_turbofish]
+    ///   ([left] self.entry) ≡ [Some] ([left] rest))</code>
+    ///
+    /// [MatchOption]: crate::contracts#std.MatchOption
+    /// [after_turbofish]: crate::contracts#token_buffer.Arguments.after_turbofish
+    /// [left]: crate::contracts#token_buffer.Reads.left
+    /// [None]: crate::contracts#std.None
+    /// [Some]: crate::contracts#std.Some
     pub fn turbofish(self) -> Option<Cursor<'a>>
     {
         let Some((':', Spacing::Joint, colon)) = self.punct() else {

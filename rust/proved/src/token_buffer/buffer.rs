@@ -27,6 +27,39 @@ impl<'a> TokenBuffer<'a> {
     /// (`fits`).
     ///
     /// `a += (b)` has the identifier `a`, the marks `+` and `=`, and the group of `b`.
+    ///
+    /// # Contract
+    ///
+    /// - `ensures ok`: <code>[IfOk] result (λ buffer. [ParsesTo] ([next_lo] [new_map]) ([chars] text.now) buffer)</code>
+    /// - `ensures apart`: <code>[IfOk] result (λ \_. [HasNoFault] ([next_lo] [new_map]) ([chars] text.now))</code>
+    /// - `ensures lex`: <code>[IfErr] result (λ error. [IfParse] error (λ parse. [IfLex] parse (λ fault. (fault.lo ≡
+    ///   fault.hi) × [FaultAt] ([next_lo] [new_map]) ([chars] text.now) fault.lo)))</code>
+    /// - `ensures only`: <code>[IfErr] result (λ error. [IfParse] error (λ parse. [IfLex] parse (λ fault. [IsOnlyFault]
+    ///   ([next_lo] [new_map]) ([chars] text.now) fault.lo)))</code>
+    /// - `ensures map_full`: <code>(result ≡ [Err] (BufferError.Parse ParseError.MapFull)) ↔ (([length] text.now &lt; 2 ^ 32)
+    ///   × ([Fits] [new_map] ([length] ([chars] text.now)) → ⊥))</code>
+    /// - `ensures few`: <code>[IfOk] result (λ buffer. ([length] text.now &lt; 2 ^ 32) × ([length] ([flattening] buffer)
+    ///   &lt; 2 ^ 32))</code>
+    /// - `ensures many`: <code>[IfErr] result (λ error. [IfTooLong] error ((2 ^ 32 ≤ [length] text.now) ⊎ [HasManyTokens]
+    ///   ([next_lo] [new_map]) ([chars] text.now)))</code>
+    ///
+    /// [IfOk]: crate::contracts#std.IfOk
+    /// [ParsesTo]: crate::contracts#pm_stream.Parsing.ParsesTo
+    /// [next_lo]: crate::contracts#pm_span.Files.next_lo
+    /// [new_map]: crate::contracts#pm_span.Files.new_map
+    /// [chars]: crate::contracts#std.chars
+    /// [HasNoFault]: crate::contracts#pm_stream.Parsing.HasNoFault
+    /// [IfErr]: crate::contracts#std.IfErr
+    /// [IfParse]: crate::contracts#token_buffer.Refused.IfParse
+    /// [IfLex]: crate::contracts#pm_token.Outcome.IfLex
+    /// [FaultAt]: crate::contracts#pm_stream.Parsing.FaultAt
+    /// [IsOnlyFault]: crate::contracts#pm_stream.Parsing.IsOnlyFault
+    /// [Err]: crate::contracts#std.Err
+    /// [length]: crate::contracts#std.length
+    /// [Fits]: crate::contracts#pm_span.Files.Fits
+    /// [flattening]: crate::contracts#pm_stream.Forest.flattening
+    /// [IfTooLong]: crate::contracts#token_buffer.Refused.IfTooLong
+    /// [HasManyTokens]: crate::contracts#token_buffer.Many.HasManyTokens
     pub fn new(text: &'a str) -> Result<TokenBuffer<'a>, BufferError>
     {
         if text.len() > u32::MAX as usize {
@@ -39,6 +72,12 @@ impl<'a> TokenBuffer<'a> {
     }
 
     /// A cursor over all its trees.
+    ///
+    /// # Contract
+    ///
+    /// - `ensures`: <code>[left] result ≡ self.now</code>
+    ///
+    /// [left]: crate::contracts#token_buffer.Reads.left
     pub fn begin(&self) -> Cursor<'_>
     {
         Cursor::over(self.text, self.entries.as_slice())

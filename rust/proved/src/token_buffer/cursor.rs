@@ -55,6 +55,13 @@ impl<'a> Cursor<'a> {
     }
 
     /// Whether no tree is left.
+    ///
+    /// # Contract
+    ///
+    /// - `ensures`: <code>result ≡ [is_nil] ([left] self.entry)</code>
+    ///
+    /// [is_nil]: crate::contracts#pm_stream.Size.is_nil
+    /// [left]: crate::contracts#token_buffer.Reads.left
     pub fn eof(self) -> bool
     {
         self.entries.is_empty()
@@ -63,6 +70,16 @@ impl<'a> Cursor<'a> {
     /// The first tree and those after it. None at the end.
     ///
     /// Of `a (b)` it is the identifier `a`, and what is left is the group.
+    ///
+    /// # Contract
+    ///
+    /// - `ensures`: <code>[MatchOption] result ([left] self.entry ≡ [nil]) (λ found. [Begins] found.0 self.entry
+    ///   found.1)</code>
+    ///
+    /// [MatchOption]: crate::contracts#std.MatchOption
+    /// [left]: crate::contracts#token_buffer.Reads.left
+    /// [nil]: crate::contracts#pm_stream.Forest.nil
+    /// [Begins]: crate::contracts#token_buffer.Reads.Begins
     #[inline(always)]
     pub fn next(self) -> Option<(TokenText<'a>, Cursor<'a>)>
     {
@@ -144,6 +161,17 @@ impl<'a> Cursor<'a> {
     }
 
     /// The trees after the first one, which may be a group. None at the end.
+    ///
+    /// # Contract
+    ///
+    /// - `ensures none`: <code>[IfNone] result ([left] self.entry ≡ [nil])</code>
+    /// - `ensures some`: <code>[IfSome] result (λ rest. (first : TokenText) × [Begins] first self.entry rest)</code>
+    ///
+    /// [IfNone]: crate::contracts#std.IfNone
+    /// [left]: crate::contracts#token_buffer.Reads.left
+    /// [nil]: crate::contracts#pm_stream.Forest.nil
+    /// [IfSome]: crate::contracts#std.IfSome
+    /// [Begins]: crate::contracts#token_buffer.Reads.Begins
     pub fn skip(self) -> Option<Cursor<'a>>
     {
         let (_, rest) = self.next()?;
@@ -154,6 +182,13 @@ impl<'a> Cursor<'a> {
     ///
     /// It takes time proportional to the length of its text where that is an identifier or a literal. Of a text `(b)`
     /// it is 1..4.
+    ///
+    /// # Contract
+    ///
+    /// - `ensures`: <code>result ≡ [first_extent] ([left] self.entry)</code>
+    ///
+    /// [first_extent]: crate::contracts#token_buffer.Reads.first_extent
+    /// [left]: crate::contracts#token_buffer.Reads.left
     pub fn span(self) -> Option<Span>
     {
         let text = self.text;
@@ -208,6 +243,19 @@ impl<'a> Cursor<'a> {
     }
 
     /// The identifier that comes first, if one does, and the trees after it.
+    ///
+    /// # Contract
+    ///
+    /// - `ensures`: <code>[MatchOption] result ([name_first] ([left] self.entry) ≡ [false]) (λ found. [BeginsWith]
+    ///   (tokens.[Name] found.0.raw ([chars] found.0.text.now)) self.entry found.1)</code>
+    ///
+    /// [MatchOption]: crate::contracts#std.MatchOption
+    /// [name_first]: crate::contracts#token_buffer.Reads.name_first
+    /// [left]: crate::contracts#token_buffer.Reads.left
+    /// [false]: crate::contracts#std.false
+    /// [BeginsWith]: crate::contracts#token_buffer.Reads.BeginsWith
+    /// [Name]: crate::contracts#lexical.Token.Name
+    /// [chars]: crate::contracts#std.chars
     pub fn ident(self) -> Option<(Name<'a>, Cursor<'a>)>
     {
         match self.next() {
@@ -217,6 +265,19 @@ impl<'a> Cursor<'a> {
     }
 
     /// The mark that comes first, if one does, with its spacing, and the trees after it.
+    ///
+    /// # Contract
+    ///
+    /// - `ensures`: <code>[MatchOption] result ([mark_first] ([left] self.entry) ≡ [false]) (λ found. [BeginsWith]
+    ///   (tokens.[Mark] found.0 ([is_joint] found.1)) self.entry found.2)</code>
+    ///
+    /// [MatchOption]: crate::contracts#std.MatchOption
+    /// [mark_first]: crate::contracts#token_buffer.Reads.mark_first
+    /// [left]: crate::contracts#token_buffer.Reads.left
+    /// [false]: crate::contracts#std.false
+    /// [BeginsWith]: crate::contracts#token_buffer.Reads.BeginsWith
+    /// [Mark]: crate::contracts#lexical.Token.Mark
+    /// [is_joint]: crate::contracts#pm_token.Leaf.is_joint
     pub fn punct(self) -> Option<(char, Spacing, Cursor<'a>)>
     {
         match self.next() {
@@ -226,6 +287,19 @@ impl<'a> Cursor<'a> {
     }
 
     /// The literal that comes first, if one does, and the trees after it.
+    ///
+    /// # Contract
+    ///
+    /// - `ensures`: <code>[MatchOption] result ([literal_first] ([left] self.entry) ≡ [false]) (λ found. [BeginsWith]
+    ///   (tokens.[Literal] ([literal_text] found.0)) self.entry found.1)</code>
+    ///
+    /// [MatchOption]: crate::contracts#std.MatchOption
+    /// [literal_first]: crate::contracts#token_buffer.Reads.literal_first
+    /// [left]: crate::contracts#token_buffer.Reads.left
+    /// [false]: crate::contracts#std.false
+    /// [BeginsWith]: crate::contracts#token_buffer.Reads.BeginsWith
+    /// [Literal]: crate::contracts#lexical.Token.Literal
+    /// [literal_text]: crate::contracts#token_buffer.Reads.literal_text
     pub fn literal(self) -> Option<(LiteralText<'a>, Cursor<'a>)>
     {
         match self.next() {
@@ -236,6 +310,22 @@ impl<'a> Cursor<'a> {
 
     /// The name of the lifetime that comes first, if one does, and the trees after it: of `'a` the mark `'`, Joint,
     /// and the identifier `a`.
+    ///
+    /// # Contract
+    ///
+    /// - `ensures`: <code>[MatchOption] result ([lifetime_first] ([left] self.entry) ≡ [false]) (λ found. (name : Cursor) ×
+    ///   [BeginsWith] (tokens.[Mark] 39 [true]) self.entry name × [BeginsWith] (tokens.[Name] found.0.raw ([chars]
+    ///   found.0.text.now)) name found.1)</code>
+    ///
+    /// [MatchOption]: crate::contracts#std.MatchOption
+    /// [lifetime_first]: crate::contracts#token_buffer.Reads.lifetime_first
+    /// [left]: crate::contracts#token_buffer.Reads.left
+    /// [false]: crate::contracts#std.false
+    /// [BeginsWith]: crate::contracts#token_buffer.Reads.BeginsWith
+    /// [Mark]: crate::contracts#lexical.Token.Mark
+    /// [true]: crate::contracts#std.true
+    /// [Name]: crate::contracts#lexical.Token.Name
+    /// [chars]: crate::contracts#std.chars
     pub fn lifetime(self) -> Option<(Name<'a>, Cursor<'a>)>
     {
         match self.punct() {
@@ -245,6 +335,17 @@ impl<'a> Cursor<'a> {
     }
 
     /// The trees in the group that comes first, if one does that is delimited so, and the trees after it.
+    ///
+    /// # Contract
+    ///
+    /// - `ensures`: <code>[MatchOption] result ([group_first] ([left] self.entry) ≢ [Some] delimiter) (λ found.
+    ///   [BeginsWithGroup] delimiter self.entry found.0 found.1)</code>
+    ///
+    /// [MatchOption]: crate::contracts#std.MatchOption
+    /// [group_first]: crate::contracts#token_buffer.Reads.group_first
+    /// [left]: crate::contracts#token_buffer.Reads.left
+    /// [Some]: crate::contracts#std.Some
+    /// [BeginsWithGroup]: crate::contracts#token_buffer.Reads.BeginsWithGroup
     pub fn group(self, delimiter: Delimiter) -> Option<(Cursor<'a>, Cursor<'a>)>
     {
         match self.any_group() {
@@ -254,6 +355,17 @@ impl<'a> Cursor<'a> {
     }
 
     /// The delimiter and the trees of the group that comes first, if one does, and the trees after it.
+    ///
+    /// # Contract
+    ///
+    /// - `ensures`: <code>[MatchOption] result ([group_first] ([left] self.entry) ≡ [None]) (λ found. [BeginsWithGroup]
+    ///   found.0 self.entry found.1 found.2)</code>
+    ///
+    /// [MatchOption]: crate::contracts#std.MatchOption
+    /// [group_first]: crate::contracts#token_buffer.Reads.group_first
+    /// [left]: crate::contracts#token_buffer.Reads.left
+    /// [None]: crate::contracts#std.None
+    /// [BeginsWithGroup]: crate::contracts#token_buffer.Reads.BeginsWithGroup
     pub fn any_group(self) -> Option<(Delimiter, Cursor<'a>, Cursor<'a>)>
     {
         match self.next() {

@@ -18,6 +18,12 @@ pub enum BufferError {
 
 impl BufferError {
     /// Where the fault of the text stands, as [`ParseError::span`] has it; `None` if the text has no fault.
+    ///
+    /// # Contract
+    ///
+    /// - `ensures`: <code>result ≡ [fault_span] self.now</code>
+    ///
+    /// [fault_span]: crate::contracts#token_buffer.Message.fault_span
     pub fn span(&self) -> Option<Span>
     {
         match self {

@@ -31,6 +31,13 @@ pub struct OpenGroup {
 
 impl Filling {
     /// Nothing was put in. There is room for most texts of so many bytes.
+    ///
+    /// # Contract
+    ///
+    /// - `ensures groups`: <code>[IfOk] result (λ new. new.groups.items ≡ \[\])</code>
+    /// - `ensures entries`: <code>[IfOk] result (λ new. new.entries.items ≡ \[\])</code>
+    ///
+    /// [IfOk]: crate::contracts#std.IfOk
     pub fn with_room(bytes: usize) -> Result<Filling, AllocError>
     {
         Ok(Filling {
@@ -42,6 +49,43 @@ impl Filling {
 
     /// Takes a piece that stands at the byte offset `lo` and the position `at`. A closer that doesn't close the
     /// innermost open group is a fault.
+    ///
+    /// # Contract
+    ///
+    /// - `requires filled`: <code>[IsFilling] self.old</code>
+    /// - `requires stands`: <code>(first : [Bool]) × (source : [List] ℕ) × [IsPieceAt] first source piece</code>
+    /// - `requires bytes`: <code>lo + piece.bytes &lt; 2 ^ 32</code>
+    /// - `requires room`: <code>at + piece.chars &lt; 2 ^ 32</code>
+    /// - `ensures ok`: <code>[OnOk] result ((first : [Bool]) (text passed source : [List] ℕ) → [IsUtf8] text → [chars] text
+    ///   ≡ passed ++ source → lo ≡ [length] ([encode_utf8_all] passed) → (found : [IsPieceAt] first source piece.entry) →
+    ///   [FillsEvents] text self.old self.new ([events_onto] at ([kind_of] piece.entry.kind found.front) found.front
+    ///   \[\]))</code>
+    /// - `ensures stray`: <code>[IfErr] result (λ error. [IfParse] error (λ parse. (text : [List] ℕ) (groups : [List]
+    ///   [Opened]) (trees : [Forest]) → [Fills] text self.old groups trees → [IsFaultFor] at ([IsStray] piece.entry.kind
+    ///   groups) parse))</code>
+    /// - `ensures many`: <code>[IfErr] result (λ error. [IfTooLong] error (2 ^ 32 ≤ [length]
+    ///   self.old.entries.items))</code>
+    ///
+    /// [IsFilling]: crate::contracts#token_buffer.Filled.IsFilling
+    /// [Bool]: crate::contracts#std.Bool
+    /// [List]: crate::contracts#std.List
+    /// [IsPieceAt]: crate::contracts#lexical.Found.IsPieceAt
+    /// [OnOk]: crate::contracts#std.OnOk
+    /// [IsUtf8]: crate::contracts#std.IsUtf8
+    /// [chars]: crate::contracts#std.chars
+    /// [length]: crate::contracts#std.length
+    /// [encode_utf8_all]: crate::contracts#std.encode_utf8_all
+    /// [FillsEvents]: crate::contracts#token_buffer.Filled.FillsEvents
+    /// [events_onto]: crate::contracts#pm_stream.Events.events_onto
+    /// [kind_of]: crate::contracts#lexical.Found.kind_of
+    /// [IfErr]: crate::contracts#std.IfErr
+    /// [IfParse]: crate::contracts#token_buffer.Refused.IfParse
+    /// [Opened]: crate::contracts#pm_stream.OpenGroups.Opened
+    /// [Forest]: crate::contracts#pm_stream.Forest.Forest
+    /// [Fills]: crate::contracts#token_buffer.Filled.Fills
+    /// [IsFaultFor]: crate::contracts#pm_stream.Fault.IsFaultFor
+    /// [IsStray]: crate::contracts#pm_stream.Fault.IsStray
+    /// [IfTooLong]: crate::contracts#token_buffer.Refused.IfTooLong
     #[inline(always)]
     pub fn take(&mut self, piece: Piece, lo: u32, at: u32) -> Result<(), BufferError>
     {
@@ -160,6 +204,33 @@ impl Filling {
     }
 
     /// What was put in, where nothing is left of the text and no group is open.
+    ///
+    /// # Contract
+    ///
+    /// - `ensures ok`: <code>[IfOk] result (λ entries. ([chars] rest.now ≡ \[\]) × ((text : [List] ℕ) (groups : [List]
+    ///   [Opened]) (trees : [Forest]) → [Fills] text self groups trees → (groups ≡ \[\]) × [Holds] text entries.items
+    ///   trees))</code>
+    /// - `ensures few`: <code>[IfOk] result (λ entries. [length] entries.items &lt; 2 ^ 32)</code>
+    /// - `ensures many`: <code>[IfErr] result (λ error. [IfTooLong] error (2 ^ 32 ≤ [length] self.entries.items))</code>
+    /// - `ensures stuck`: <code>[chars] rest.now ≢ \[\] → [IfErr] result (λ error. [IfParse] error ([IsFaultFor] at (Unit
+    ///   {0})))</code>
+    /// - `ensures stays_open`: <code>[chars] rest.now ≡ \[\] → [IfErr] result (λ error. [IfParse] error (λ parse. (text :
+    ///   [List] ℕ) (groups : [List] [Opened]) (trees : [Forest]) → [Fills] text self groups trees → [IsOpenFault] groups
+    ///   parse))</code>
+    ///
+    /// [IfOk]: crate::contracts#std.IfOk
+    /// [chars]: crate::contracts#std.chars
+    /// [List]: crate::contracts#std.List
+    /// [Opened]: crate::contracts#pm_stream.OpenGroups.Opened
+    /// [Forest]: crate::contracts#pm_stream.Forest.Forest
+    /// [Fills]: crate::contracts#token_buffer.Filled.Fills
+    /// [Holds]: crate::contracts#token_buffer.Held.Holds
+    /// [length]: crate::contracts#std.length
+    /// [IfErr]: crate::contracts#std.IfErr
+    /// [IfTooLong]: crate::contracts#token_buffer.Refused.IfTooLong
+    /// [IfParse]: crate::contracts#token_buffer.Refused.IfParse
+    /// [IsFaultFor]: crate::contracts#pm_stream.Fault.IsFaultFor
+    /// [IsOpenFault]: crate::contracts#pm_stream.Fault.IsOpenFault
     pub fn end(self, rest: &str, at: u32) -> Result<Vec<Entry>, BufferError>
     {
         if !rest.is_empty() {

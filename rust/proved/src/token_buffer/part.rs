@@ -21,6 +21,16 @@ pub enum Part<'a> {
 }
 
 /// What an entry says of its text.
+///
+/// # Contract
+///
+/// - `requires`: <code>[IsWithin] text.now entry</code>
+/// - `ensures`: <code>[part_event] result ≡ [unplaced] ([event_of] text.now entry)</code>
+///
+/// [IsWithin]: crate::contracts#token_buffer.Entries.IsWithin
+/// [part_event]: crate::contracts#token_buffer.Parts.part_event
+/// [unplaced]: crate::contracts#token_buffer.Parts.unplaced
+/// [event_of]: crate::contracts#token_buffer.Entries.event_of
 #[inline(always)]
 pub fn part_of(text: &str, entry: Entry) -> Part<'_>
 {

@@ -18,6 +18,16 @@ enum Escape {
 }
 
 /// Writes the string literal of the text.
+///
+/// # Contract
+///
+/// - `ensures`: <code>[WritesOnOk] W.write_str_gives f.old result ([encode_utf8_all] ([string_text] ([chars]
+///   text.now))) f.new</code>
+///
+/// [WritesOnOk]: crate::contracts#std.WritesOnOk
+/// [encode_utf8_all]: crate::contracts#std.encode_utf8_all
+/// [string_text]: crate::contracts#pm_token.Escaped.string_text
+/// [chars]: crate::contracts#std.chars
 pub fn write_string<W: fmt::Write>(text: &str, f: &mut fmt::Formatter<W>) -> fmt::Result
 {
     write_one('"', f)?;
@@ -29,24 +39,57 @@ pub fn write_string<W: fmt::Write>(text: &str, f: &mut fmt::Formatter<W>) -> fmt
 }
 
 /// Writes the text.
+///
+/// # Contract
+///
+/// - `ensures`: <code>[WritesOnOk] W.write_str_gives f.old result ([encode_utf8_all] ([chars] text.now)) f.new</code>
+///
+/// [WritesOnOk]: crate::contracts#std.WritesOnOk
+/// [encode_utf8_all]: crate::contracts#std.encode_utf8_all
+/// [chars]: crate::contracts#std.chars
 pub fn write_text<W: fmt::Write>(text: &str, f: &mut fmt::Formatter<W>) -> fmt::Result
 {
     f.write_str(text)
 }
 
 /// Writes the character.
+///
+/// # Contract
+///
+/// - `ensures`: <code>[WritesOnOk] W.write_str_gives f.old result ([encode_utf8_all] (c ∷ \[\])) f.new</code>
+///
+/// [WritesOnOk]: crate::contracts#std.WritesOnOk
+/// [encode_utf8_all]: crate::contracts#std.encode_utf8_all
 pub fn write_one<W: fmt::Write>(c: char, f: &mut fmt::Formatter<W>) -> fmt::Result
 {
     f.write_char(c)
 }
 
 /// Whether the texts are the same, and so are their string literals.
+///
+/// # Contract
+///
+/// - `ensures texts`: <code>[IsTrue] result ↔ ([chars] text.now ≡ [chars] other.now)</code>
+/// - `ensures strings`: <code>[IsTrue] result ↔ ([string_text] ([chars] text.now) ≡ [string_text] ([chars]
+///   other.now))</code>
+///
+/// [IsTrue]: crate::contracts#std.IsTrue
+/// [chars]: crate::contracts#std.chars
+/// [string_text]: crate::contracts#pm_token.Escaped.string_text
 pub fn is_same(text: &str, other: &str) -> bool
 {
     text == other
 }
 
 /// Whether the literal is the string literal of the text.
+///
+/// # Contract
+///
+/// - `ensures`: <code>[IsTrue] result ↔ ([chars] literal.now ≡ [string_text] ([chars] text.now))</code>
+///
+/// [IsTrue]: crate::contracts#std.IsTrue
+/// [chars]: crate::contracts#std.chars
+/// [string_text]: crate::contracts#pm_token.Escaped.string_text
 pub fn is_string_of(literal: &str, text: &str) -> bool
 {
     let Some(mut left) = after(literal, '"') else {

@@ -41,6 +41,13 @@ impl<'a> Cursor<'a> {
     /// time and memory in proportion to what is left, and little stack however deep groups nest.
     ///
     /// Of `a (b) c` after `a` it is the stream of `(b) c`.
+    ///
+    /// # Contract
+    ///
+    /// - `ensures`: <code>[IfOk] result (λ stream. stream ≡ [left] self.entry)</code>
+    ///
+    /// [IfOk]: crate::contracts#std.IfOk
+    /// [left]: crate::contracts#token_buffer.Reads.left
     pub fn to_stream(self) -> Result<TokenStream, AllocError>
     {
         let mut groups = Vec::new();
@@ -103,6 +110,15 @@ impl<'a> Cursor<'a> {
     /// the trees that it answers, whatever is left out.
     ///
     /// Of `pub(crate) fn f(a: u8) {}` they are `pub`, the group of `crate`, `fn`, `f` and two empty groups.
+    ///
+    /// # Contract
+    ///
+    /// - `ensures`: <code>[IfOk] result (λ trees. [forest] trees.items ≡ [outer] ([left] self.entry))</code>
+    ///
+    /// [IfOk]: crate::contracts#std.IfOk
+    /// [forest]: crate::contracts#pm_stream.Trees.forest
+    /// [outer]: crate::contracts#token_buffer.Outer.outer
+    /// [left]: crate::contracts#token_buffer.Reads.left
     pub fn outer_trees(self) -> Result<Vec<TokenTree>, AllocError>
     {
         let mut trees = Vec::new();

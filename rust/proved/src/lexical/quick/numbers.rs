@@ -12,6 +12,14 @@ fn ends_number(byte: u8) -> bool
 }
 
 /// How many bytes the number has that stands at the front and is made of digits and `_` alone.
+///
+/// # Contract
+///
+/// - `ensures`: <code>[IfSome] result ([IsAsciiAt] [Number] text.now)</code>
+///
+/// [IfSome]: crate::contracts#std.IfSome
+/// [IsAsciiAt]: crate::contracts#lexical.Quick.IsAsciiAt
+/// [Number]: crate::contracts#lexical.Number.Number
 #[inline(always)]
 pub fn number_size(text: &str) -> Option<usize>
 {
@@ -176,6 +184,14 @@ fn suffixed_size(bytes: &[u8], digits: usize) -> Option<usize>
 
 /// How many bytes the number has that stands at the front, before or with a dot, or with an exponent, a suffix or the
 /// prefix of a base.
+///
+/// # Contract
+///
+/// - `ensures`: <code>[IfSome] result ([IsAsciiAt] [Number] text.now)</code>
+///
+/// [IfSome]: crate::contracts#std.IfSome
+/// [IsAsciiAt]: crate::contracts#lexical.Quick.IsAsciiAt
+/// [Number]: crate::contracts#lexical.Number.Number
 #[inline(never)]
 pub fn long_number_size(text: &str) -> Option<usize>
 {

@@ -132,6 +132,14 @@ fn single_size(inside: &[u8], kind: StringKind) -> Option<usize>
 }
 
 /// How many bytes the character has that stands at the front, between its quotes one of ASCII or an escape.
+///
+/// # Contract
+///
+/// - `ensures`: <code>[IfSome] result ([IsAsciiAt] [Character] text.now)</code>
+///
+/// [IfSome]: crate::contracts#std.IfSome
+/// [IsAsciiAt]: crate::contracts#lexical.Quick.IsAsciiAt
+/// [Character]: crate::contracts#lexical.SingleQuoted.Character
 #[inline(always)]
 pub fn character_size(text: &str) -> Option<usize>
 {
@@ -143,6 +151,14 @@ pub fn character_size(text: &str) -> Option<usize>
 }
 
 /// The extent of the character at the front, between its quotes one of ASCII that stands for itself.
+///
+/// # Contract
+///
+/// - `ensures`: <code>[IfSome] result ([IsLiteralAt] ([chars] text.now))</code>
+///
+/// [IfSome]: crate::contracts#std.IfSome
+/// [IsLiteralAt]: crate::contracts#lexical.Quick.IsLiteralAt
+/// [chars]: crate::contracts#std.chars
 #[inline(always)]
 pub fn bare_character(text: &str) -> Option<Extent>
 {
@@ -155,6 +171,14 @@ pub fn bare_character(text: &str) -> Option<Extent>
 }
 
 /// The extent of the character at the front, between its quotes a backslash with a letter.
+///
+/// # Contract
+///
+/// - `ensures`: <code>[IfSome] result ([IsLiteralAt] ([chars] text.now))</code>
+///
+/// [IfSome]: crate::contracts#std.IfSome
+/// [IsLiteralAt]: crate::contracts#lexical.Quick.IsLiteralAt
+/// [chars]: crate::contracts#std.chars
 #[inline(always)]
 pub fn letter_character(text: &str) -> Option<Extent>
 {
@@ -167,6 +191,14 @@ pub fn letter_character(text: &str) -> Option<Extent>
 }
 
 /// The extent of the character at the front, between its quotes one of ASCII or an escape.
+///
+/// # Contract
+///
+/// - `ensures`: <code>[IfSome] result ([IsLiteralAt] ([chars] text.now))</code>
+///
+/// [IfSome]: crate::contracts#std.IfSome
+/// [IsLiteralAt]: crate::contracts#lexical.Quick.IsLiteralAt
+/// [chars]: crate::contracts#std.chars
 #[inline(always)]
 pub fn character(text: &str) -> Option<Extent>
 {
@@ -174,6 +206,14 @@ pub fn character(text: &str) -> Option<Extent>
 }
 
 /// How many bytes the byte literal has that stands at the front.
+///
+/// # Contract
+///
+/// - `ensures`: <code>[IfSome] result ([IsAsciiAt] [Byte] text.now)</code>
+///
+/// [IfSome]: crate::contracts#std.IfSome
+/// [IsAsciiAt]: crate::contracts#lexical.Quick.IsAsciiAt
+/// [Byte]: crate::contracts#lexical.SingleQuoted.Byte
 #[inline(always)]
 pub fn byte_size(text: &str) -> Option<usize>
 {
@@ -185,6 +225,14 @@ pub fn byte_size(text: &str) -> Option<usize>
 }
 
 /// The extent of the character that stands at the front, between its quotes one that stands for itself, past ASCII too.
+///
+/// # Contract
+///
+/// - `ensures`: <code>[IfSome] result ([IsLiteralAt] ([chars] text.now))</code>
+///
+/// [IfSome]: crate::contracts#std.IfSome
+/// [IsLiteralAt]: crate::contracts#lexical.Quick.IsLiteralAt
+/// [chars]: crate::contracts#std.chars
 #[inline(always)]
 pub fn wide_character(text: &str) -> Option<Extent>
 {
@@ -270,6 +318,22 @@ fn body_size(inside: &str, stretch: usize, kind: StringKind) -> Option<usize>
 
 /// The extent of the string after whose first quote `inside` stands: so many bytes of ASCII that stand for themselves,
 /// and the other quote.
+///
+/// # Contract
+///
+/// - `requires`: <code>[IsTrue] ([list_all] [is_plain_ascii] ([take] stretch inside.now))</code>
+/// - `ensures`: <code>(text : [List] ℕ) → [chars] text ≡ [codes] \"\\\"\" ++ [chars] inside.now → [IfSome] result
+///   ([IsLiteralAt] ([chars] text))</code>
+///
+/// [IsTrue]: crate::contracts#std.IsTrue
+/// [list_all]: crate::contracts#std.list_all
+/// [is_plain_ascii]: crate::contracts#lexical.Word.is_plain_ascii
+/// [take]: crate::contracts#std.take
+/// [List]: crate::contracts#std.List
+/// [chars]: crate::contracts#std.chars
+/// [codes]: crate::contracts#std.codes
+/// [IfSome]: crate::contracts#std.IfSome
+/// [IsLiteralAt]: crate::contracts#lexical.Quick.IsLiteralAt
 #[inline(always)]
 pub fn plain_string(inside: &str, stretch: usize) -> Option<Extent>
 {
@@ -282,6 +346,24 @@ pub fn plain_string(inside: &str, stretch: usize) -> Option<Extent>
 
 /// The extent of the string that `text` begins with, after whose first quote `inside` stands: so many bytes of ASCII
 /// that stand for themselves, and then an escape.
+///
+/// # Contract
+///
+/// - `requires split`: <code>[chars] text.now ≡ [codes] \"\\\"\" ++ [chars] inside.now</code>
+/// - `requires plain`: <code>[IsTrue] ([list_all] [is_plain_ascii] ([take] stretch inside.now))</code>
+/// - `requires backslash`: <code>[get_or] inside.now stretch 32 ≡ [backslash]</code>
+/// - `ensures`: <code>[IfSome] result ([IsLiteralAt] ([chars] text.now))</code>
+///
+/// [chars]: crate::contracts#std.chars
+/// [codes]: crate::contracts#std.codes
+/// [IsTrue]: crate::contracts#std.IsTrue
+/// [list_all]: crate::contracts#std.list_all
+/// [is_plain_ascii]: crate::contracts#lexical.Word.is_plain_ascii
+/// [take]: crate::contracts#std.take
+/// [get_or]: crate::contracts#std.get_or
+/// [backslash]: crate::contracts#lexical.Character.backslash
+/// [IfSome]: crate::contracts#std.IfSome
+/// [IsLiteralAt]: crate::contracts#lexical.Quick.IsLiteralAt
 #[inline(always)]
 pub fn escaped_string(text: &str, inside: &str, stretch: usize) -> Option<Extent>
 {
@@ -290,6 +372,14 @@ pub fn escaped_string(text: &str, inside: &str, stretch: usize) -> Option<Extent
 }
 
 /// The extent of the string that stands at the front, with no CR.
+///
+/// # Contract
+///
+/// - `ensures`: <code>[IfSome] result ([IsLiteralAt] ([chars] text.now))</code>
+///
+/// [IfSome]: crate::contracts#std.IfSome
+/// [IsLiteralAt]: crate::contracts#lexical.Quick.IsLiteralAt
+/// [chars]: crate::contracts#std.chars
 #[inline(always)]
 pub fn string(text: &str) -> Option<Extent>
 {
@@ -300,6 +390,15 @@ pub fn string(text: &str) -> Option<Extent>
 }
 
 /// How many bytes the string has that stands at the front, with no CR.
+///
+/// # Contract
+///
+/// - `ensures`: <code>[IfSome] result ([IsAt] [Str] ([chars] text.now))</code>
+///
+/// [IfSome]: crate::contracts#std.IfSome
+/// [IsAt]: crate::contracts#lexical.Found.IsAt
+/// [Str]: crate::contracts#lexical.Quoted.Str
+/// [chars]: crate::contracts#std.chars
 #[inline(always)]
 pub fn string_size(text: &str) -> Option<usize>
 {
@@ -309,6 +408,15 @@ pub fn string_size(text: &str) -> Option<usize>
 }
 
 /// How many bytes the byte string has that stands at the front, with no CR.
+///
+/// # Contract
+///
+/// - `ensures`: <code>[IfSome] result ([IsAt] [ByteStr] ([chars] text.now))</code>
+///
+/// [IfSome]: crate::contracts#std.IfSome
+/// [IsAt]: crate::contracts#lexical.Found.IsAt
+/// [ByteStr]: crate::contracts#lexical.Quoted.ByteStr
+/// [chars]: crate::contracts#std.chars
 #[inline(always)]
 pub fn byte_string_size(text: &str) -> Option<usize>
 {

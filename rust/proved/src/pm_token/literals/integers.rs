@@ -144,6 +144,15 @@ fn signed(value: i128, suffix: Suffix) -> Result<Literal, AllocError>
 impl Literal {
     /// The literal of the number, without its type, with the span 0..0. For 255 it is `255`.
     /// Fails where memory runs out.
+    ///
+    /// # Contract
+    ///
+    /// - `ensures ok`: <code>[IfOk] result (λ literal. literal ≡ record { text = [decimal] value; span = [nowhere]
+    ///   })</code>
+    ///
+    /// [IfOk]: crate::contracts#std.IfOk
+    /// [decimal]: crate::contracts#std.decimal
+    /// [nowhere]: crate::contracts#pm_span.Extent.nowhere
     #[inline]
     pub fn u8_unsuffixed(value: u8) -> Result<Literal, AllocError>
     {
@@ -152,6 +161,15 @@ impl Literal {
 
     /// The literal of the number, without its type, with the span 0..0. For 65535 it is `65535`.
     /// Fails where memory runs out.
+    ///
+    /// # Contract
+    ///
+    /// - `ensures ok`: <code>[IfOk] result (λ literal. literal ≡ record { text = [decimal] value; span = [nowhere]
+    ///   })</code>
+    ///
+    /// [IfOk]: crate::contracts#std.IfOk
+    /// [decimal]: crate::contracts#std.decimal
+    /// [nowhere]: crate::contracts#pm_span.Extent.nowhere
     #[inline]
     pub fn u16_unsuffixed(value: u16) -> Result<Literal, AllocError>
     {
@@ -160,6 +178,15 @@ impl Literal {
 
     /// The literal of the number, without its type, with the span 0..0. For 3 it is `3`.
     /// Fails where memory runs out.
+    ///
+    /// # Contract
+    ///
+    /// - `ensures ok`: <code>[IfOk] result (λ literal. literal ≡ record { text = [decimal] value; span = [nowhere]
+    ///   })</code>
+    ///
+    /// [IfOk]: crate::contracts#std.IfOk
+    /// [decimal]: crate::contracts#std.decimal
+    /// [nowhere]: crate::contracts#pm_span.Extent.nowhere
     #[inline]
     pub fn u32_unsuffixed(value: u32) -> Result<Literal, AllocError>
     {
@@ -168,6 +195,15 @@ impl Literal {
 
     /// The literal of the number, without its type, with the span 0..0. For 10 it is `10`.
     /// Fails where memory runs out.
+    ///
+    /// # Contract
+    ///
+    /// - `ensures ok`: <code>[IfOk] result (λ literal. literal ≡ record { text = [decimal] value; span = [nowhere]
+    ///   })</code>
+    ///
+    /// [IfOk]: crate::contracts#std.IfOk
+    /// [decimal]: crate::contracts#std.decimal
+    /// [nowhere]: crate::contracts#pm_span.Extent.nowhere
     #[inline]
     pub fn u64_unsuffixed(value: u64) -> Result<Literal, AllocError>
     {
@@ -176,6 +212,15 @@ impl Literal {
 
     /// The literal of the number, without its type, with the span 0..0. For 7 it is `7`.
     /// Fails where memory runs out.
+    ///
+    /// # Contract
+    ///
+    /// - `ensures ok`: <code>[IfOk] result (λ literal. literal ≡ record { text = [decimal] value; span = [nowhere]
+    ///   })</code>
+    ///
+    /// [IfOk]: crate::contracts#std.IfOk
+    /// [decimal]: crate::contracts#std.decimal
+    /// [nowhere]: crate::contracts#pm_span.Extent.nowhere
     #[inline]
     pub fn u128_unsuffixed(value: u128) -> Result<Literal, AllocError>
     {
@@ -184,6 +229,15 @@ impl Literal {
 
     /// The literal of the number, without its type, with the span 0..0. For 0 it is `0`.
     /// Fails where memory runs out.
+    ///
+    /// # Contract
+    ///
+    /// - `ensures ok`: <code>[IfOk] result (λ literal. literal ≡ record { text = [decimal] value; span = [nowhere]
+    ///   })</code>
+    ///
+    /// [IfOk]: crate::contracts#std.IfOk
+    /// [decimal]: crate::contracts#std.decimal
+    /// [nowhere]: crate::contracts#pm_span.Extent.nowhere
     #[inline]
     pub fn usize_unsuffixed(value: usize) -> Result<Literal, AllocError>
     {
@@ -192,6 +246,16 @@ impl Literal {
 
     /// The literal of the number and `u8`, with the span 0..0. For 255 it is `255u8`.
     /// Fails where memory runs out.
+    ///
+    /// # Contract
+    ///
+    /// - `ensures ok`: <code>[IfOk] result (λ literal. literal ≡ record { text = [decimal] value ++ [codes] \"u8\"; span =
+    ///   [nowhere] })</code>
+    ///
+    /// [IfOk]: crate::contracts#std.IfOk
+    /// [decimal]: crate::contracts#std.decimal
+    /// [codes]: crate::contracts#std.codes
+    /// [nowhere]: crate::contracts#pm_span.Extent.nowhere
     #[inline]
     pub fn u8_suffixed(value: u8) -> Result<Literal, AllocError>
     {
@@ -200,6 +264,16 @@ impl Literal {
 
     /// The literal of the number and `u16`, with the span 0..0. For 65535 it is `65535u16`.
     /// Fails where memory runs out.
+    ///
+    /// # Contract
+    ///
+    /// - `ensures ok`: <code>[IfOk] result (λ literal. literal ≡ record { text = [decimal] value ++ [codes] \"u16\"; span =
+    ///   [nowhere] })</code>
+    ///
+    /// [IfOk]: crate::contracts#std.IfOk
+    /// [decimal]: crate::contracts#std.decimal
+    /// [codes]: crate::contracts#std.codes
+    /// [nowhere]: crate::contracts#pm_span.Extent.nowhere
     #[inline]
     pub fn u16_suffixed(value: u16) -> Result<Literal, AllocError>
     {
@@ -208,6 +282,16 @@ impl Literal {
 
     /// The literal of the number and `u32`, with the span 0..0. For 3 it is `3u32`.
     /// Fails where memory runs out.
+    ///
+    /// # Contract
+    ///
+    /// - `ensures ok`: <code>[IfOk] result (λ literal. literal ≡ record { text = [decimal] value ++ [codes] \"u32\"; span =
+    ///   [nowhere] })</code>
+    ///
+    /// [IfOk]: crate::contracts#std.IfOk
+    /// [decimal]: crate::contracts#std.decimal
+    /// [codes]: crate::contracts#std.codes
+    /// [nowhere]: crate::contracts#pm_span.Extent.nowhere
     #[inline]
     pub fn u32_suffixed(value: u32) -> Result<Literal, AllocError>
     {
@@ -216,6 +300,16 @@ impl Literal {
 
     /// The literal of the number and `u64`, with the span 0..0. For 10 it is `10u64`.
     /// Fails where memory runs out.
+    ///
+    /// # Contract
+    ///
+    /// - `ensures ok`: <code>[IfOk] result (λ literal. literal ≡ record { text = [decimal] value ++ [codes] \"u64\"; span =
+    ///   [nowhere] })</code>
+    ///
+    /// [IfOk]: crate::contracts#std.IfOk
+    /// [decimal]: crate::contracts#std.decimal
+    /// [codes]: crate::contracts#std.codes
+    /// [nowhere]: crate::contracts#pm_span.Extent.nowhere
     #[inline]
     pub fn u64_suffixed(value: u64) -> Result<Literal, AllocError>
     {
@@ -224,6 +318,16 @@ impl Literal {
 
     /// The literal of the number and `u128`, with the span 0..0. For 7 it is `7u128`.
     /// Fails where memory runs out.
+    ///
+    /// # Contract
+    ///
+    /// - `ensures ok`: <code>[IfOk] result (λ literal. literal ≡ record { text = [decimal] value ++ [codes] \"u128\"; span =
+    ///   [nowhere] })</code>
+    ///
+    /// [IfOk]: crate::contracts#std.IfOk
+    /// [decimal]: crate::contracts#std.decimal
+    /// [codes]: crate::contracts#std.codes
+    /// [nowhere]: crate::contracts#pm_span.Extent.nowhere
     #[inline]
     pub fn u128_suffixed(value: u128) -> Result<Literal, AllocError>
     {
@@ -232,6 +336,16 @@ impl Literal {
 
     /// The literal of the number and `usize`, with the span 0..0. For 0 it is `0usize`.
     /// Fails where memory runs out.
+    ///
+    /// # Contract
+    ///
+    /// - `ensures ok`: <code>[IfOk] result (λ literal. literal ≡ record { text = [decimal] value ++ [codes] \"usize\"; span =
+    ///   [nowhere] })</code>
+    ///
+    /// [IfOk]: crate::contracts#std.IfOk
+    /// [decimal]: crate::contracts#std.decimal
+    /// [codes]: crate::contracts#std.codes
+    /// [nowhere]: crate::contracts#pm_span.Extent.nowhere
     #[inline]
     pub fn usize_suffixed(value: usize) -> Result<Literal, AllocError>
     {
@@ -240,6 +354,15 @@ impl Literal {
 
     /// The literal of the number, without its type, with the span 0..0. For -128 it is `-128`.
     /// Fails where memory runs out.
+    ///
+    /// # Contract
+    ///
+    /// - `ensures ok`: <code>[IfOk] result (λ literal. literal ≡ record { text = [signed_decimal] value; span = [nowhere]
+    ///   })</code>
+    ///
+    /// [IfOk]: crate::contracts#std.IfOk
+    /// [signed_decimal]: crate::contracts#std.signed_decimal
+    /// [nowhere]: crate::contracts#pm_span.Extent.nowhere
     #[inline]
     pub fn i8_unsuffixed(value: i8) -> Result<Literal, AllocError>
     {
@@ -248,6 +371,15 @@ impl Literal {
 
     /// The literal of the number, without its type, with the span 0..0. For -3 it is `-3`.
     /// Fails where memory runs out.
+    ///
+    /// # Contract
+    ///
+    /// - `ensures ok`: <code>[IfOk] result (λ literal. literal ≡ record { text = [signed_decimal] value; span = [nowhere]
+    ///   })</code>
+    ///
+    /// [IfOk]: crate::contracts#std.IfOk
+    /// [signed_decimal]: crate::contracts#std.signed_decimal
+    /// [nowhere]: crate::contracts#pm_span.Extent.nowhere
     #[inline]
     pub fn i16_unsuffixed(value: i16) -> Result<Literal, AllocError>
     {
@@ -256,6 +388,15 @@ impl Literal {
 
     /// The literal of the number, without its type, with the span 0..0. For -3 it is `-3`.
     /// Fails where memory runs out.
+    ///
+    /// # Contract
+    ///
+    /// - `ensures ok`: <code>[IfOk] result (λ literal. literal ≡ record { text = [signed_decimal] value; span = [nowhere]
+    ///   })</code>
+    ///
+    /// [IfOk]: crate::contracts#std.IfOk
+    /// [signed_decimal]: crate::contracts#std.signed_decimal
+    /// [nowhere]: crate::contracts#pm_span.Extent.nowhere
     #[inline]
     pub fn i32_unsuffixed(value: i32) -> Result<Literal, AllocError>
     {
@@ -264,6 +405,15 @@ impl Literal {
 
     /// The literal of the number, without its type, with the span 0..0. For 12 it is `12`.
     /// Fails where memory runs out.
+    ///
+    /// # Contract
+    ///
+    /// - `ensures ok`: <code>[IfOk] result (λ literal. literal ≡ record { text = [signed_decimal] value; span = [nowhere]
+    ///   })</code>
+    ///
+    /// [IfOk]: crate::contracts#std.IfOk
+    /// [signed_decimal]: crate::contracts#std.signed_decimal
+    /// [nowhere]: crate::contracts#pm_span.Extent.nowhere
     #[inline]
     pub fn i64_unsuffixed(value: i64) -> Result<Literal, AllocError>
     {
@@ -272,6 +422,15 @@ impl Literal {
 
     /// The literal of the number, without its type, with the span 0..0. For -1 it is `-1`.
     /// Fails where memory runs out.
+    ///
+    /// # Contract
+    ///
+    /// - `ensures ok`: <code>[IfOk] result (λ literal. literal ≡ record { text = [signed_decimal] value; span = [nowhere]
+    ///   })</code>
+    ///
+    /// [IfOk]: crate::contracts#std.IfOk
+    /// [signed_decimal]: crate::contracts#std.signed_decimal
+    /// [nowhere]: crate::contracts#pm_span.Extent.nowhere
     #[inline]
     pub fn i128_unsuffixed(value: i128) -> Result<Literal, AllocError>
     {
@@ -280,6 +439,15 @@ impl Literal {
 
     /// The literal of the number, without its type, with the span 0..0. For 0 it is `0`.
     /// Fails where memory runs out.
+    ///
+    /// # Contract
+    ///
+    /// - `ensures ok`: <code>[IfOk] result (λ literal. literal ≡ record { text = [signed_decimal] value; span = [nowhere]
+    ///   })</code>
+    ///
+    /// [IfOk]: crate::contracts#std.IfOk
+    /// [signed_decimal]: crate::contracts#std.signed_decimal
+    /// [nowhere]: crate::contracts#pm_span.Extent.nowhere
     #[inline]
     pub fn isize_unsuffixed(value: isize) -> Result<Literal, AllocError>
     {
@@ -288,6 +456,16 @@ impl Literal {
 
     /// The literal of the number and `i8`, with the span 0..0. For -128 it is `-128i8`.
     /// Fails where memory runs out.
+    ///
+    /// # Contract
+    ///
+    /// - `ensures ok`: <code>[IfOk] result (λ literal. literal ≡ record { text = [signed_decimal] value ++ [codes] \"i8\";
+    ///   span = [nowhere] })</code>
+    ///
+    /// [IfOk]: crate::contracts#std.IfOk
+    /// [signed_decimal]: crate::contracts#std.signed_decimal
+    /// [codes]: crate::contracts#std.codes
+    /// [nowhere]: crate::contracts#pm_span.Extent.nowhere
     #[inline]
     pub fn i8_suffixed(value: i8) -> Result<Literal, AllocError>
     {
@@ -296,6 +474,16 @@ impl Literal {
 
     /// The literal of the number and `i16`, with the span 0..0. For -3 it is `-3i16`.
     /// Fails where memory runs out.
+    ///
+    /// # Contract
+    ///
+    /// - `ensures ok`: <code>[IfOk] result (λ literal. literal ≡ record { text = [signed_decimal] value ++ [codes] \"i16\";
+    ///   span = [nowhere] })</code>
+    ///
+    /// [IfOk]: crate::contracts#std.IfOk
+    /// [signed_decimal]: crate::contracts#std.signed_decimal
+    /// [codes]: crate::contracts#std.codes
+    /// [nowhere]: crate::contracts#pm_span.Extent.nowhere
     #[inline]
     pub fn i16_suffixed(value: i16) -> Result<Literal, AllocError>
     {
@@ -304,6 +492,16 @@ impl Literal {
 
     /// The literal of the number and `i32`, with the span 0..0. For -3 it is `-3i32`.
     /// Fails where memory runs out.
+    ///
+    /// # Contract
+    ///
+    /// - `ensures ok`: <code>[IfOk] result (λ literal. literal ≡ record { text = [signed_decimal] value ++ [codes] \"i32\";
+    ///   span = [nowhere] })</code>
+    ///
+    /// [IfOk]: crate::contracts#std.IfOk
+    /// [signed_decimal]: crate::contracts#std.signed_decimal
+    /// [codes]: crate::contracts#std.codes
+    /// [nowhere]: crate::contracts#pm_span.Extent.nowhere
     #[inline]
     pub fn i32_suffixed(value: i32) -> Result<Literal, AllocError>
     {
@@ -312,6 +510,16 @@ impl Literal {
 
     /// The literal of the number and `i64`, with the span 0..0. For 12 it is `12i64`.
     /// Fails where memory runs out.
+    ///
+    /// # Contract
+    ///
+    /// - `ensures ok`: <code>[IfOk] result (λ literal. literal ≡ record { text = [signed_decimal] value ++ [codes] \"i64\";
+    ///   span = [nowhere] })</code>
+    ///
+    /// [IfOk]: crate::contracts#std.IfOk
+    /// [signed_decimal]: crate::contracts#std.signed_decimal
+    /// [codes]: crate::contracts#std.codes
+    /// [nowhere]: crate::contracts#pm_span.Extent.nowhere
     #[inline]
     pub fn i64_suffixed(value: i64) -> Result<Literal, AllocError>
     {
@@ -320,6 +528,16 @@ impl Literal {
 
     /// The literal of the number and `i128`, with the span 0..0. For -1 it is `-1i128`.
     /// Fails where memory runs out.
+    ///
+    /// # Contract
+    ///
+    /// - `ensures ok`: <code>[IfOk] result (λ literal. literal ≡ record { text = [signed_decimal] value ++ [codes]
+    ///   \"i128\"; span = [nowhere] })</code>
+    ///
+    /// [IfOk]: crate::contracts#std.IfOk
+    /// [signed_decimal]: crate::contracts#std.signed_decimal
+    /// [codes]: crate::contracts#std.codes
+    /// [nowhere]: crate::contracts#pm_span.Extent.nowhere
     #[inline]
     pub fn i128_suffixed(value: i128) -> Result<Literal, AllocError>
     {
@@ -328,6 +546,16 @@ impl Literal {
 
     /// The literal of the number and `isize`, with the span 0..0. For 0 it is `0isize`.
     /// Fails where memory runs out.
+    ///
+    /// # Contract
+    ///
+    /// - `ensures ok`: <code>[IfOk] result (λ literal. literal ≡ record { text = [signed_decimal] value ++ [codes]
+    ///   \"isize\"; span = [nowhere] })</code>
+    ///
+    /// [IfOk]: crate::contracts#std.IfOk
+    /// [signed_decimal]: crate::contracts#std.signed_decimal
+    /// [codes]: crate::contracts#std.codes
+    /// [nowhere]: crate::contracts#pm_span.Extent.nowhere
     #[inline]
     pub fn isize_suffixed(value: isize) -> Result<Literal, AllocError>
     {

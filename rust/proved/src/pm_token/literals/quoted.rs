@@ -40,6 +40,16 @@ fn between_quotes(c: char) -> Result<Symbol, AllocError>
 impl Literal {
     /// The string literal of the text, by the rule `string-text`, with the span 0..0. For CR, a quote
     /// and U+0301 it is `"\r\"\u{301}"`. Fails where memory runs out.
+    ///
+    /// # Contract
+    ///
+    /// - `ensures ok`: <code>[IfOk] result (λ literal. literal ≡ record { text = [string_text] ([chars] text.now); span =
+    ///   [nowhere] })</code>
+    ///
+    /// [IfOk]: crate::contracts#std.IfOk
+    /// [string_text]: crate::contracts#pm_token.Escaped.string_text
+    /// [chars]: crate::contracts#std.chars
+    /// [nowhere]: crate::contracts#pm_span.Extent.nowhere
     pub fn string(text: &str) -> Result<Literal, AllocError>
     {
         Literal::string_at(text, Span::call_site())
@@ -61,6 +71,15 @@ impl Literal {
 
     /// The literal of the character, by the rule `character-text`, with the span 0..0. For `'` it is
     /// `'\''`, for `"` it is `'"'`. Fails where memory runs out.
+    ///
+    /// # Contract
+    ///
+    /// - `ensures ok`: <code>[IfOk] result (λ literal. literal ≡ record { text = [character_text] c; span = [nowhere]
+    ///   })</code>
+    ///
+    /// [IfOk]: crate::contracts#std.IfOk
+    /// [character_text]: crate::contracts#pm_token.Escaped.character_text
+    /// [nowhere]: crate::contracts#pm_span.Extent.nowhere
     pub fn character(c: char) -> Result<Literal, AllocError>
     {
         Ok(Literal {
@@ -71,6 +90,15 @@ impl Literal {
 
     /// The literal of the byte, by the rule `byte-text`, with the span 0..0. For 0x1F it is
     /// `b'\x1F'`. Fails where memory runs out.
+    ///
+    /// # Contract
+    ///
+    /// - `ensures ok`: <code>[IfOk] result (λ literal. literal ≡ record { text = [byte_text] byte; span = [nowhere]
+    ///   })</code>
+    ///
+    /// [IfOk]: crate::contracts#std.IfOk
+    /// [byte_text]: crate::contracts#pm_token.Escaped.byte_text
+    /// [nowhere]: crate::contracts#pm_span.Extent.nowhere
     pub fn byte_character(byte: u8) -> Result<Literal, AllocError>
     {
         let mut builder = TextBuilder::new();
@@ -86,6 +114,15 @@ impl Literal {
 
     /// The byte string literal of the bytes, by the rule `byte-string-text`, with the span 0..0. For
     /// `"`, 0 and `7` it is `b"\"\x007"`. Fails where memory runs out.
+    ///
+    /// # Contract
+    ///
+    /// - `ensures ok`: <code>[IfOk] result (λ literal. literal ≡ record { text = [byte_string_text] bytes.now; span =
+    ///   [nowhere] })</code>
+    ///
+    /// [IfOk]: crate::contracts#std.IfOk
+    /// [byte_string_text]: crate::contracts#pm_token.Escaped.byte_string_text
+    /// [nowhere]: crate::contracts#pm_span.Extent.nowhere
     pub fn byte_string(bytes: &[u8]) -> Result<Literal, AllocError>
     {
         let mut builder = TextBuilder::new();
@@ -102,6 +139,18 @@ impl Literal {
     /// The C string literal of the bytes, none of which is zero, by the rule `c-string-text`: the
     /// zero that ends a C string is no part of its literal, whose span is 0..0. For 0x7F, 0xFF and
     /// the bytes of U+0333 it is `c"\u{7f}\xFF\u{333}"`. Fails where memory runs out.
+    ///
+    /// # Contract
+    ///
+    /// - `requires`: <code>[IsTrue] ([has_no_zero] bytes.now)</code>
+    /// - `ensures ok`: <code>[IfOk] result (λ literal. [IsCStringText] bytes.now literal.text × (literal.span ≡
+    ///   [nowhere]))</code>
+    ///
+    /// [IsTrue]: crate::contracts#std.IsTrue
+    /// [has_no_zero]: crate::contracts#pm_token.CString.has_no_zero
+    /// [IfOk]: crate::contracts#std.IfOk
+    /// [IsCStringText]: crate::contracts#pm_token.CString.IsCStringText
+    /// [nowhere]: crate::contracts#pm_span.Extent.nowhere
     pub fn c_string(bytes: &[u8]) -> Result<Literal, AllocError>
     {
         let mut builder = TextBuilder::new();

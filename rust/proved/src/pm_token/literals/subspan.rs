@@ -19,6 +19,12 @@ impl Literal {
     ///
     /// Where `0.1` stands at 1..4, `Included(1)` to `Excluded(2)` is 2..3, which is the `.`, and
     /// `Included(1)` to `Excluded(4)` is `None`.
+    ///
+    /// # Contract
+    ///
+    /// - `ensures`: <code>result ≡ [subspan] self.now.span start end</code>
+    ///
+    /// [subspan]: crate::contracts#pm_token.Subspan.subspan
     pub fn subspan(&self, start: Bound<usize>, end: Bound<usize>) -> Option<Span>
     {
         let (lo, hi) = bounds(self.span);

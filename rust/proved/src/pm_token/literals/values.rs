@@ -22,6 +22,17 @@ impl Literal {
     /// growth was refused, which is never so of an empty value.
     ///
     /// Of `"a\tb"` it is `a`, a tab and `b`; of `r#"\"#` a backslash. `"a"s` and `b"a"` are refused.
+    ///
+    /// # Contract
+    ///
+    /// - `ensures value`: <code>[Answers] [text_of] ([str_value] self.now.text) result</code>
+    /// - `ensures memory`: <code>[str_value] self.now.text ≡ [Ok] \[\] → [IsOk] result</code>
+    ///
+    /// [Answers]: crate::contracts#pm_token.Value.Answers
+    /// [text_of]: crate::contracts#pm_token.Value.text_of
+    /// [str_value]: crate::contracts#pm_token.Value.str_value
+    /// [Ok]: crate::contracts#std.Ok
+    /// [IsOk]: crate::contracts#std.IsOk
     pub fn str_value(&self) -> Result<String, ConversionErrorKind>
     {
         let text = self.text();
@@ -38,6 +49,17 @@ impl Literal {
     /// that of a string: of `b".."` the bytes that its items give; of `br".."` the bytes of its content.
     ///
     /// Of `b"\xFF"` it is the byte 0xFF; of `br"\x"` the bytes 0x5C and 0x78. `"a"` is refused.
+    ///
+    /// # Contract
+    ///
+    /// - `ensures value`: <code>[Answers] [bytes_of] ([byte_str_value] self.now.text) result</code>
+    /// - `ensures memory`: <code>[byte_str_value] self.now.text ≡ [Ok] \[\] → [IsOk] result</code>
+    ///
+    /// [Answers]: crate::contracts#pm_token.Value.Answers
+    /// [bytes_of]: crate::contracts#pm_token.Value.bytes_of
+    /// [byte_str_value]: crate::contracts#pm_token.Value.byte_str_value
+    /// [Ok]: crate::contracts#std.Ok
+    /// [IsOk]: crate::contracts#std.IsOk
     pub fn byte_str_value(&self) -> Result<Vec<u8>, ConversionErrorKind>
     {
         let text = self.text();
@@ -55,6 +77,14 @@ impl Literal {
     /// being in UTF-8; of `cr".."` the bytes of its content.
     ///
     /// Of `c"a\x80"` it is the bytes 0x61, 0x80 and 0. `"a"` is refused.
+    ///
+    /// # Contract
+    ///
+    /// - `ensures`: <code>[Answers] [bytes_of] ([cstr_value] self.now.text) result</code>
+    ///
+    /// [Answers]: crate::contracts#pm_token.Value.Answers
+    /// [bytes_of]: crate::contracts#pm_token.Value.bytes_of
+    /// [cstr_value]: crate::contracts#pm_token.Value.cstr_value
     pub fn cstr_value(&self) -> Result<Vec<u8>, ConversionErrorKind>
     {
         let text = self.text();
@@ -74,6 +104,18 @@ impl Literal {
     /// character has a value, and no memory is taken.
     ///
     /// Of `'\''` it is `'`, and of `' '` the space. `'a'u8`, `"a"` and `b'a'` are refused.
+    ///
+    /// # Contract
+    ///
+    /// - `ensures ok`: <code>[IsOk] result ↔ [IsUnsuffixed] [Character] self.now.text</code>
+    /// - `ensures value`: <code>result ≡ [char_value] self.now.text</code>
+    /// - `ensures kind`: <code>[IfErr] result (λ error. error ≡ InvalidLiteralKind)</code>
+    ///
+    /// [IsOk]: crate::contracts#std.IsOk
+    /// [IsUnsuffixed]: crate::contracts#pm_token.SingleValue.IsUnsuffixed
+    /// [Character]: crate::contracts#lexical.SingleQuoted.Character
+    /// [char_value]: crate::contracts#pm_token.SingleValue.char_value
+    /// [IfErr]: crate::contracts#std.IfErr
     pub fn char_value(&self) -> Result<char, ConversionErrorKind>
     {
         // It computes nothing: proofs learn that the text is a literal's.
@@ -85,6 +127,18 @@ impl Literal {
     /// character.
     ///
     /// Of `b'\xFF'` it is 255. `b'a'u8` and `'a'` are refused.
+    ///
+    /// # Contract
+    ///
+    /// - `ensures ok`: <code>[IsOk] result ↔ [IsUnsuffixed] [Byte] self.now.text</code>
+    /// - `ensures value`: <code>result ≡ [byte_value] self.now.text</code>
+    /// - `ensures kind`: <code>[IfErr] result (λ error. error ≡ InvalidLiteralKind)</code>
+    ///
+    /// [IsOk]: crate::contracts#std.IsOk
+    /// [IsUnsuffixed]: crate::contracts#pm_token.SingleValue.IsUnsuffixed
+    /// [Byte]: crate::contracts#lexical.SingleQuoted.Byte
+    /// [byte_value]: crate::contracts#pm_token.SingleValue.byte_value
+    /// [IfErr]: crate::contracts#std.IfErr
     pub fn byte_value(&self) -> Result<u8, ConversionErrorKind>
     {
         let _ = &self.text;

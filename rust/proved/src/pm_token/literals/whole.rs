@@ -19,6 +19,37 @@ impl Literal {
     /// was refused; both leave the map as it was.
     ///
     /// In a new map `-1u12` gives the literal of this text at 1..6. `- 1` and `-""` are refused.
+    ///
+    /// # Contract
+    ///
+    /// - `ensures ok`: <code>[IfOk] result (λ literal. literal ≡ record { text = [chars] text.now; span = record { lo =
+    ///   [next_lo] map.old; hi = [next_lo] map.old + [length] ([chars] text.now) }; })</code>
+    /// - `ensures whole`: <code>[IfOk] result (λ \_. [IsWholeLiteral] ([chars] text.now))</code>
+    /// - `ensures within`: <code>[IsTrue] ([was_read] result) → [Fits] map.old ([length] ([chars] text.now))</code>
+    /// - `ensures lex`: <code>[IfErr] result (λ error. [IfLex] error (λ fault. (fault ≡ [nowhere]) × ([IsWholeLiteral]
+    ///   ([chars] text.now) → ⊥)))</code>
+    /// - `ensures held`: <code>[MatchResult] result (λ literal. [Holds] map.new literal.span) (λ error. [IfLex] error
+    ///   ([Holds] map.new))</code>
+    /// - `ensures map_full`: <code>(result ≡ [Err] ParseError.MapFull) ↔ ([Fits] map.old ([length] ([chars] text.now)) →
+    ///   ⊥)</code>
+    /// - `ensures kept`: <code>map.new ≡ (if [was_read] result then [with_file] map.old ([chars] text.now) else
+    ///   map.old)</code>
+    ///
+    /// [IfOk]: crate::contracts#std.IfOk
+    /// [chars]: crate::contracts#std.chars
+    /// [next_lo]: crate::contracts#pm_span.Files.next_lo
+    /// [length]: crate::contracts#std.length
+    /// [IsWholeLiteral]: crate::contracts#pm_token.LiteralText.IsWholeLiteral
+    /// [IsTrue]: crate::contracts#std.IsTrue
+    /// [was_read]: crate::contracts#pm_token.Outcome.was_read
+    /// [Fits]: crate::contracts#pm_span.Files.Fits
+    /// [IfErr]: crate::contracts#std.IfErr
+    /// [IfLex]: crate::contracts#pm_token.Outcome.IfLex
+    /// [nowhere]: crate::contracts#pm_span.Extent.nowhere
+    /// [MatchResult]: crate::contracts#std.MatchResult
+    /// [Holds]: crate::contracts#pm_span.Files.Holds
+    /// [Err]: crate::contracts#std.Err
+    /// [with_file]: crate::contracts#pm_span.Files.with_file
     pub fn from_str(text: &str, map: &mut SourceMap) -> Result<Literal, ParseError>
     {
         let Some(lo) = fits(map, text) else {
@@ -44,6 +75,17 @@ impl Literal {
 
     /// The literal of this text, which is a whole one (`is_whole`), with the span 0..0. Fails where
     /// memory runs out. For `1.5` it is `1.5`.
+    ///
+    /// # Contract
+    ///
+    /// - `requires`: <code>[IsWholeLiteral] ([chars] text.now)</code>
+    /// - `ensures ok`: <code>[IfOk] result (λ literal. literal ≡ record { text = [chars] text.now; span = [nowhere]
+    ///   })</code>
+    ///
+    /// [IsWholeLiteral]: crate::contracts#pm_token.LiteralText.IsWholeLiteral
+    /// [chars]: crate::contracts#std.chars
+    /// [IfOk]: crate::contracts#std.IfOk
+    /// [nowhere]: crate::contracts#pm_span.Extent.nowhere
     pub fn from_str_unchecked(text: &str) -> Result<Literal, AllocError>
     {
         Literal::from_parts(text, Span::call_site())
@@ -52,6 +94,14 @@ impl Literal {
     /// Whether the text is a literal, or `-` and one that begins with a digit (`whole-literal`):
     /// the texts that `from_str` accepts. It is so of `1u8`, `-0.1` and `"a"`, and not of `- 1`,
     /// `1 ` or `-""`.
+    ///
+    /// # Contract
+    ///
+    /// - `ensures`: <code>[IsTrue] result ↔ [IsWholeLiteral] ([chars] text.now)</code>
+    ///
+    /// [IsTrue]: crate::contracts#std.IsTrue
+    /// [IsWholeLiteral]: crate::contracts#pm_token.LiteralText.IsWholeLiteral
+    /// [chars]: crate::contracts#std.chars
     pub fn is_whole(text: &str) -> bool
     {
         match behind_minus(text) {

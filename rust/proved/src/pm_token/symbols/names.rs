@@ -47,6 +47,13 @@ pub struct Name {
 
 impl Name {
     /// Keeps a copy of the name. Fails where memory runs out.
+    ///
+    /// # Contract
+    ///
+    /// - `ensures ok`: <code>[IfOk] result (λ kept. kept ≡ record { name = [chars] name.now; raw = raw })</code>
+    ///
+    /// [IfOk]: crate::contracts#std.IfOk
+    /// [chars]: crate::contracts#std.chars
     #[inline(always)]
     pub fn new(name: &str, raw: bool) -> Result<Name, AllocError>
     {
@@ -59,6 +66,12 @@ impl Name {
     }
 
     /// The name, without `r#`.
+    ///
+    /// # Contract
+    ///
+    /// - `ensures`: <code>[chars] result.now ≡ self.now.name</code>
+    ///
+    /// [chars]: crate::contracts#std.chars
     #[inline(always)]
     pub fn as_str(&self) -> &str
     {
@@ -69,6 +82,14 @@ impl Name {
     }
 
     /// The bytes of the name, without `r#`. Names are compared by them.
+    ///
+    /// # Contract
+    ///
+    /// - `ensures value`: <code>[chars] result.now ≡ self.now.name</code>
+    /// - `ensures utf8`: <code>[IsUtf8] result.now</code>
+    ///
+    /// [chars]: crate::contracts#std.chars
+    /// [IsUtf8]: crate::contracts#std.IsUtf8
     #[inline(always)]
     pub fn as_bytes(&self) -> &[u8]
     {
@@ -79,6 +100,16 @@ impl Name {
     }
 
     /// The bytes of a short plain name, and `None` of another.
+    ///
+    /// # Contract
+    ///
+    /// - `ensures`: <code>[IfSome] result (λ bytes. ([chars] bytes.now ≡ self.now.name) × [IsUtf8] bytes.now ×
+    ///   (self.now.raw ≡ [false]))</code>
+    ///
+    /// [IfSome]: crate::contracts#std.IfSome
+    /// [chars]: crate::contracts#std.chars
+    /// [IsUtf8]: crate::contracts#std.IsUtf8
+    /// [false]: crate::contracts#std.false
     #[inline(always)]
     pub fn plain_bytes(&self) -> Option<&[u8]>
     {
@@ -89,6 +120,12 @@ impl Name {
     }
 
     /// Whether both are the same name, and both are raw or both plain.
+    ///
+    /// # Contract
+    ///
+    /// - `ensures`: <code>[IsTrue] result ↔ (self.now ≡ other.now)</code>
+    ///
+    /// [IsTrue]: crate::contracts#std.IsTrue
     #[inline(always)]
     pub fn same(&self, other: &Name) -> bool
     {
@@ -106,6 +143,10 @@ impl Name {
     }
 
     /// Whether it is raw.
+    ///
+    /// # Contract
+    ///
+    /// - `ensures`: <code>result ≡ self.now.raw</code>
     #[inline(always)]
     pub fn is_raw(&self) -> bool
     {

@@ -6,6 +6,16 @@ use crate::shim::prelude::{Grow, GrowList, GrowText};
 use crate::shim::alloc::AllocError;
 
 /// The content of a raw string.
+///
+/// # Contract
+///
+/// - `ensures ok`: <code>[IfOk] result (λ value. [text_of] value ≡ [chars] content.now)</code>
+/// - `ensures memory`: <code>[chars] content.now ≡ \[\] → [IsOk] result</code>
+///
+/// [IfOk]: crate::contracts#std.IfOk
+/// [text_of]: crate::contracts#pm_token.Value.text_of
+/// [chars]: crate::contracts#std.chars
+/// [IsOk]: crate::contracts#std.IsOk
 pub fn raw_string(content: &str) -> Result<String, AllocError>
 {
     let mut value = String::new();
@@ -14,6 +24,17 @@ pub fn raw_string(content: &str) -> Result<String, AllocError>
 }
 
 /// The bytes of the content of a raw byte string.
+///
+/// # Contract
+///
+/// - `ensures ok`: <code>[IfOk] result (λ value. [bytes_of] value ≡ [encode_utf8_all] ([chars] content.now))</code>
+/// - `ensures memory`: <code>[encode_utf8_all] ([chars] content.now) ≡ \[\] → [IsOk] result</code>
+///
+/// [IfOk]: crate::contracts#std.IfOk
+/// [bytes_of]: crate::contracts#pm_token.Value.bytes_of
+/// [encode_utf8_all]: crate::contracts#std.encode_utf8_all
+/// [chars]: crate::contracts#std.chars
+/// [IsOk]: crate::contracts#std.IsOk
 pub fn raw_bytes(content: &str) -> Result<Vec<u8>, AllocError>
 {
     let mut value = Vec::new();
@@ -22,6 +43,17 @@ pub fn raw_bytes(content: &str) -> Result<Vec<u8>, AllocError>
 }
 
 /// The bytes of the content of a raw C string, and a zero byte.
+///
+/// # Contract
+///
+/// - `ensures`: <code>[IfOk] result (λ value. [bytes_of] value ≡ [ended] ([encode_utf8_all] ([chars]
+///   content.now)))</code>
+///
+/// [IfOk]: crate::contracts#std.IfOk
+/// [bytes_of]: crate::contracts#pm_token.Value.bytes_of
+/// [ended]: crate::contracts#pm_token.Value.ended
+/// [encode_utf8_all]: crate::contracts#std.encode_utf8_all
+/// [chars]: crate::contracts#std.chars
 pub fn raw_c_string(content: &str) -> Result<Vec<u8>, AllocError>
 {
     let mut value = Vec::with_capacity_fallibly(content.len().saturating_add(1))?;

@@ -6,6 +6,13 @@ use crate::pm_token::literals::values::content::single_content;
 use crate::literal_escaper::{unescape_byte, unescape_char};
 
 /// The unit between the quotes of a character's text, by the rule `character-value`.
+///
+/// # Contract
+///
+/// - `ensures`: <code>result ≡ [char_value] ([chars] text.now)</code>
+///
+/// [char_value]: crate::contracts#pm_token.SingleValue.char_value
+/// [chars]: crate::contracts#std.chars
 pub fn character_of(text: &str) -> Result<char, ConversionErrorKind>
 {
     match single_content(text, "'") {
@@ -15,6 +22,13 @@ pub fn character_of(text: &str) -> Result<char, ConversionErrorKind>
 }
 
 /// The unit between the quotes of a byte's text, by the rule `byte-value`.
+///
+/// # Contract
+///
+/// - `ensures`: <code>result ≡ [byte_value] ([chars] text.now)</code>
+///
+/// [byte_value]: crate::contracts#pm_token.SingleValue.byte_value
+/// [chars]: crate::contracts#std.chars
 pub fn byte_of(text: &str) -> Result<u8, ConversionErrorKind>
 {
     match single_content(text, "b'") {

@@ -24,6 +24,23 @@ fn push_char(text: &mut String, c: char) -> Result<(), AllocError>
 }
 
 /// The characters of a string's content, joined.
+///
+/// # Contract
+///
+/// - `ensures value`: <code>[Answers] [text_of] ([value_from] ([Some] ([units] [string_kind] ([chars] content.now)))
+///   [None]) result</code>
+/// - `ensures memory`: <code>[units] [string_kind] ([chars] content.now) ≡ [Ok] \[\] → [IsOk] result</code>
+///
+/// [Answers]: crate::contracts#pm_token.Value.Answers
+/// [text_of]: crate::contracts#pm_token.Value.text_of
+/// [value_from]: crate::contracts#pm_token.Value.value_from
+/// [Some]: crate::contracts#std.Some
+/// [units]: crate::contracts#pm_token.Value.units
+/// [string_kind]: crate::contracts#literal_escaper.Kind.string_kind
+/// [chars]: crate::contracts#std.chars
+/// [None]: crate::contracts#std.None
+/// [Ok]: crate::contracts#std.Ok
+/// [IsOk]: crate::contracts#std.IsOk
 pub fn unescaped_string(content: &str) -> Result<String, ConversionErrorKind>
 {
     let mut value = String::new();
@@ -41,6 +58,23 @@ pub fn unescaped_string(content: &str) -> Result<String, ConversionErrorKind>
 }
 
 /// The bytes of a byte string's content, joined.
+///
+/// # Contract
+///
+/// - `ensures value`: <code>[Answers] [bytes_of] ([value_from] ([Some] ([units] [byte_kind] ([chars] content.now)))
+///   [None]) result</code>
+/// - `ensures memory`: <code>[units] [byte_kind] ([chars] content.now) ≡ [Ok] \[\] → [IsOk] result</code>
+///
+/// [Answers]: crate::contracts#pm_token.Value.Answers
+/// [bytes_of]: crate::contracts#pm_token.Value.bytes_of
+/// [value_from]: crate::contracts#pm_token.Value.value_from
+/// [Some]: crate::contracts#std.Some
+/// [units]: crate::contracts#pm_token.Value.units
+/// [byte_kind]: crate::contracts#literal_escaper.Kind.byte_kind
+/// [chars]: crate::contracts#std.chars
+/// [None]: crate::contracts#std.None
+/// [Ok]: crate::contracts#std.Ok
+/// [IsOk]: crate::contracts#std.IsOk
 pub fn unescaped_bytes(content: &str) -> Result<Vec<u8>, ConversionErrorKind>
 {
     let mut value = Vec::new();
@@ -70,6 +104,21 @@ fn push_unit(bytes: &mut Vec<u8>, unit: MixedUnit) -> Result<(), AllocError>
 }
 
 /// The bytes of a C string's content, joined, and a zero byte.
+///
+/// # Contract
+///
+/// - `ensures`: <code>[Answers] [bytes_of] ([value_from] ([Some] ([c_bytes] ([units] [c_kind] ([chars] content.now))))
+///   [None]) result</code>
+///
+/// [Answers]: crate::contracts#pm_token.Value.Answers
+/// [bytes_of]: crate::contracts#pm_token.Value.bytes_of
+/// [value_from]: crate::contracts#pm_token.Value.value_from
+/// [Some]: crate::contracts#std.Some
+/// [c_bytes]: crate::contracts#pm_token.Value.c_bytes
+/// [units]: crate::contracts#pm_token.Value.units
+/// [c_kind]: crate::contracts#literal_escaper.Kind.c_kind
+/// [chars]: crate::contracts#std.chars
+/// [None]: crate::contracts#std.None
 pub fn unescaped_c_string(content: &str) -> Result<Vec<u8>, ConversionErrorKind>
 {
     let mut value = Vec::with_capacity_fallibly(content.len().saturating_add(1))?;
