@@ -3,26 +3,10 @@ use crate::extra::DelimSpan;
 use crate::map::sure;
 use crate::repr::{show, token, Repr};
 use crate::span::Repr as SpanRepr;
-use crate::{compiler, print, Delimiter, Span, TokenStream};
+use crate::{compiler, print, Delimiter, Group, Span, TokenStream};
 use proc_macro::Delimiter as CompilerDelimiter;
 use proved_tokens::pm_stream::Group as Own;
 use std::fmt::{self, Debug, Display};
-
-/// Trees between delimiters.
-///
-/// ```
-/// use proc_macro2::{Delimiter, Group};
-///
-/// let group = Group::new(Delimiter::Bracket, "1, 2".parse()?);
-/// assert_eq!(group.to_string(), "[1 , 2]");
-/// assert_eq!(group.delimiter(), Delimiter::Bracket);
-/// assert_eq!(group.stream().to_string(), "1 , 2");
-/// # Ok::<(), proc_macro2::LexError>(())
-/// ```
-#[derive(Clone)]
-pub struct Group {
-    pub(crate) repr: Repr<proc_macro::Group, Own>,
-}
 
 token!(Group, Own);
 

@@ -2,29 +2,12 @@
 use crate::compiler::inside_alone;
 use crate::repr::{token, Repr};
 use crate::span::Repr as SpanRepr;
-use crate::{compiler, print, Span};
+use crate::{compiler, print, Ident, Span};
 use proved_tokens::pm_span::Span as Place;
 use proved_tokens::pm_token::{Ident as Own, IdentError};
 use std::cmp::Ordering;
 use std::fmt::{self, Debug, Display};
 use std::hash::{Hash, Hasher};
-
-/// An identifier or a keyword, raw or plain.
-///
-/// A lifetime is none: it is the mark `'` and an identifier. `true` and `false` are identifiers.
-///
-/// ```
-/// use proc_macro2::{Ident, Span};
-///
-/// let name = Ident::new("match", Span::call_site());
-/// let raw = Ident::new_raw("match", Span::call_site());
-/// assert_eq!(raw.to_string(), "r#match");
-/// assert!(name == "match" && raw == "r#match" && name != raw);
-/// ```
-#[derive(Clone)]
-pub struct Ident {
-    pub(crate) repr: Repr<proc_macro::Ident, Own>,
-}
 
 token!(Ident, Own);
 

@@ -1,21 +1,9 @@
 //! Why a text is refused.
 use crate::repr::{show, Repr};
-use crate::Span;
+use crate::{LexError, Span};
 use proved_tokens::pm_span::Span as Place;
 use std::error::Error;
 use std::fmt::{self, Debug, Display};
-
-/// A text that couldn't be read.
-///
-/// ```
-/// use proc_macro2::TokenStream;
-///
-/// let error = "f(x))".parse::<TokenStream>().unwrap_err();
-/// assert_eq!(error.to_string(), "cannot parse string into token stream");
-/// ```
-pub struct LexError {
-    repr: Repr<proc_macro::LexError, Place>,
-}
 
 impl LexError {
     pub(crate) fn compiler(error: proc_macro::LexError) -> LexError {

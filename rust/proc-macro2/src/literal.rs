@@ -2,7 +2,7 @@
 use crate::map::{self, sure};
 use crate::repr::{show, token, Repr};
 use crate::span::Repr as SpanRepr;
-use crate::{compiler, print, LexError, Span};
+use crate::{compiler, print, LexError, Literal, Span};
 use proved_tokens::pm_span::Span as Place;
 use proved_tokens::pm_token::Literal as Own;
 use proved_tokens::shim;
@@ -12,21 +12,6 @@ use std::ffi::CStr;
 use std::fmt::{self, Debug, Display};
 use std::ops::RangeBounds;
 use std::str::FromStr;
-
-/// A literal: a string, a character, a number, by its text.
-///
-/// ```
-/// use proc_macro2::Literal;
-///
-/// assert_eq!(Literal::string("one\ttwo").to_string(), r#""one\ttwo""#);
-/// assert_eq!(Literal::u8_suffixed(7).to_string(), "7u8");
-/// assert_eq!(Literal::f64_unsuffixed(1.0).to_string(), "1.0");
-/// assert_eq!(Literal::byte_string(b"\0a").to_string(), r#"b"\0a""#);
-/// assert_eq!(Literal::c_string(c"a").to_string(), r#"c"a""#);
-/// ```
-pub struct Literal {
-    pub(crate) repr: Repr<proc_macro::Literal, Own>,
-}
 
 token!(Literal, Own);
 

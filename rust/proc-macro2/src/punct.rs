@@ -1,24 +1,9 @@
 //! Punctuation marks.
 use crate::repr::{token, Repr};
 use crate::span::Repr as SpanRepr;
-use crate::{compiler, Spacing, Span};
+use crate::{compiler, Punct, Spacing, Span};
 use proved_tokens::pm_token::Punct as Own;
 use std::fmt::{self, Debug, Display};
-
-/// A punctuation mark, which is one character.
-///
-/// ```
-/// use proc_macro2::{Punct, Spacing, TokenStream, TokenTree};
-///
-/// let plus = Punct::new('+', Spacing::Joint);
-/// let equals = Punct::new('=', Spacing::Alone);
-/// let stream: TokenStream = [plus, equals].into_iter().map(TokenTree::Punct).collect();
-/// assert_eq!(stream.to_string(), "+=");
-/// ```
-#[derive(Clone)]
-pub struct Punct {
-    pub(crate) repr: Repr<proc_macro::Punct, Own>,
-}
 
 token!(Punct, Own);
 

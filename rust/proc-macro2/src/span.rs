@@ -1,25 +1,9 @@
 //! Where tokens stand.
-use crate::compiler;
 use crate::map::{self, sure};
+use crate::{compiler, Span};
 use proved_tokens::pm_span::Span as Place;
 use proved_tokens::pm_token::parts::show_span;
 use std::fmt::{self, Debug};
-
-/// Where a token stands, and inside a macro how its names are resolved.
-///
-/// ```
-/// use proc_macro2::{Ident, Span, TokenStream};
-///
-/// let stream: TokenStream = "a\n  é.b".parse()?;
-/// let last = stream.into_iter().last().expect("it has four trees");
-/// let same_place = Ident::new("c", last.span());
-/// assert_eq!(format!("{:?}", same_place.span()), format!("{:?}", last.span()));
-/// # Ok::<(), proc_macro2::LexError>(())
-/// ```
-#[derive(Clone, Copy)]
-pub struct Span {
-    pub(crate) repr: Repr,
-}
 
 #[derive(Clone, Copy)]
 pub(crate) enum Repr {

@@ -3,25 +3,10 @@ use crate::compiler::{self, inside_alone};
 use crate::map::{self, sure};
 use crate::print::ShownStream;
 use crate::repr::{show, Repr};
-use crate::{Group, Ident, LexError, Literal, Punct, TokenTree};
+use crate::{Group, Ident, LexError, Literal, Punct, TokenStream, TokenTree};
 use proved_tokens::pm_stream::{parts, token_stream::IntoIter as OwnIter, TokenStream as Own, TokenTree as OwnTree};
 use std::fmt::{self, Debug, Display};
 use std::str::FromStr;
-
-/// Token trees in order, each a token or a group of trees between delimiters.
-///
-/// ```
-/// use proc_macro2::TokenStream;
-///
-/// let stream: TokenStream = "fn f(x: u8) { /* nothing */ }".parse()?;
-/// assert_eq!(stream.to_string(), "fn f (x : u8) { }");
-/// assert_eq!(stream.into_iter().count(), 4);
-/// # Ok::<(), proc_macro2::LexError>(())
-/// ```
-#[derive(Clone)]
-pub struct TokenStream {
-    pub(crate) repr: Repr<compiler::Stream, Own>,
-}
 
 impl TokenStream {
     /// A stream with no trees.

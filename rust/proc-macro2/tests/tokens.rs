@@ -32,6 +32,22 @@ fn texts_are_read_and_printed() {
 }
 
 #[test]
+fn types_have_the_names_of_the_public_crates() {
+    let names = [
+        std::any::type_name::<TokenStream>(),
+        std::any::type_name::<TokenTree>(),
+        std::any::type_name::<Group>(),
+        std::any::type_name::<Ident>(),
+        std::any::type_name::<Punct>(),
+        std::any::type_name::<Literal>(),
+        std::any::type_name::<Span>(),
+        std::any::type_name::<proc_macro2::LexError>(),
+    ];
+    let wanted = ["TokenStream", "TokenTree", "Group", "Ident", "Punct", "Literal", "Span", "LexError"];
+    assert_eq!(names, wanted.map(|name| format!("proc_macro2::{name}")));
+}
+
+#[test]
 fn trees_are_walked() {
     let mut trees = parse("a (b {c}) + 1").into_iter();
     assert_eq!(trees.size_hint(), (4, Some(4)));
