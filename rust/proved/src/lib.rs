@@ -14,7 +14,7 @@
 //! You want to | Feature | Look at
 //! ---|---|---
 //! read a text, and know where each token is | – | [`TokenStream`], [`SourceMap`], [`Span`]
-//! go through all tokens of a stream, at all depths | – | [`walk`]
+//! go through all tokens of a stream, at all depths | – | [`TokenStream::walk`], [`walk`]
 //! build a stream, by `collect`, `extend` or `from` | – | [`TokenStream`], [`Ident`], [`Literal`], [`Group`], [`Punct`]
 //! read comments and white space, or what a literal stands for | – | [`text`]
 //! tell errors apart | – | [`error`]
@@ -23,6 +23,35 @@
 //! print code for people, or change white space alone | `print` | [`print`](print/index.html)
 //! say why a text does not parse | `check` | [`check`](check/index.html)
 //! look through the tokens of a text fast, without trees | `cursor` | [`cursor`](cursor/index.html)
+//!
+//! # A program
+//!
+//! With the feature `items` this program lists the functions of a file, but for those inside of other items, each with
+//! its line and column. Then it builds a stream of their names and prints it.
+//!
+//! ```
+//! # #[cfg(feature = "items")] {
+//! use proved_tokens::items::{parse_file, ItemKind};
+//! use proved_tokens::{SourceMap, TokenStream, TokenTree};
+//!
+//! let text = std::fs::read_to_string("src/pretty_printer.rs")?;
+//! let mut map = SourceMap::new();
+//! let stream = TokenStream::from_str(&text, &mut map)?;
+//! let mut names = Vec::new();
+//! for item in parse_file(stream.trees())?.items {
+//!     let item = item?;
+//!     if let (ItemKind::Function, Some(name)) = (item.kind, item.name) {
+//!         let start = name.span().start(&map); // lines count from 1, columns from 0, in characters
+//!         println!("{}:{} {name}", start.line, start.column);
+//!         names.push(TokenTree::from(name.clone()));
+//!     }
+//! }
+//! let names: TokenStream = names.into_iter().collect();
+//! println!("{names}");
+//! # assert!(names.to_string().contains("to_pretty_string"));
+//! # }
+//! # Ok::<(), Box<dyn std::error::Error>>(())
+//! ```
 //!
 //! # Features
 //!
