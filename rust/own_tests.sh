@@ -23,10 +23,14 @@ trap 'rm -rf "$room"' EXIT
 # What is built of no crate under test serves both sides.
 export CARGO_TARGET_DIR=$room/target INSTA_UPDATE=no
 
-# Takes a file of tests of this crate away, for this reason.
+# Takes a file of tests of this crate away, and what its manifest says of it, for this reason.
 leave_out() {
-    local name=$1 file=$2 reason=$3
+    local name=$1 file=$2 reason=$3 manifest
+    manifest=$(dirname "$file")/../Cargo.toml
     rm "$file"
+    awk -v RS= -v ORS='\n\n' -v path="\"tests/$(basename "$file")\"" \
+        '!/^\[\[test\]\]/ || !index($0, path)' "$manifest" > "$manifest.left"
+    mv "$manifest.left" "$manifest"
     echo "$name/tests/$(basename "$file") $reason: left out on both sides"
 }
 
@@ -60,7 +64,7 @@ END
         rm -rf "$room/$name"/tests/{repo,common}
         # Items that are configured out, which newer compilers refuse to read all the same.
         sed -i '/^ *#\[cfg(any())\]$/,/^ *impl.*{}$/d' "$room/$name"/tests/*.rs
-        for wanted in $(sed -n 's/^\[dev-dependencies\.\(.*\)\]$/\1/p' "$room/$name/Cargo.toml"); do
+        for wanted in $(sed -nE 's/^\[(target\..*\.)?dev-dependencies\.(.*)\]$/\2/p' "$room/$name/Cargo.toml"); do
             if ! compgen -G "$registry/$wanted-[0-9]*" > /dev/null; then
                 for file in "$room/$name"/tests/*.rs; do
                     wants "${wanted//-/_}" "$file" && leave_out $name "$file" "wants $wanted"
@@ -69,7 +73,7 @@ END
                 continue
             fi
             # No test that is left wants it.
-            sed -i "/^\[dev-dependencies\.$wanted\]$/,/^$/d" "$room/$name/Cargo.toml"
+            sed -i -E "/^\[(target\..*\.)?dev-dependencies\.$wanted\]$/,/^$/d" "$room/$name/Cargo.toml"
         done
         sed -i '/^\[\[bench\]\]$/,/^$/d' "$room/$name/Cargo.toml"
         rm -rf "$room/$name/benches"
