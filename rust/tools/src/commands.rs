@@ -3,7 +3,7 @@
 //! A command does what the program of its crate does: `tokens find` what `find_calls` does, `tokens check` what
 //! `rust_check` does, `tokens print` and `tokens spans` what `tokens` does, and each other what the program of its own
 //! name does. Each module below is by hand: it does what `main.rt` of that crate does, over the streams and files of
-//! [`proved_tokens::shim::process`].
+//! Rust's `std`.
 
 mod check;
 mod find;
