@@ -93,7 +93,8 @@ class Words:
                 crate = of
                 title = "Words of Rattle's own library" if crate == 'std' else f'Words of `{crate}`'
                 out += ['//!', f'//! # {title}', '//!']
-            text = ''.join(part if number % 2 else escaped(part) for number, part in enumerate(re.split('(`.*?`)', line)))
+            parts = enumerate(re.split('(`.*?`)', line))
+            text = ''.join(part if number % 2 else escaped(part).replace("\\'", "'") for number, part in parts)
             out += wrapped(f'- <a id="{module}.{name}"></a>**{escaped(name)}**: {text}', '//! ')
         return '\n'.join(out) + '\n'
 

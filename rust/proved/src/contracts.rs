@@ -33,7 +33,7 @@
 //! - <a id="std.All"></a>**All**: the fact holds of each element of the list
 //! - <a id="std.Bool"></a>**Bool**: `true` or `false`
 //! - <a id="std.Err"></a>**Err**: the error of a `Result`
-//! - <a id="std.ExtendsWithItems"></a>**ExtendsWithItems**: the iterator\'s items extend the collection, and where the
+//! - <a id="std.ExtendsWithItems"></a>**ExtendsWithItems**: the iterator's items extend the collection, and where the
 //!   call returns `Ok` they are all of its items
 //! - <a id="std.IfErr"></a>**IfErr**: if the result is an error, the fact holds of that error
 //! - <a id="std.IfNone"></a>**IfNone**: if there is no value, the fact holds
@@ -56,7 +56,7 @@
 //! - <a id="std.OnOk"></a>**OnOk**: if the result is `Ok`, the fact holds
 //! - <a id="std.Option"></a>**Option**: a value or none
 //! - <a id="std.Some"></a>**Some**: a value
-//! - <a id="std.SomeIff"></a>**SomeIff**: `Some` of this value if the fact holds, and `None` if it doesn\'t
+//! - <a id="std.SomeIff"></a>**SomeIff**: `Some` of this value if the fact holds, and `None` if it doesn't
 //! - <a id="std.WritesOnOk"></a>**WritesOnOk**: if the formatter has no width or other options and the result is `Ok`,
 //!   exactly these bytes were written
 //! - <a id="std.YieldsFirst"></a>**YieldsFirst**: the answer is the first of what was left, and the others are left; or
@@ -101,7 +101,7 @@
 //! - <a id="declarations.Reading.FaultAt"></a>**FaultAt**: nothing is read, and so many trees are the longest front
 //!   that some trees could follow for something to be read
 //! - <a id="declarations.File.FileFaultAt"></a>**FileFaultAt**: the fault of a file is that of its inner attributes, or
-//!   that of the first item that isn\'t read
+//!   that of the first item that isn't read
 //! - <a id="declarations.Field.HasFieldParts"></a>**HasFieldParts**: the trees are a field with a name, and these are
 //!   its parts: a name, `:` and a type stand after its visibility
 //! - <a id="declarations.Field.HasTypeParts"></a>**HasTypeParts**: the trees are a field without a name, and these are
@@ -145,12 +145,12 @@
 //!   are no generics
 //! - <a id="declarations.List.ListsFields"></a>**ListsFields**: the list reads the fields that a struct or a variant
 //!   has
-//! - <a id="declarations.Param.ParamTrees"></a>**ParamTrees**: the trees of a parameter\'s parts
-//! - <a id="declarations.Param.PredicateTrees"></a>**PredicateTrees**: the trees of a predicate\'s parts
+//! - <a id="declarations.Param.ParamTrees"></a>**ParamTrees**: the trees of a parameter's parts
+//! - <a id="declarations.Param.PredicateTrees"></a>**PredicateTrees**: the trees of a predicate's parts
 //! - <a id="declarations.Reading.Reads"></a>**Reads**: the part stands at the front of the trees as the form says, and
 //!   the rest follows it. Each tree is in one of them
 //! - <a id="declarations.Whole.ReadsAll"></a>**ReadsAll**: all the trees are one part of that form
-//! - <a id="declarations.Kind.Tells"></a>**Tells**: the walk over an item\'s signs, which the rest follows, ends where
+//! - <a id="declarations.Kind.Tells"></a>**Tells**: the walk over an item's signs, which the rest follows, ends where
 //!   an item of this kind does, and takes this name
 //! - <a id="declarations.Attribute.after_path"></a>**after_path**: the trees after the path at the front
 //! - <a id="declarations.Attribute.attributes_in"></a>**attributes_in**: the attributes at the front of trees, up to
@@ -164,15 +164,15 @@
 //!   trees end before it
 //! - <a id="declarations.Fault.fault_text"></a>**fault_text**: the sentence for a fault at a tree with this span, or at
 //!   the end of the trees
-//! - <a id="declarations.Attribute.inside"></a>**inside**: the trees in the attribute\'s brackets
-//! - <a id="declarations.Item.is_keyword"></a>**is_keyword**: an identifier that can\'t be a name
+//! - <a id="declarations.Attribute.inside"></a>**inside**: the trees in the attribute's brackets
+//! - <a id="declarations.Item.is_keyword"></a>**is_keyword**: an identifier that can't be a name
 //! - <a id="declarations.Attribute.is_word"></a>**is_word**: the trees are one identifier, written so
-//! - <a id="declarations.Grammar.names"></a>**names**: whether a sign of this class is an item\'s name
-//! - <a id="declarations.Param.param_trees"></a>**param_trees**: the trees of a parameter\'s parts, as the library
-//!   gives them
-//! - <a id="declarations.Attribute.parts_of"></a>**parts_of**: the trees of an attribute\'s parts
+//! - <a id="declarations.Grammar.names"></a>**names**: whether a sign of this class is an item's name
+//! - <a id="declarations.Param.param_trees"></a>**param_trees**: the trees of a parameter's parts, as the library gives
+//!   them
+//! - <a id="declarations.Attribute.parts_of"></a>**parts_of**: the trees of an attribute's parts
 //! - <a id="declarations.Attribute.path_of"></a>**path_of**: the path at the front of the trees
-//! - <a id="declarations.Param.predicate_trees"></a>**predicate_trees**: the trees of a predicate\'s parts, as the
+//! - <a id="declarations.Param.predicate_trees"></a>**predicate_trees**: the trees of a predicate's parts, as the
 //!   library gives them
 //! - <a id="declarations.Grammar.step"></a>**step**: the place of the grammar that a sign leads to, or nothing where it
 //!   may not stand
@@ -203,12 +203,12 @@
 //! - <a id="explain.Open.Loses"></a>**Loses**: the first list is the second and then the innermost opener, if there is
 //!   one; else both are empty
 //! - <a id="explain.Explained.Parses"></a>**Parses**: some stream is what the source parses to
-//! - <a id="explain.Open.Refuses"></a>**Refuses**: a closer of the delimiter can\'t stand where the innermost opener is
+//! - <a id="explain.Open.Refuses"></a>**Refuses**: a closer of the delimiter can't stand where the innermost opener is
 //!   this one, for the reason that is given
 //! - <a id="explain.Open.Steps"></a>**Steps**: from one list of openers the events lead to the other
 //! - <a id="explain.Open.WaitsAs"></a>**WaitsAs**: the open groups are those of the list and then the innermost, if
 //!   there is one; else none is open
-//! - <a id="explain.Shapes.closed_body"></a>**closed_body**: pairs of a string\'s body up to the first `"` that is in
+//! - <a id="explain.Shapes.closed_body"></a>**closed_body**: pairs of a string's body up to the first `"` that is in
 //!   none of them
 //! - <a id="explain.Shapes.closed_character"></a>**closed_character**: a character literal that ends, whatever stands
 //!   in it
@@ -225,9 +225,9 @@
 //!
 //! # Words of `item_headers`
 //!
-//! - <a id="item_headers.Fault.HasNoParams"></a>**HasNoParams**: the trees aren\'t the generic parameters of an item
-//! - <a id="item_headers.Fault.HasNoPredicates"></a>**HasNoPredicates**: the trees aren\'t the where clause of an item
-//! - <a id="item_headers.Fault.HasNotBoth"></a>**HasNotBoth**: the trees aren\'t the generic parameters and the where
+//! - <a id="item_headers.Fault.HasNoParams"></a>**HasNoParams**: the trees aren't the generic parameters of an item
+//! - <a id="item_headers.Fault.HasNoPredicates"></a>**HasNoPredicates**: the trees aren't the where clause of an item
+//! - <a id="item_headers.Fault.HasNotBoth"></a>**HasNotBoth**: the trees aren't the generic parameters and the where
 //!   clause of an item
 //! - <a id="item_headers.Header.HasParams"></a>**HasParams**: these are all the parameters in the brackets
 //! - <a id="item_headers.Header.HasPredicates"></a>**HasPredicates**: these are all the predicates of the clause
@@ -237,16 +237,15 @@
 //! - <a id="item_headers.Message.header_span"></a>**header_span**: the span of the fault
 //! - <a id="item_headers.Header.impl_generics"></a>**impl_generics**: `<'a, T: A, const N: usize>`: the parameters
 //!   without defaults; nothing where there are none
-//! - <a id="item_headers.Header.turbofish"></a>**turbofish**: `::<'a, T, N>`: the parameters\' names, as in an
+//! - <a id="item_headers.Header.turbofish"></a>**turbofish**: `::<'a, T, N>`: the parameters' names, as in an
 //!   expression
-//! - <a id="item_headers.Header.type_generics"></a>**type_generics**: `<'a, T, N>`: the parameters\' names, as in a
-//!   type
+//! - <a id="item_headers.Header.type_generics"></a>**type_generics**: `<'a, T, N>`: the parameters' names, as in a type
 //! - <a id="item_headers.Header.where_with"></a>**where_with**: `where` and the predicates, the written ones and then
 //!   more; nothing where there are none
 //!
 //! # Words of `layout`
 //!
-//! - <a id="layout.Layout.IsLayout"></a>**IsLayout**: `layout`: the text is the stream\'s tokens and delimiters in
+//! - <a id="layout.Layout.IsLayout"></a>**IsLayout**: `layout`: the text is the stream's tokens and delimiters in
 //!   order, with gaps that may stand there, and one at the end
 //! - <a id="layout.Writing.IsNoWrite"></a>**IsNoWrite**: the error is not that of a writer
 //! - <a id="layout.Written.IsWritten"></a>**IsWritten**: a text is what the stream and the gaps that a chooser gave
@@ -282,7 +281,7 @@
 //! - <a id="lexical.Found.IsAt"></a>**IsAt**: a piece of the form stands at the front of the text, and takes so many
 //!   bytes
 //! - <a id="lexical.Quick.IsLiteralAt"></a>**IsLiteralAt**: a piece of the kind Literal, of this extent, stands at the
-//!   front of the text, be it a source\'s front or not
+//!   front of the text, be it a source's front or not
 //! - <a id="lexical.Walk.IsNext"></a>**IsNext**: from one cursor to the other stands this piece, at its byte offset and
 //!   with its text; only the first stands at byte offset 0
 //! - <a id="lexical.WhiteRun.IsPastWhite"></a>**IsPastWhite**: so many white characters of ASCII stand at the front of
@@ -304,8 +303,8 @@
 //! - <a id="lexical.Step.Passes"></a>**Passes**: from one cursor to the other stands a piece of the rule
 //! - <a id="lexical.Walk.PassesWhite"></a>**PassesWhite**: from one cursor to the other stand these white characters of
 //!   ASCII, each a gap, and no other follows them
-//! - <a id="lexical.Step.Reads"></a>**Reads**: the step leads past the rule\'s piece, or fails where none stands
-//! - <a id="lexical.Rule.Run"></a>**Run**: all the characters that pass, up to one that doesn\'t
+//! - <a id="lexical.Step.Reads"></a>**Reads**: the step leads past the rule's piece, or fails where none stands
+//! - <a id="lexical.Rule.Run"></a>**Run**: all the characters that pass, up to one that doesn't
 //! - <a id="lexical.Rule.Stands"></a>**Stands**: what the rule says: the text p is a piece of it, before r
 //! - <a id="lexical.Quoted.Str"></a>**Str**: `string`: a literal between `"` and `"`, before a rest
 //! - <a id="lexical.PieceStep.Tells"></a>**Tells**: the kind of the comment p is the one that was found, or none where
@@ -452,7 +451,7 @@
 //! - <a id="pm_span.Files.Fits"></a>**Fits**: `fits`: a file of so many characters ends within the limit
 //! - <a id="pm_span.Lookup.HasBytes"></a>**HasBytes**: `byte-offset`: the byte offsets in its file at which the span
 //!   begins and ends
-//! - <a id="pm_span.Lookup.HasName"></a>**HasName**: `file-name`: the name of the span\'s file
+//! - <a id="pm_span.Lookup.HasName"></a>**HasName**: `file-name`: the name of the span's file
 //! - <a id="pm_span.Lookup.HasText"></a>**HasText**: `source-text`: the text of its file from where the span begins to
 //!   where it ends
 //! - <a id="pm_span.Files.Holds"></a>**Holds**: `holds`: some file of the map has all the positions of the span
@@ -476,7 +475,7 @@
 //! - <a id="pm_stream.Places.ArePlaced"></a>**ArePlaced**: the trees, with their places, are those of the stream that
 //!   the source parses to
 //! - <a id="pm_stream.InOrder.BeginsWithGroup"></a>**BeginsWithGroup**: the first of the trees is a group
-//! - <a id="pm_stream.Events.Closes"></a>**Closes**: a group\'s closer, with the position where the group ends
+//! - <a id="pm_stream.Events.Closes"></a>**Closes**: a group's closer, with the position where the group ends
 //! - <a id="pm_stream.Steps.Enter"></a>**Enter**: into this group; the other trees are those that follow it
 //! - <a id="pm_stream.Steps.EntersNext"></a>**EntersNext**: the first of the steps goes into a group
 //! - <a id="pm_stream.Parsing.FaultAt"></a>**FaultAt**: `fault`: the one position where a source fails to parse
@@ -494,24 +493,24 @@
 //!   depth
 //! - <a id="pm_stream.HeldSpans.HoldsEach"></a>**HoldsEach**: the map holds the span of each tree of the list, at any
 //!   depth
-//! - <a id="pm_stream.Forest.IsBuilt"></a>**IsBuilt**: `built`: each token is one of the grammar\'s, and no span ends
+//! - <a id="pm_stream.Forest.IsBuilt"></a>**IsBuilt**: `built`: each token is one of the grammar's, and no span ends
 //!   before it begins. Every stream is built
 //! - <a id="pm_stream.DocGroup.IsDocOf"></a>**IsDocOf**: the group is printed as `[doc = `, the text of a literal, and
 //!   `]`
 //! - <a id="pm_stream.Fault.IsFaultFor"></a>**IsFaultFor**: a fault at the position, for this reason, or want of memory
 //!   where there is no such reason
-//! - <a id="pm_stream.Parsing.IsOnlyFault"></a>**IsOnlyFault**: the source doesn\'t parse, and no other position is a
+//! - <a id="pm_stream.Parsing.IsOnlyFault"></a>**IsOnlyFault**: the source doesn't parse, and no other position is a
 //!   fault
 //! - <a id="pm_stream.Fault.IsOpenFault"></a>**IsOpenFault**: a fault where the innermost of the open groups begins, or
 //!   want of memory where none is open
-//! - <a id="pm_stream.Fault.IsStray"></a>**IsStray**: the piece is a closer that doesn\'t close the innermost of the
+//! - <a id="pm_stream.Fault.IsStray"></a>**IsStray**: the piece is a closer that doesn't close the innermost of the
 //!   groups
 //! - <a id="pm_stream.WellSpaced.IsWellSpaced"></a>**IsWellSpaced**: `well-spaced`: spacings fit what follows and each
 //!   group has delimiters, so that the printed text reads back
 //! - <a id="pm_stream.Steps.Leave"></a>**Leave**: out of this group; the other trees are those that follow it
-//! - <a id="pm_stream.OpenGroups.Opened"></a>**Opened**: a group that isn\'t closed: the trees before it, how it is
+//! - <a id="pm_stream.OpenGroups.Opened"></a>**Opened**: a group that isn't closed: the trees before it, how it is
 //!   delimited, and where it begins
-//! - <a id="pm_stream.Parsing.ParsesTo"></a>**ParsesTo**: `parses-to`: the stream\'s flattening is the expansion of a
+//! - <a id="pm_stream.Parsing.ParsesTo"></a>**ParsesTo**: `parses-to`: the stream's flattening is the expansion of a
 //!   cover of the source
 //! - <a id="pm_stream.PrintsText.PrintsText"></a>**PrintsText**: the bytes are the printed text of the stream that the
 //!   source parses to
@@ -585,7 +584,7 @@
 //!   literal of a character is one unit, the character
 //! - <a id="pm_token.ValueLaws.CharactersHaveUnits"></a>**CharactersHaveUnits**: what stands between the quotes of a
 //!   character literal is one unit, and without a suffix its value
-//! - <a id="pm_token.Outcome.IfLex"></a>**IfLex**: if the error is a fault of the text, this holds of the fault\'s span
+//! - <a id="pm_token.Outcome.IfLex"></a>**IfLex**: if the error is a fault of the text, this holds of the fault's span
 //! - <a id="pm_token.Built.IsBuiltToken"></a>**IsBuiltToken**: `built`: a name that is allowed, raw or plain; one of
 //!   the marks; or a `literal-token`. Names and literals are texts
 //! - <a id="pm_token.CString.IsCStringText"></a>**IsCStringText**: `c-string-text`: the literal of some bytes, none of
@@ -636,16 +635,16 @@
 //! - <a id="pm_token.CString.has_no_zero"></a>**has_no_zero**: whether no byte is zero
 //! - <a id="pm_token.IdentFault.ident_fault"></a>**ident_fault**: `identifier-fault`: the first reason why the text is
 //!   no name of an identifier, raw or plain
-//! - <a id="pm_token.Escaped.is_bare"></a>**is_bare**: `bare`: a character that prints, and past ASCII one that isn\'t
+//! - <a id="pm_token.Escaped.is_bare"></a>**is_bare**: `bare`: a character that prints, and past ASCII one that isn't
 //!   hidden
 //! - <a id="pm_token.Leaf.is_joint"></a>**is_joint**: whether the spacing is Joint
 //! - <a id="pm_token.Leaf.mark_token"></a>**mark_token**: the token that a mark is
-//! - <a id="pm_token.Negative.minus_of"></a>**minus_of**: the mark of a negative literal: `-` Alone, with the
-//!   literal\'s span
+//! - <a id="pm_token.Negative.minus_of"></a>**minus_of**: the mark of a negative literal: `-` Alone, with the literal's
+//!   span
 //! - <a id="pm_token.Spelling.name_text"></a>**name_text**: the characters of the identifier as it is written, with
 //!   `r#` if it is raw
 //! - <a id="pm_token.Leaf.name_token"></a>**name_token**: the token that an identifier is
-//! - <a id="pm_token.Negative.number_of"></a>**number_of**: the rest of a negative literal, with the literal\'s span
+//! - <a id="pm_token.Negative.number_of"></a>**number_of**: the rest of a negative literal, with the literal's span
 //! - <a id="pm_token.Content.raw_content"></a>**raw_content**: `raw-content`: that of what follows this front
 //! - <a id="pm_token.SingleValue.single_content"></a>**single_content**: `single-content`: behind this front, up to a
 //!   `'` that ends the text
@@ -669,13 +668,13 @@
 //! # Words of `proc_macro2`
 //!
 //! - <a id="proc_macro2.Laws.BrokenLine"></a>**BrokenLine**: where a source parses and its cover is some pieces, of
-//!   which the last is neither a mark nor a number, and then others, a line\'s end that is put in between them leaves
+//!   which the last is neither a mark nor a number, and then others, a line's end that is put in between them leaves
 //!   the stream as it was, up to spans
 //! - <a id="proc_macro2.Laws.ComesBack"></a>**ComesBack**: a built stream comes back from its printed text exactly if
 //!   it is well spaced
 //! - <a id="proc_macro2.Laws.GivenIsWellSpaced"></a>**GivenIsWellSpaced**: every stream that a source parses to up to
 //!   spans is well spaced
-//! - <a id="proc_macro2.Laws.JoinedTexts"></a>**JoinedTexts**: two texts with a line\'s end between them parse to the
+//! - <a id="proc_macro2.Laws.JoinedTexts"></a>**JoinedTexts**: two texts with a line's end between them parse to the
 //!   two streams joined, up to spans, unless the second begins with U+FEFF
 //! - <a id="proc_macro2.GivesBack.ListedGiveBack"></a>**ListedGiveBack**: in the map after the parse, so does each tree
 //!   of a list that makes the stream
@@ -704,8 +703,8 @@
 //!   next stream of a list
 //! - <a id="quoting.Choice.HopelessIfNamed"></a>**HopelessIfNamed**: if the error names a fault, no choice of spacings
 //!   makes the stream well spaced
-//! - <a id="quoting.Fault.IsFaultOf"></a>**IsFaultOf**: a fault that is named is the stream\'s first; an error of
-//!   memory says nothing of the stream
+//! - <a id="quoting.Fault.IsFaultOf"></a>**IsFaultOf**: a fault that is named is the stream's first; an error of memory
+//!   says nothing of the stream
 //! - <a id="quoting.TextFault.IsTextFault"></a>**IsTextFault**: a fault of the template; or of its text, with its span.
 //!   Want of memory in filling says that the text parses, and in parsing nothing
 //! - <a id="quoting.Choice.KeepsAllItMay"></a>**KeepsAllItMay**: the new stream keeps the spacing of each mark that
@@ -713,7 +712,7 @@
 //! - <a id="quoting.Laws.KeepsWhatItMay"></a>**KeepsWhatItMay**: each mark keeps its spacing that keeps it in some
 //!   choice of spacings that is well spaced
 //! - <a id="quoting.TextFault.LeavesMap"></a>**LeavesMap**: the map after the call: with the text as its next file, but
-//!   as it was where the text didn\'t fit and where memory for parsing it ran out
+//!   as it was where the text didn't fit and where memory for parsing it ran out
 //! - <a id="quoting.Laws.NothingToDo"></a>**NothingToDo**: a stream that was well spaced comes out unchanged
 //! - <a id="quoting.Holes.One"></a>**One**: what a hole stands for: one stream, or in each turn of a repetition the
 //!   next stream of a list
@@ -727,7 +726,7 @@
 //!   wrong inside of it. Of the faults at one pair of parentheses `Nested` comes first, then `TooDeep`, then `NoList`
 //! - <a id="quoting.Fault.first_fault"></a>**first_fault**: `first-fault`: the first fault of the stream in reading
 //!   order that no choice of spacings mends
-//! - <a id="quoting.Given.named"></a>**named**: a hole\'s name, with what the hole stands for
+//! - <a id="quoting.Given.named"></a>**named**: a hole's name, with what the hole stands for
 //! - <a id="quoting.Given.named_all"></a>**named_all**: the names of the holes, each with what the hole stands for
 //! - <a id="quoting.Respaced.respaced"></a>**respaced**: `respaced`: the same trees with the same spans, at any depth,
 //!   but for the spacing of marks
@@ -763,9 +762,9 @@
 //!   events into the buffer
 //! - <a id="token_buffer.Many.HasManyTokens"></a>**HasManyTokens**: pieces cover the source up to where the rest
 //!   begins, and give too many events
-//! - <a id="token_buffer.Held.Holds"></a>**Holds**: the entries are the trees\' tokens, say how many entries are in
-//!   each group, and may be cut from the text
-//! - <a id="token_buffer.Refused.IfParse"></a>**IfParse**: if the error is that the text doesn\'t parse, this holds of
+//! - <a id="token_buffer.Held.Holds"></a>**Holds**: the entries are the trees' tokens, say how many entries are in each
+//!   group, and may be cut from the text
+//! - <a id="token_buffer.Refused.IfParse"></a>**IfParse**: if the error is that the text doesn't parse, this holds of
 //!   the reason
 //! - <a id="token_buffer.Refused.IfTooLong"></a>**IfTooLong**: if the error is that the text has too many bytes or
 //!   tokens, this holds
