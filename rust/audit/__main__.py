@@ -6,8 +6,9 @@
     python3 rust/audit --test     tests itself: changes that are planted are told
 
 It shares no code with rust/erase. Each file's first line says from which source it was made. Of that source it leaves
-out comments, but contracts.py compares the contracts that the library's doc comments show with the clauses; what only proofs read: clauses, ghost items and the attributes `tactic` and `cycle`; and the allocator,
-whose type has one value. The tokens that are left are compared in order.
+out comments; what only proofs read: clauses, ghost items and the attributes `tactic` and `cycle`; and the allocator,
+whose type has one value. The tokens that are left are compared in order. contracts.py compares the contracts that the
+library's doc comments show with the clauses.
 
 A line of whitelist.txt is a change: the tokens of the source, `=>`, and those in their place. NAME is any one name and
 PATH any path, each the same on both sides; NAMES are any names with commas between them, BODY is anything, and CRATE is
@@ -118,6 +119,7 @@ ALLOCATOR = re.compile(rf'{VALUE}|{HELD}')
 STATEMENT = re.compile(rf'(?:let (?:mut )?alloc = {VALUE}|type Alloc = Global|use std::alloc::Global'
                        rf'|debug \. field \( "alloc" , {VALUE} \)) ;')
 LENT = re.compile(r'(?:pub )?(?:\( crate \) )?fn (?:alloc|allocator) \( (?:\w+ : )?& \w+ \) -> Global { [^}]*}')
+INLINED = '# [ cfg_attr ( not ( debug_assertions ) , inline ( always ) ) ]'
 GIVEN = re.compile(rf'(format|vec) ! ([(\[]) in {VALUE} ;')
 
 
@@ -182,9 +184,19 @@ def without_allocators(found):
     return out
 
 
+def with_plain_inlining(found):
+    """The tokens with `inline(always)` for the attribute that gives it to builds without debug assertions alone."""
+    out, at = [], 0
+    while at < len(found):
+        size = len(INLINED.split()) if words_of(found[at:at + len(INLINED.split())]) == INLINED else 0
+        out += [(word, found[at][1]) for word in '# [ inline ( always ) ]'.split()] if size else [found[at]]
+        at += size or 1
+    return out
+
+
 def changes(source, made):
     """How many tokens the source has, how many of them stay, and each change with its two lines."""
-    old, new = without_allocators(without_attributes(tokens(source))), tokens(made)
+    old, new = without_allocators(without_attributes(tokens(source))), with_plain_inlining(tokens(made))
     rows = [[last_name(token) for token, _ in side] for side in (old, new)]
     out, same = [], 0
     for kind, first, last, start, end in difflib.SequenceMatcher(None, *rows, autojunk=False).get_opcodes():
@@ -270,6 +282,7 @@ use std::fmt;
 #[derive(Debug, Drop)]
 pub struct A { pub ghost small: { x < 9 }, x: u8, }
 /// One more.
+#[inline(always)]
 fn more(a: &A) -> u8 requires { a.x < 9 } ensures { result ≡ a.x + 1 } { crate::one::add(a.x, 1) }
 fn kept(alloc: Global, a: &A, b: u8) -> Kept { let alloc = a.alloc(); Kept { alloc, x: f(&b, alloc), b } }
 """
@@ -278,11 +291,13 @@ use crate::shim::fmt;
 #[derive(Debug)]
 pub struct A { x: u8, }
 /// One more.
+#[cfg_attr(not(debug_assertions), inline(always))]
 fn more(a: &A) -> u8 { crate::lexical::one::add(a.x, 1) }
 fn kept(a: &A, b: u8) -> Kept { Kept { x: f(&b), b } }
 """
 PLANTED = [('1)', '2)'), ('a.x', 'a.y'), (', 1', ''), ('&A', '&mut A'), ('lexical::one', 'pm_span::one'),
-           ('shim::fmt', 'fmt'), ('fn more', '#[inline] fn more'), ('add', 'sub'), ('Debug', 'Debug, Clone'),
+           ('not(debug_assertions)', 'debug_assertions'), ('inline(always)', 'inline'), ('shim::fmt', 'fmt'),
+           ('fn more', '#[inline] fn more'), ('add', 'sub'), ('Debug', 'Debug, Clone'),
            ('x: u8,', ''), ('{ c', '{ a.x; c'), ('&b', ''), (', b: u8', ''),
            (', b }', ' }'), ('(a: &A, b', '(alloc: Global, a: &A, b'), ('f(&b)', 'f(&b, alloc)')]
 

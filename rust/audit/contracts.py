@@ -1,8 +1,9 @@
 """Compares the contracts that doc comments show with the clauses of the proved sources.
 
-It shares no code with rust/erase. A doc comment shows each clause as an item of a list below `# Contract`, and its words
-as links to the page `contracts`. With the links and the marks of Markdown taken away, the clauses of each public function
-have to be there as in its source, but for white space, and no others. Each link has to lead to a line of the page.
+It shares no code with rust/erase. A doc comment shows each clause as an item of a list below `# Contract`, and its
+words as links to the page `contracts`. With the links and the marks of Markdown taken away, the clauses of each public
+function have to be there as in its source, but for white space, and no others. Each link has to lead to a line of the
+page.
 """
 import html
 import re
@@ -97,8 +98,8 @@ def differences(source, made, page):
 
     shown, places = shown_in(made)
     wanted, seen = squeezed(clauses_of(source)), squeezed(shown)
-    out = [f'the contract of {name} is not that of its source' for name, clauses in wanted if (name, clauses) not in seen]
-    out += [f'{name} shows a contract that its source lacks' for name, clauses in seen if (name, clauses) not in wanted]
+    out = [f'the contract of {row[0]} is not that of its source' for row in wanted if row not in seen]
+    out += [f'{row[0]} shows a contract that its source lacks' for row in seen if row not in wanted]
     if not out and wanted != seen:
         out.append('contracts in another order')
     return out + [f'no line of the page for {place}' for place in places if f'<a id="{place}"></a>' not in page]

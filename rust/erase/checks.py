@@ -51,6 +51,8 @@ def attributes(file):
                 yield token.line, 'a derived `Clone` without `Copy`: here it takes memory and can fail'
         elif file.package.tests and any(found(tokens, bracket, form) for form in ('[ test ]', '[ cfg ( test ) ]')):
             continue
+        elif found(tokens, bracket, '[ cfg_attr ( not ( debug_assertions ) , inline ( always ) ) ]'):
+            continue
         elif word not in known.ATTRIBUTES and not found(tokens, bracket, '[ rustfmt : : skip ]'):
             yield token.line, f'the attribute `{word}`'
 

@@ -1,8 +1,8 @@
 """The contracts of public functions in their doc comments, and the page that says what their words mean.
 
 A word is what a clause names of `specs/`. The one-line comment over its definition there is its line on the page
-`contracts` of the package. The files of `specs/` are read once. A word without a line is rejected. So is a name of which
-it isn't plain what it means: no word, no parameter, nothing that the clause binds, and no item of the library.
+`contracts` of the package. The files of `specs/` are read once. A word without a line is rejected. So is a name of
+which it isn't plain what it means: no word, no parameter, nothing that the clause binds, and no item of the library.
 """
 import pathlib
 import re
@@ -223,8 +223,9 @@ def place_of(tokens, at):
 def contract_of(file, at, names, modules, words):
     """The lines of the doc comment that show the contract of the function at this index, if it has one."""
     clauses, parameters, others = head_of(file.tokens, at)
-    ghosts = {found[1] for token in file.tokens if token.kind == 'ghost' for found in [GHOST.match(token.text)] if found}
-    head = Head(GIVEN | names, modules, parameters, others | ghosts | file.package.items | RUST, words)
+    declared = [GHOST.match(token.text) for token in file.tokens if token.kind == 'ghost']
+    others |= {found[1] for found in declared if found} | file.package.items | RUST
+    head = Head(GIVEN | names, modules, parameters, others, words)
     rows = [row for clause in clauses for row in head.shown(clause)]
     links = [f'/// [{name}]: crate::contracts#{place}' for name, place in head.links.items()]
     return ['/// # Contract', '///', *rows, *(['///', *links] if links else [])] if rows else []

@@ -209,6 +209,21 @@ def formatting(file):
 
 
 @rule
+def inlining(file):
+    """Asks for inlining at each call only in builds without debug assertions: in others it makes more code to compile.
+
+        #[inline(always)] fn f() {}
+        => #[cfg_attr(not(debug_assertions), inline(always))] fn f() {}
+    """
+    edits = {}
+    for at, token in enumerate(file.tokens):
+        for end in found(file.tokens, at, '# [ inline ( always ) ]'):
+            edits[at, end] = '#[cfg_attr(not(debug_assertions), inline(always))]'
+            file.count('inlining')
+    file.tokens = replaced(file.tokens, edits)
+
+
+@rule
 def models(file):
     """Leaves out how a value is seen by proofs: `impl Model`, which is empty without what is ghost, and its import.
 

@@ -23,6 +23,7 @@ REJECTED = [
     ('#[derive(Default)] struct A;', 'a derive of `Default`'),
     ('#[repr(C)] struct A;', 'the attribute `repr`'),
     ('#[cfg(feature)] fn f() {}', 'the attribute `cfg`'),
+    ('#[cfg_attr(debug_assertions, inline(always))] fn f() {}', 'the attribute `cfg_attr`'),
     ('#[test] fn f(rt: HostRuntime) {}', 'the attribute `test`'),
     ('fn f(rt: &impl Abort) {}', 'a handle'),
     ('struct A { a: u8, } impl Drop for A { fn drop(self) { let A { a } = self; } }', 'the field a, no `Option`'),

@@ -1,9 +1,9 @@
 //! Token streams, as the crate `proc-macro2` offers them to macros, build scripts, generators and tests: read, built,
 //! printed and compared by proved functions.
 //!
-//! Outside of macros all tokens are those of the package `proved-tokens`, whose functions were made from proved ones. What
-//! is left to this package is to have a source map for each thread, to write floats, to show tokens without their spans,
-//! and to panic where the public crate does. Inside a macro the tokens are the compiler's own.
+//! Outside of macros all tokens are those of the package `proved-tokens`, whose functions were made from proved ones.
+//! What is left to this package is to have a source map for each thread, to write floats, to show tokens without their
+//! spans, and to panic where the public crate does. Inside a macro the tokens are the compiler's own.
 //!
 //! ```
 //! use proc_macro2::{TokenStream, TokenTree};

@@ -62,10 +62,10 @@
 //!
 //! These functions are written in Rattle, which is Rust with contracts. Each body was proved to meet its function's
 //! contract, and a script made this package from the proved bodies. A function's contract is on its page, under the
-//! heading Contract; the page [`contracts`] says how to read it. For example, [`TokenStream::from_str`] returns a stream
-//! only for a text without a fault, and every stream that is read from a text is read again, up to spans, from what it
-//! prints. A call that meets what its contract requires does not panic. Written by hand, and only tested, are the impls
-//! of std's traits, each a line over a proved call, and the calls of Rust's `std` below the bodies.
+//! heading Contract; the page [`contracts`] says how to read it. For example, [`TokenStream::from_str`] returns a
+//! stream only for a text without a fault, and every stream that is read from a text is read again, up to spans, from
+//! what it prints. A call that meets what its contract requires does not panic. Written by hand, and only tested, are
+//! the impls of std's traits, each a line over a proved call, and the calls of Rust's `std` below the bodies.
 //!
 //! # Memory
 //!
@@ -76,8 +76,8 @@
 //! # What a contract requires
 //!
 //! Some functions require something of their arguments, as [`Span::start`] does of its map: see `requires` under
-//! Contract. The caller has to see to it, else the call may panic, or answer anything. The package's one `unsafe` reads the bytes of a short text, which
-//! are copied from whole texts alone, so they are UTF-8 whatever a caller does.
+//! Contract. The caller has to see to it, else the call may panic, or answer anything. The package's one `unsafe` reads
+//! the bytes of a short text, which are copied from whole texts alone, so they are UTF-8 whatever a caller does.
 #![deny(unsafe_code)]
 #![warn(missing_docs)]
 

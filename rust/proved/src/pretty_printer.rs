@@ -20,7 +20,7 @@ use crate::proc_macro2::TokenStream;
 use crate::quoting::{Quote, QuoteError, laws};
 
 impl<'a> Chooser for Printer<'a> {
-    #[inline(always)]
+    #[cfg_attr(not(debug_assertions), inline(always))]
     fn gap(&mut self, place: Place<'_>) -> Gap {
         if place.after.is_none() {
             return match place.before {

@@ -232,7 +232,7 @@ pub(crate) fn name_class(ident: &Ident) -> Class
 }
 
 // Whether the identifier, whose first byte is this one, is written so.
-#[inline(always)]
+#[cfg_attr(not(debug_assertions), inline(always))]
 fn is_written(ident: &Ident, first: u8, text: &str) -> bool
 {
     match text.as_bytes().split_first() {
@@ -242,7 +242,7 @@ fn is_written(ident: &Ident, first: u8, text: &str) -> bool
 }
 
 // The keywords that stand in a path.
-#[inline(always)]
+#[cfg_attr(not(debug_assertions), inline(always))]
 fn path_class(ident: &Ident, first: u8) -> Option<Class>
 {
     if is_written(ident, first, "self") {
@@ -264,7 +264,7 @@ fn path_class(ident: &Ident, first: u8) -> Option<Class>
 }
 
 // The keywords that are operands, or stand before or after one that may be left out.
-#[inline(always)]
+#[cfg_attr(not(debug_assertions), inline(always))]
 fn operand_class(ident: &Ident, first: u8) -> Option<Class>
 {
     if is_truth(ident, first) {
@@ -285,13 +285,13 @@ fn operand_class(ident: &Ident, first: u8) -> Option<Class>
     None
 }
 
-#[inline(always)]
+#[cfg_attr(not(debug_assertions), inline(always))]
 fn is_truth(ident: &Ident, first: u8) -> bool
 {
     is_written(ident, first, "true") || is_written(ident, first, "false")
 }
 
-#[inline(always)]
+#[cfg_attr(not(debug_assertions), inline(always))]
 fn keyword_of(ident: &Ident, first: u8) -> Option<Keyword>
 {
     if let Some(keyword) = item_keyword(ident, first) {
@@ -308,7 +308,7 @@ fn keyword_of(ident: &Ident, first: u8) -> Option<Keyword>
 }
 
 // The keywords that begin items alone.
-#[inline(always)]
+#[cfg_attr(not(debug_assertions), inline(always))]
 fn item_keyword(ident: &Ident, first: u8) -> Option<Keyword>
 {
     if is_written(ident, first, "struct") {
@@ -342,7 +342,7 @@ fn item_keyword(ident: &Ident, first: u8) -> Option<Keyword>
 }
 
 // The keywords before a type's operand.
-#[inline(always)]
+#[cfg_attr(not(debug_assertions), inline(always))]
 fn type_keyword(ident: &Ident, first: u8) -> Option<Keyword>
 {
     if is_written(ident, first, "mut") {
@@ -379,7 +379,7 @@ fn type_keyword(ident: &Ident, first: u8) -> Option<Keyword>
 }
 
 // The keywords that no rule names, in the order of the alphabet.
-#[inline(always)]
+#[cfg_attr(not(debug_assertions), inline(always))]
 fn is_early_keyword(ident: &Ident, first: u8) -> bool
 {
     is_written(ident, first, "abstract")
@@ -393,7 +393,7 @@ fn is_early_keyword(ident: &Ident, first: u8) -> bool
         || is_written(ident, first, "let")
 }
 
-#[inline(always)]
+#[cfg_attr(not(debug_assertions), inline(always))]
 fn is_late_keyword(ident: &Ident, first: u8) -> bool
 {
     is_written(ident, first, "loop")
@@ -408,7 +408,7 @@ fn is_late_keyword(ident: &Ident, first: u8) -> bool
         || is_written(ident, first, "while")
 }
 
-#[inline(always)]
+#[cfg_attr(not(debug_assertions), inline(always))]
 fn word_of(ident: &Ident, first: u8) -> Word
 {
     if is_written(ident, first, "auto") {

@@ -48,7 +48,7 @@ pub trait Chooser {
 
 // The gap that is written where this one is chosen: none after a Joint mark, and a space where none is chosen and
 // the text that comes with the next step would go on with what stands before it.
-#[inline(always)]
+#[cfg_attr(not(debug_assertions), inline(always))]
 pub(crate) fn fitting(before: Option<Step<'_>>, chosen: Gap, next: Step<'_>) -> Gap
 {
     let Some(step) = before else {
@@ -109,7 +109,7 @@ fn is_dot_next(trees: &[TokenTree]) -> bool
 }
 
 // Whether the step is past a Joint mark.
-#[inline(always)]
+#[cfg_attr(not(debug_assertions), inline(always))]
 fn is_joint(step: Step<'_>) -> bool
 {
     match step {
@@ -119,7 +119,7 @@ fn is_joint(step: Step<'_>) -> bool
 }
 
 // Whether what the next step writes would go on with the token that the step is past.
-#[inline(always)]
+#[cfg_attr(not(debug_assertions), inline(always))]
 fn goes_on(step: Step<'_>, next: Step<'_>) -> bool
 {
     let Step::Token(tree, _) = step else {
@@ -137,7 +137,7 @@ fn goes_on(step: Step<'_>, next: Step<'_>) -> bool
 }
 
 // The first character that the step writes.
-#[inline(always)]
+#[cfg_attr(not(debug_assertions), inline(always))]
 fn first_of(step: Step<'_>) -> Option<char>
 {
     match step {
@@ -148,7 +148,7 @@ fn first_of(step: Step<'_>) -> Option<char>
 }
 
 // And that of a token, or of a group's opener.
-#[inline(always)]
+#[cfg_attr(not(debug_assertions), inline(always))]
 fn first_of_tree(tree: &TokenTree) -> Option<char>
 {
     match tree {
@@ -186,7 +186,7 @@ fn begins_with_digit(text: &str) -> bool
 }
 
 // Writes the gap.
-#[inline(always)]
+#[cfg_attr(not(debug_assertions), inline(always))]
 pub(crate) fn push_gap(text: &mut TextBuilder, gap: Gap) -> Result<(), AllocError>
 {
     match gap {

@@ -101,7 +101,7 @@ fn depth_past(depth: usize, step: Step<'_>) -> usize
 }
 
 // Writes the token, opener or closer.
-#[inline(always)]
+#[cfg_attr(not(debug_assertions), inline(always))]
 fn push_step(text: &mut TextBuilder, step: Step<'_>) -> Result<(), AllocError>
 {
     match step {
@@ -112,7 +112,7 @@ fn push_step(text: &mut TextBuilder, step: Step<'_>) -> Result<(), AllocError>
 }
 
 // Writes the token, or the group's opener. What a token owns is copied from where it stands.
-#[inline(always)]
+#[cfg_attr(not(debug_assertions), inline(always))]
 fn push_tree(text: &mut TextBuilder, tree: &TokenTree) -> Result<(), AllocError>
 {
     match tree {
@@ -124,7 +124,7 @@ fn push_tree(text: &mut TextBuilder, tree: &TokenTree) -> Result<(), AllocError>
 }
 
 // Writes the identifier.
-#[inline(always)]
+#[cfg_attr(not(debug_assertions), inline(always))]
 fn push_name(text: &mut TextBuilder, ident: &Ident) -> Result<(), AllocError>
 {
     if is_raw(ident) {
@@ -135,7 +135,7 @@ fn push_name(text: &mut TextBuilder, ident: &Ident) -> Result<(), AllocError>
 }
 
 // Writes the mark of a delimiter, if it has one.
-#[inline(always)]
+#[cfg_attr(not(debug_assertions), inline(always))]
 fn push_mark(text: &mut TextBuilder, mark: Option<char>) -> Result<(), AllocError>
 {
     match mark {

@@ -123,7 +123,7 @@ static KINDS: [u16; 256] = [
 ];
 
 /// The kinds of the ASCII characters of the class.
-#[inline(always)]
+#[cfg_attr(not(debug_assertions), inline(always))]
 fn kinds(class: Class) -> u16
 {
     match class {
@@ -162,7 +162,7 @@ fn kinds(class: Class) -> u16
 /// - `ensures`: <code>result ≡ [ascii_in] class byte</code>
 ///
 /// [ascii_in]: crate::contracts#lexical.Bytes.ascii_in
-#[inline(always)]
+#[cfg_attr(not(debug_assertions), inline(always))]
 pub fn holds_ascii(class: Class, byte: u8) -> bool
 {
     KINDS[byte as usize] & kinds(class) != 0
@@ -175,7 +175,7 @@ pub fn holds_ascii(class: Class, byte: u8) -> bool
 /// - `ensures`: <code>result ≡ [is_in] class c</code>
 ///
 /// [is_in]: crate::contracts#lexical.Bytes.is_in
-#[inline(always)]
+#[cfg_attr(not(debug_assertions), inline(always))]
 pub fn holds(class: Class, c: char) -> bool
 {
     if c.is_ascii() {
@@ -198,7 +198,7 @@ pub fn holds(class: Class, c: char) -> bool
 /// [length]: crate::contracts#std.length
 /// [while_front]: crate::contracts#lexical.Finder.while_front
 /// [ascii_in]: crate::contracts#lexical.Bytes.ascii_in
-#[inline(always)]
+#[cfg_attr(not(debug_assertions), inline(always))]
 pub fn count_ascii(bytes: &[u8], class: Class) -> usize
 {
     let mut count = 0;
@@ -212,7 +212,7 @@ pub fn count_ascii(bytes: &[u8], class: Class) -> usize
 }
 
 /// The cursor after the ASCII characters of the class, up to one that isn't.
-#[inline(always)]
+#[cfg_attr(not(debug_assertions), inline(always))]
 fn skip_ascii(at: Cursor<'_>, class: Class) -> Cursor<'_>
 {
     let size = count_ascii(at.rest.as_bytes(), class);

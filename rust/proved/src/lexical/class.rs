@@ -129,7 +129,7 @@ static STARTS: [PieceStart; 256] = [
 /// - `ensures`: <code>result ≡ [byte_starts] byte</code>
 ///
 /// [byte_starts]: crate::contracts#lexical.Quick.byte_starts
-#[inline(always)]
+#[cfg_attr(not(debug_assertions), inline(always))]
 pub fn byte_start(byte: u8) -> PieceStart
 {
     STARTS[byte as usize]
@@ -142,7 +142,7 @@ pub fn byte_start(byte: u8) -> PieceStart
 /// - `ensures`: <code>result ≡ [piece_start] c</code>
 ///
 /// [piece_start]: crate::contracts#lexical.PieceFinder.piece_start
-#[inline(always)]
+#[cfg_attr(not(debug_assertions), inline(always))]
 pub fn piece_start_of(c: char) -> PieceStart
 {
     if holds(Class::IdentifierStart, c) {

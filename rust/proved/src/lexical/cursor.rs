@@ -20,7 +20,7 @@ impl<'a> Cursor<'a> {
     ///
     /// - `ensures rest`: <code>result.rest.now ≡ text.now</code>
     /// - `ensures chars`: <code>result.chars_before ≡ 0</code>
-    #[inline(always)]
+    #[cfg_attr(not(debug_assertions), inline(always))]
     pub fn new(text: &'a str) -> Self
     {
         // Its contract bounds how many bytes a text has, and so how many characters.
@@ -40,7 +40,7 @@ impl<'a> Cursor<'a> {
     ///
     /// [MatchOption]: crate::contracts#std.MatchOption
     /// [chars]: crate::contracts#std.chars
-    #[inline(always)]
+    #[cfg_attr(not(debug_assertions), inline(always))]
     pub fn advance(self) -> Option<(char, Self)>
     {
         let (first, rest) = split_first(self.rest)?;
@@ -62,7 +62,7 @@ impl<'a> Cursor<'a> {
     /// [all_ascii]: crate::contracts#lexical.Ascii.all_ascii
     /// [Reads]: crate::contracts#lexical.Step.Reads
     /// [Exactly]: crate::contracts#lexical.Rule.Exactly
-    #[inline(always)]
+    #[cfg_attr(not(debug_assertions), inline(always))]
     pub fn past(self, front: &str) -> Option<Self>
     {
         let rest = strip(self.rest, front)?;
@@ -107,7 +107,7 @@ impl<'a> Cursor<'a> {
     /// [chars]: crate::contracts#std.chars
     /// [length]: crate::contracts#std.length
     /// [encode_utf8_all]: crate::contracts#std.encode_utf8_all
-    #[inline(always)]
+    #[cfg_attr(not(debug_assertions), inline(always))]
     pub fn bytes_in(self, text: &str) -> usize
     {
         text.len() - self.rest.len()

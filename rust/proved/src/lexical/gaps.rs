@@ -4,7 +4,7 @@
 use crate::lexical::bytes::{Class, holds_ascii};
 
 /// How many spaces stand at the front, as many as go by fours.
-#[inline(always)]
+#[cfg_attr(not(debug_assertions), inline(always))]
 fn spaces(bytes: &[u8]) -> usize
 {
     let mut count = 0;
@@ -28,7 +28,7 @@ fn spaces(bytes: &[u8]) -> usize
 /// [IsPastWhite]: crate::contracts#lexical.WhiteRun.IsPastWhite
 /// [chars]: crate::contracts#std.chars
 /// [IsUtf8]: crate::contracts#std.IsUtf8
-#[inline(always)]
+#[cfg_attr(not(debug_assertions), inline(always))]
 pub fn past_white(text: &str) -> (&str, usize)
 {
     let bytes = text.as_bytes();

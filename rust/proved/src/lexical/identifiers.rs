@@ -22,7 +22,7 @@ pub fn name(at: Cursor<'_>) -> Option<Cursor<'_>>
 
 /// Whether the text begins as a literal with letters before its quote does, by the rule
 /// `reserved-prefix`.
-#[inline(always)]
+#[cfg_attr(not(debug_assertions), inline(always))]
 fn begins_literal(text: &str, first: char) -> bool
 {
     match first {
@@ -109,7 +109,7 @@ pub fn written(at: Cursor<'_>, raw: bool) -> Option<Cursor<'_>>
 /// [chars]: crate::contracts#std.chars
 /// [Answers]: crate::contracts#lexical.PieceStep.Answers
 /// [found_identifier]: crate::contracts#lexical.PieceFinder.found_identifier
-#[inline(always)]
+#[cfg_attr(not(debug_assertions), inline(always))]
 pub fn identifier<'a>(
     at: Cursor<'a>,
     first: char,

@@ -20,7 +20,7 @@ use crate::lexical::text::strip;
 use crate::lexical::words::{count_few_plain, count_plain};
 
 /// A literal that was read, if one was, as a piece: its kind, and the cursor after it.
-#[inline(always)]
+#[cfg_attr(not(debug_assertions), inline(always))]
 fn as_literal(end: Option<Cursor<'_>>) -> Option<(PieceKind<'_>, Cursor<'_>)>
 {
     Some((PieceKind::Literal, end?))
@@ -28,7 +28,7 @@ fn as_literal(end: Option<Cursor<'_>>) -> Option<(PieceKind<'_>, Cursor<'_>)>
 
 /// The piece that stands at the cursor, by its first character: its kind, and the cursor after it.
 /// `at_front` says whether that is byte offset 0 of a source.
-#[inline(always)]
+#[cfg_attr(not(debug_assertions), inline(always))]
 fn read_piece(at: Cursor<'_>, at_front: bool) -> Option<(PieceKind<'_>, Cursor<'_>)>
 {
     let (first, after) = at.advance()?;
@@ -91,7 +91,7 @@ fn read_piece(at: Cursor<'_>, at_front: bool) -> Option<(PieceKind<'_>, Cursor<'
 /// [chars]: crate::contracts#std.chars
 /// [IfNone]: crate::contracts#std.IfNone
 /// [HasNoPiece]: crate::contracts#lexical.Piece.HasNoPiece
-#[inline(always)]
+#[cfg_attr(not(debug_assertions), inline(always))]
 pub fn piece_at(text: &str, first: bool) -> Option<Piece<'_>>
 {
     match quick(text) {
@@ -101,7 +101,7 @@ pub fn piece_at(text: &str, first: bool) -> Option<Piece<'_>>
 }
 
 /// The same, of pieces that stand more seldom: by the first byte, in a function of its own for each.
-#[inline(always)]
+#[cfg_attr(not(debug_assertions), inline(always))]
 fn other_piece(text: &str, first: bool) -> Option<Piece<'_>>
 {
     match byte_start(byte_at(text.as_bytes(), 0)) {
@@ -115,7 +115,7 @@ fn other_piece(text: &str, first: bool) -> Option<Piece<'_>>
 }
 
 /// The literal of this extent, as a piece.
-#[inline(always)]
+#[cfg_attr(not(debug_assertions), inline(always))]
 fn literal_piece<'a>(extent: Extent) -> Piece<'a>
 {
     Piece {

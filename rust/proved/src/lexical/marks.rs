@@ -14,7 +14,7 @@ use crate::lexical::text::{begins, split_first};
 /// - `ensures`: <code>result ≡ [is_one_of_marks] c</code>
 ///
 /// [is_one_of_marks]: crate::contracts#lexical.Mark.is_mark
-#[inline(always)]
+#[cfg_attr(not(debug_assertions), inline(always))]
 pub fn is_mark(c: char) -> bool
 {
     holds(Class::Mark, c)
@@ -29,7 +29,7 @@ pub fn is_mark(c: char) -> bool
 /// [begins_any]: crate::contracts#lexical.Text.begins_any
 /// [comment_fronts]: crate::contracts#lexical.Mark.comment_fronts
 /// [chars]: crate::contracts#std.chars
-#[inline(always)]
+#[cfg_attr(not(debug_assertions), inline(always))]
 pub fn begins_comment(text: &str) -> bool
 {
     begins(text, "//") || begins(text, "/*")
@@ -43,7 +43,7 @@ pub fn begins_comment(text: &str) -> bool
 ///
 /// [joint_before]: crate::contracts#lexical.Mark.joint_before
 /// [chars]: crate::contracts#std.chars
-#[inline(always)]
+#[cfg_attr(not(debug_assertions), inline(always))]
 pub fn mark<'a>(mark: char, rest: &str) -> PieceKind<'a>
 {
     let joint = match split_first(rest) {

@@ -23,7 +23,7 @@ use crate::lexical::walk::PieceWalk;
 /// - `ensures`: <code>[PassesWhite] walk.old result.now walk.new</code>
 ///
 /// [PassesWhite]: crate::contracts#lexical.Walk.PassesWhite
-#[inline(always)]
+#[cfg_attr(not(debug_assertions), inline(always))]
 pub fn pass_white<'a>(walk: &mut PieceWalk<'a>) -> &'a str
 {
     walk.pass_white()

@@ -22,7 +22,7 @@ use quoted::{byte_size, byte_string_size, character_size, string_size};
 /// - `ensures`: <code>result ≡ [get_or] bytes.now index 32</code>
 ///
 /// [get_or]: crate::contracts#std.get_or
-#[inline(always)]
+#[cfg_attr(not(debug_assertions), inline(always))]
 pub fn byte_at(bytes: &[u8], index: usize) -> u8
 {
     if index < bytes.len() {
@@ -33,14 +33,14 @@ pub fn byte_at(bytes: &[u8], index: usize) -> u8
 }
 
 /// Whether a name that the byte follows ends there and begins neither a literal nor a raw identifier.
-#[inline(always)]
+#[cfg_attr(not(debug_assertions), inline(always))]
 fn ends_name(byte: u8) -> bool
 {
     byte.is_ascii() && byte != b'"' && byte != b'\'' && byte != b'#'
 }
 
 /// How many bytes the plain identifier has that stands at the front.
-#[inline(always)]
+#[cfg_attr(not(debug_assertions), inline(always))]
 fn name_size(text: &str) -> Option<usize>
 {
     let bytes = text.as_bytes();
@@ -56,7 +56,7 @@ fn name_size(text: &str) -> Option<usize>
 }
 
 /// The same, by one byte after the other: the names of lifetimes are short.
-#[inline(always)]
+#[cfg_attr(not(debug_assertions), inline(always))]
 fn short_name_size(text: &str) -> Option<usize>
 {
     let bytes = text.as_bytes();
@@ -72,7 +72,7 @@ fn short_name_size(text: &str) -> Option<usize>
 }
 
 /// How many bytes the rest of the line has, of ASCII with no CR.
-#[inline(always)]
+#[cfg_attr(not(debug_assertions), inline(always))]
 fn line_size(text: &str) -> Option<usize>
 {
     let bytes = text.as_bytes();
@@ -97,7 +97,7 @@ fn line_size(text: &str) -> Option<usize>
 /// [IfSome]: crate::contracts#std.IfSome
 /// [IsPieceAt]: crate::contracts#lexical.Found.IsPieceAt
 /// [chars]: crate::contracts#std.chars
-#[inline(always)]
+#[cfg_attr(not(debug_assertions), inline(always))]
 pub fn line_comment(text: &str) -> Option<Piece<'_>>
 {
     let bytes = text.as_bytes();
@@ -122,7 +122,7 @@ pub fn line_comment(text: &str) -> Option<Piece<'_>>
 }
 
 /// A piece of so many ASCII characters.
-#[inline(always)]
+#[cfg_attr(not(debug_assertions), inline(always))]
 fn ascii(kind: PieceKind<'_>, size: usize) -> Piece<'_>
 {
     Piece {
@@ -142,7 +142,7 @@ pub struct Extent {
 }
 
 /// The extent of a literal of so many bytes of ASCII.
-#[inline(always)]
+#[cfg_attr(not(debug_assertions), inline(always))]
 fn ascii_extent(size: usize) -> Extent
 {
     Extent {
@@ -152,7 +152,7 @@ fn ascii_extent(size: usize) -> Extent
 }
 
 /// The extent of the literal of so many bytes at the front of the text, its characters counted.
-#[inline(always)]
+#[cfg_attr(not(debug_assertions), inline(always))]
 fn counted(text: &str, size: usize) -> Extent
 {
     Extent {
@@ -170,7 +170,7 @@ fn counted(text: &str, size: usize) -> Extent
 /// [IfSome]: crate::contracts#std.IfSome
 /// [IsLiteralAt]: crate::contracts#lexical.Quick.IsLiteralAt
 /// [chars]: crate::contracts#std.chars
-#[inline(always)]
+#[cfg_attr(not(debug_assertions), inline(always))]
 pub fn byte_literal(text: &str) -> Option<Extent>
 {
     match byte_size(text) {
@@ -189,7 +189,7 @@ pub fn byte_literal(text: &str) -> Option<Extent>
 /// [IfSome]: crate::contracts#std.IfSome
 /// [IsPieceAt]: crate::contracts#lexical.Found.IsPieceAt
 /// [chars]: crate::contracts#std.chars
-#[inline(always)]
+#[cfg_attr(not(debug_assertions), inline(always))]
 pub fn quick(text: &str) -> Option<Piece<'_>>
 {
     let bytes = text.as_bytes();
@@ -241,7 +241,7 @@ pub fn quick(text: &str) -> Option<Piece<'_>>
 /// [IfSome]: crate::contracts#std.IfSome
 /// [IsLiteralAt]: crate::contracts#lexical.Quick.IsLiteralAt
 /// [chars]: crate::contracts#std.chars
-#[inline(always)]
+#[cfg_attr(not(debug_assertions), inline(always))]
 pub fn long_number(text: &str) -> Option<Extent>
 {
     Some(ascii_extent(long_number_size(text)?))
@@ -257,7 +257,7 @@ pub fn long_number(text: &str) -> Option<Extent>
 /// [IfSome]: crate::contracts#std.IfSome
 /// [IsPieceAt]: crate::contracts#lexical.Found.IsPieceAt
 /// [chars]: crate::contracts#std.chars
-#[inline(always)]
+#[cfg_attr(not(debug_assertions), inline(always))]
 pub fn lone_quote(text: &str) -> Option<Piece<'_>>
 {
     if byte_at(text.as_bytes(), 0) != b'\'' {

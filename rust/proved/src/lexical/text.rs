@@ -13,7 +13,7 @@
 /// [chars]: crate::contracts#std.chars
 /// [IfSome]: crate::contracts#std.IfSome
 /// [IsUtf8]: crate::contracts#std.IsUtf8
-#[inline(always)]
+#[cfg_attr(not(debug_assertions), inline(always))]
 pub fn split_first(text: &str) -> Option<(char, &str)>
 {
     let mut characters = text.chars();
@@ -72,7 +72,7 @@ fn first_bytes(bytes: &[u8]) -> usize
 /// [all_ascii]: crate::contracts#lexical.Ascii.all_ascii
 /// [begins_with]: crate::contracts#lexical.Text.begins_with
 /// [chars]: crate::contracts#std.chars
-#[inline(always)]
+#[cfg_attr(not(debug_assertions), inline(always))]
 pub fn begins(text: &str, front: &str) -> bool
 {
     text.starts_with(front)
@@ -105,7 +105,7 @@ pub fn is_text(text: &str, ascii: &str) -> bool
 ///
 /// [List]: crate::contracts#std.List
 /// [chars]: crate::contracts#std.chars
-#[inline(always)]
+#[cfg_attr(not(debug_assertions), inline(always))]
 pub fn before<'a>(text: &'a str, rest: &str) -> &'a str
 {
     &text[..text.len() - rest.len()]
@@ -128,7 +128,7 @@ pub fn before<'a>(text: &'a str, rest: &str) -> &'a str
 /// [false]: crate::contracts#std.false
 /// [IfSome]: crate::contracts#std.IfSome
 /// [IsUtf8]: crate::contracts#std.IsUtf8
-#[inline(always)]
+#[cfg_attr(not(debug_assertions), inline(always))]
 pub fn strip<'a>(text: &'a str, front: &str) -> Option<&'a str>
 {
     text.strip_prefix(front)

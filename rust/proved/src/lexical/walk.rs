@@ -67,7 +67,7 @@ impl<'a> PieceWalk<'a> {
     /// [IfNone]: crate::contracts#std.IfNone
     /// [HasNoPiece]: crate::contracts#lexical.Piece.HasNoPiece
     /// [chars]: crate::contracts#std.chars
-    #[inline(always)]
+    #[cfg_attr(not(debug_assertions), inline(always))]
     pub fn next_piece(&mut self) -> Option<PlacedPiece<'a>>
     {
         // In its callers' loops a piece is left in registers, where a call would write it to memory and back.
@@ -86,7 +86,7 @@ impl<'a> PieceWalk<'a> {
     }
 
     /// Passes the white characters of ASCII at the front of the rest, each of which is a gap, and answers their text.
-    #[inline(always)]
+    #[cfg_attr(not(debug_assertions), inline(always))]
     pub(crate) fn pass_white(&mut self) -> &'a str
     {
         let (rest, size) = past_white(self.rest);

@@ -8,7 +8,7 @@ use crate::lexical::bytes::{Class, count_ascii};
 /// They are looked at in one word, with no branch that a processor could predict wrongly. Without its highest bit, a
 /// byte is of a range if one of two sums sets that bit and the other doesn't: the first does from the range's first
 /// byte on, the second past its last. No name has bytes with that bit.
-#[inline(always)]
+#[cfg_attr(not(debug_assertions), inline(always))]
 fn count_in_word(bytes: &[u8; 8]) -> Option<usize>
 {
     let word = u64::from_le_bytes(*bytes);
@@ -33,7 +33,7 @@ fn count_in_word(bytes: &[u8; 8]) -> Option<usize>
 /// [length]: crate::contracts#std.length
 /// [while_front]: crate::contracts#lexical.Finder.while_front
 /// [ascii_in]: crate::contracts#lexical.Bytes.ascii_in
-#[inline(always)]
+#[cfg_attr(not(debug_assertions), inline(always))]
 pub fn count_name(bytes: &[u8]) -> usize
 {
     let mut count = 0;
@@ -49,7 +49,7 @@ pub fn count_name(bytes: &[u8]) -> usize
 /// How many of the 8 bytes come before the first that is past ASCII, a quote, a backslash or a CR: `None` says all.
 ///
 /// The sums set the highest bit of each byte but those that are looked for.
-#[inline(always)]
+#[cfg_attr(not(debug_assertions), inline(always))]
 fn count_plain_in_word(bytes: &[u8; 8]) -> Option<usize>
 {
     let word = u64::from_le_bytes(*bytes);
@@ -65,7 +65,7 @@ fn count_plain_in_word(bytes: &[u8; 8]) -> Option<usize>
 }
 
 /// How many bytes come before the first that is past ASCII, a quote, a backslash or a CR, by one byte after the other.
-#[inline(always)]
+#[cfg_attr(not(debug_assertions), inline(always))]
 fn count_plain_bytes(bytes: &[u8]) -> usize
 {
     let mut count = 0;
@@ -89,7 +89,7 @@ fn count_plain_bytes(bytes: &[u8]) -> usize
 /// [list_all]: crate::contracts#std.list_all
 /// [is_plain_ascii]: crate::contracts#lexical.Word.is_plain_ascii
 /// [take]: crate::contracts#std.take
-#[inline(always)]
+#[cfg_attr(not(debug_assertions), inline(always))]
 pub fn count_plain(bytes: &[u8]) -> usize
 {
     let mut size = 0;
@@ -112,7 +112,7 @@ pub fn count_plain(bytes: &[u8]) -> usize
 /// [list_all]: crate::contracts#std.list_all
 /// [is_plain_ascii]: crate::contracts#lexical.Word.is_plain_ascii
 /// [take]: crate::contracts#std.take
-#[inline(always)]
+#[cfg_attr(not(debug_assertions), inline(always))]
 pub fn count_few_plain(bytes: &[u8]) -> usize
 {
     match bytes.first_chunk::<8>() {
@@ -124,7 +124,7 @@ pub fn count_few_plain(bytes: &[u8]) -> usize
 /// How many of the 8 bytes come before the first that is past ASCII, a LF or a CR: `None` says all.
 ///
 /// The sums set the highest bit of each byte but those that are looked for.
-#[inline(always)]
+#[cfg_attr(not(debug_assertions), inline(always))]
 fn count_line_in_word(bytes: &[u8; 8]) -> Option<usize>
 {
     let word = u64::from_le_bytes(*bytes);
@@ -139,7 +139,7 @@ fn count_line_in_word(bytes: &[u8; 8]) -> Option<usize>
 }
 
 /// How many bytes come before the first that is past ASCII, a LF or a CR, by one byte after the other.
-#[inline(always)]
+#[cfg_attr(not(debug_assertions), inline(always))]
 fn count_line_bytes(bytes: &[u8]) -> usize
 {
     let mut count = 0;
@@ -165,7 +165,7 @@ fn count_line_bytes(bytes: &[u8]) -> usize
 /// [list_all]: crate::contracts#std.list_all
 /// [is_line_ascii]: crate::contracts#lexical.Word.is_line_ascii
 /// [take]: crate::contracts#std.take
-#[inline(always)]
+#[cfg_attr(not(debug_assertions), inline(always))]
 pub fn count_line(bytes: &[u8]) -> usize
 {
     let mut end = 0;

@@ -82,7 +82,7 @@ static CLASSES: [u8; 128] = [
 ];
 
 /// The bit of the class.
-#[inline(always)]
+#[cfg_attr(not(debug_assertions), inline(always))]
 fn bit(class: Class) -> u8
 {
     match class {
@@ -104,7 +104,7 @@ fn bit(class: Class) -> u8
 /// - `ensures`: <code>result ≡ [is_in] class c</code>
 ///
 /// [is_in]: crate::contracts#literal_escaper.Class.is_in
-#[inline(always)]
+#[cfg_attr(not(debug_assertions), inline(always))]
 pub fn holds(class: Class, c: char) -> bool
 {
     if c.is_ascii() {

@@ -80,7 +80,7 @@ fn block_of(char_offset: u32, block: u32) -> u32
 
 impl LineIndex {
     /// The index of these line starts, which ascend, in a text of so many characters.
-    #[inline(always)]
+    #[cfg_attr(not(debug_assertions), inline(always))]
     pub(crate) fn new(starts: Vec<u32>, count: u32) -> Result<LineIndex, AllocError>
     {
         let block = block_for(starts.len(), count);

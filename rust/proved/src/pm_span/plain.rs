@@ -5,7 +5,7 @@
 ///
 /// They are looked at in one word. Without its highest bit, and with the bits of a line feed turned over, a byte is 0
 /// where it was a line feed: any other sets the highest bit of a sum.
-#[inline(always)]
+#[cfg_attr(not(debug_assertions), inline(always))]
 fn count_in_word(bytes: &[u8; 8]) -> Option<usize>
 {
     let word = u64::from_le_bytes(*bytes);
@@ -18,7 +18,7 @@ fn count_in_word(bytes: &[u8; 8]) -> Option<usize>
 }
 
 /// How many plain bytes stand at the front of a few, one after another.
-#[inline(always)]
+#[cfg_attr(not(debug_assertions), inline(always))]
 fn count_by_bytes(bytes: &[u8]) -> usize
 {
     let mut count = 0;
@@ -29,7 +29,7 @@ fn count_by_bytes(bytes: &[u8]) -> usize
 }
 
 /// How many plain bytes stand at the front.
-#[inline(always)]
+#[cfg_attr(not(debug_assertions), inline(always))]
 pub(crate) fn count_plain(bytes: &[u8]) -> usize
 {
     let mut count = 0;

@@ -49,7 +49,7 @@ pub(crate) struct FirstLine<'a> {
 }
 
 /// The first line of the text. A line of ASCII is read once, by words.
-#[inline(always)]
+#[cfg_attr(not(debug_assertions), inline(always))]
 pub(crate) fn first_line(text: &str) -> FirstLine<'_>
 {
     let plain = count_plain(text.as_bytes());

@@ -18,7 +18,7 @@ pub(crate) struct Lines {
 }
 
 /// The lines of the text.
-#[inline(always)]
+#[cfg_attr(not(debug_assertions), inline(always))]
 pub(crate) fn find_lines(text: &str) -> Result<Lines, AllocError>
 {
     let mut starts = Vec::new();

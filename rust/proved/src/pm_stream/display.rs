@@ -41,7 +41,7 @@ fn print_trees<W: fmt::Write>(
 }
 
 // What is printed of one step, with a space before it if gap. Then gap is whether one goes before what comes after it.
-#[inline(always)]
+#[cfg_attr(not(debug_assertions), inline(always))]
 fn print_step<W: fmt::Write>(
     step: Step<'_>,
     gap: &mut bool,

@@ -193,7 +193,7 @@ impl Parser {
 
     /// Takes a tree that may be put into a stream.
     // Inlined so that the tree is made in the list itself.
-    #[inline(always)]
+    #[cfg_attr(not(debug_assertions), inline(always))]
     fn push(&mut self, tree: TokenTree) -> Result<(), AllocError>
     {
         // Proofs learn by it that the tree is built.

@@ -55,7 +55,7 @@ pub fn into_trees(stream: TokenStream) -> Result<Vec<TokenTree>, AllocError>
 /// - `ensures left`: <code>group.new ≡ record group.old { stream = [nil] }</code>
 ///
 /// [nil]: crate::contracts#pm_stream.Forest.nil
-#[inline(always)]
+#[cfg_attr(not(debug_assertions), inline(always))]
 pub fn take_stream(group: &mut Group) -> TokenStream
 {
     group.take_stream()
@@ -66,7 +66,7 @@ pub fn take_stream(group: &mut Group) -> TokenStream
 /// # Contract
 ///
 /// - `ensures`: <code>group.new ≡ record group.old { stream = stream }</code>
-#[inline(always)]
+#[cfg_attr(not(debug_assertions), inline(always))]
 pub fn set_stream(group: &mut Group, stream: TokenStream)
 {
     group.set_stream(stream);
@@ -83,7 +83,7 @@ pub fn set_stream(group: &mut Group, stream: TokenStream)
 /// [joined]: crate::contracts#pm_stream.Forest.joined
 /// [split]: crate::contracts#pm_stream.Building.split
 /// [OnErr]: crate::contracts#std.OnErr
-#[inline(always)]
+#[cfg_attr(not(debug_assertions), inline(always))]
 pub fn put_group(stream: &mut TokenStream, group: Group) -> Result<(), AllocError>
 {
     stream.put_group(group)
@@ -100,7 +100,7 @@ pub fn put_group(stream: &mut TokenStream, group: Group) -> Result<(), AllocErro
 /// [joined]: crate::contracts#pm_stream.Forest.joined
 /// [split]: crate::contracts#pm_stream.Building.split
 /// [OnErr]: crate::contracts#std.OnErr
-#[inline(always)]
+#[cfg_attr(not(debug_assertions), inline(always))]
 pub fn put_ident(stream: &mut TokenStream, ident: Ident) -> Result<(), AllocError>
 {
     stream.put_ident(ident)
@@ -117,7 +117,7 @@ pub fn put_ident(stream: &mut TokenStream, ident: Ident) -> Result<(), AllocErro
 /// [joined]: crate::contracts#pm_stream.Forest.joined
 /// [split]: crate::contracts#pm_stream.Building.split
 /// [OnErr]: crate::contracts#std.OnErr
-#[inline(always)]
+#[cfg_attr(not(debug_assertions), inline(always))]
 pub fn put_punct(stream: &mut TokenStream, punct: Punct) -> Result<(), AllocError>
 {
     stream.put_punct(punct)
@@ -135,7 +135,7 @@ pub fn put_punct(stream: &mut TokenStream, punct: Punct) -> Result<(), AllocErro
 /// [joined]: crate::contracts#pm_stream.Forest.joined
 /// [split]: crate::contracts#pm_stream.Building.split
 /// [OnErr]: crate::contracts#std.OnErr
-#[inline(always)]
+#[cfg_attr(not(debug_assertions), inline(always))]
 pub fn put_literal(stream: &mut TokenStream, literal: Literal) -> Result<(), AllocError>
 {
     stream.put_literal(literal)

@@ -112,7 +112,7 @@ fn place_trees_at(base: u32, text: &str) -> Result<Vec<PlacedTree>, ParseError>
 }
 
 /// Where the piece at the front of the text ends, if it begins at this place.
-#[inline(always)]
+#[cfg_attr(not(debug_assertions), inline(always))]
 fn end_of(piece: Piece, text: &str, start: Place) -> Place
 {
     // Most pieces are short and on one line, and aren't looked through again.
@@ -126,7 +126,7 @@ fn end_of(piece: Piece, text: &str, start: Place) -> Place
 }
 
 /// Whether no piece of this kind has a line feed.
-#[inline(always)]
+#[cfg_attr(not(debug_assertions), inline(always))]
 fn has_one_line(kind: PieceKind) -> bool
 {
     match kind {
@@ -149,7 +149,7 @@ fn past(start: Place, text: &str) -> Place
 }
 
 /// The place after a character.
-#[inline(always)]
+#[cfg_attr(not(debug_assertions), inline(always))]
 fn past_char(place: Place, c: char) -> Place
 {
     if c == '\n' {
@@ -224,7 +224,7 @@ impl Placer {
     }
 
     /// Adds a tree of this kind.
-    #[inline(always)]
+    #[cfg_attr(not(debug_assertions), inline(always))]
     fn push(&mut self, start: Place, end: Place, kind: TreeKind) -> Result<(), AllocError>
     {
         self.trees.push_fallibly(PlacedTree { start, end, kind })?;

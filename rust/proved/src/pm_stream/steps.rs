@@ -88,7 +88,7 @@ impl<'a> Steps<'a> {
     /// [FollowedBy]: crate::contracts#pm_stream.Steps.FollowedBy
     /// [OnErr]: crate::contracts#std.OnErr
     /// [EntersNext]: crate::contracts#pm_stream.Steps.EntersNext
-    #[inline(always)]
+    #[cfg_attr(not(debug_assertions), inline(always))]
     pub fn try_next(&mut self) -> Result<Option<Step<'a>>, AllocError>
     {
         let Some((tree, after)) = self.left.split_first() else {

@@ -82,7 +82,7 @@ impl Drop for TokenStream {
 }
 
 // The last group of a list that has no other owner. The tokens after it are dropped.
-#[inline(always)]
+#[cfg_attr(not(debug_assertions), inline(always))]
 fn take_group(shared: &mut Rc<Vec<TokenTree>>) -> Option<Group>
 {
     match Rc::get_mut(shared) {
@@ -92,7 +92,7 @@ fn take_group(shared: &mut Rc<Vec<TokenTree>>) -> Option<Group>
 }
 
 // The last group. The tokens after it are dropped.
-#[inline(always)]
+#[cfg_attr(not(debug_assertions), inline(always))]
 fn pop_group(trees: &mut Vec<TokenTree>) -> Option<Group>
 {
     while let Some(tree) = trees.pop() {
@@ -375,7 +375,7 @@ impl Group {
     }
 
     /// Its trees, of which it keeps none.
-    #[inline(always)]
+    #[cfg_attr(not(debug_assertions), inline(always))]
     pub(crate) fn take_stream(&mut self) -> TokenStream
     {
         let trees = self.stream.trees.take();
@@ -383,7 +383,7 @@ impl Group {
     }
 
     /// Puts these trees in place of its own.
-    #[inline(always)]
+    #[cfg_attr(not(debug_assertions), inline(always))]
     pub(crate) fn set_stream(&mut self, stream: TokenStream)
     {
         self.stream = stream;

@@ -198,7 +198,7 @@ fn count_plain(bytes: &[u8], quote: char) -> usize
 }
 
 /// Whether the byte is an ASCII character that prints and is neither this quote nor a backslash.
-#[inline(always)]
+#[cfg_attr(not(debug_assertions), inline(always))]
 pub(crate) fn stands_for_itself(byte: u8, quote: char) -> bool
 {
     byte >= b' ' && byte < 0x7F && byte != b'\\' && char::from(byte) != quote

@@ -23,7 +23,7 @@ pub struct Ident {
 
 impl Ident {
     /// The identifier of this name, which has no `r#`.
-    #[inline(always)]
+    #[cfg_attr(not(debug_assertions), inline(always))]
     pub(crate) fn from_parts(
         name: &str,
         raw: bool,
@@ -37,7 +37,7 @@ impl Ident {
     }
 
     /// The identifier of this name, if the name has no fault.
-    #[inline(always)]
+    #[cfg_attr(not(debug_assertions), inline(always))]
     fn checked(name: &str, raw: bool, span: Span) -> Result<Ident, IdentError>
     {
         match fault(name, raw) {
@@ -73,7 +73,7 @@ impl Ident {
     /// [Err]: crate::contracts#std.Err
     /// [ident_fault]: crate::contracts#pm_token.IdentFault.ident_fault
     /// [Some]: crate::contracts#std.Some
-    #[inline(always)]
+    #[cfg_attr(not(debug_assertions), inline(always))]
     pub fn new(name: &str, span: Span) -> Result<Ident, IdentError>
     {
         Ident::checked(name, false, span)
@@ -103,7 +103,7 @@ impl Ident {
     /// [Err]: crate::contracts#std.Err
     /// [ident_fault]: crate::contracts#pm_token.IdentFault.ident_fault
     /// [Some]: crate::contracts#std.Some
-    #[inline(always)]
+    #[cfg_attr(not(debug_assertions), inline(always))]
     pub fn new_raw(name: &str, span: Span) -> Result<Ident, IdentError>
     {
         Ident::checked(name, true, span)
@@ -127,7 +127,7 @@ impl Ident {
     /// [pointwise]: crate::contracts#std.pointwise
     /// [nat_eq]: crate::contracts#std.nat_eq
     /// [spelled]: crate::contracts#pm_token.Spelling.spelled
-    #[inline(always)]
+    #[cfg_attr(not(debug_assertions), inline(always))]
     pub fn eq_str(&self, text: &str) -> bool
 
         // The same, in words that compute for an ASCII text that is known.
@@ -163,7 +163,7 @@ impl Ident {
     ///
     /// [get_or]: crate::contracts#std.get_or
     /// [spelling]: crate::contracts#pm_token.Spelling.spelling
-    #[inline(always)]
+    #[cfg_attr(not(debug_assertions), inline(always))]
     pub fn first_byte(&self) -> u8
     {
         if self.name.is_raw() {
@@ -176,14 +176,14 @@ impl Ident {
     }
 
     /// The name, without `r#`.
-    #[inline(always)]
+    #[cfg_attr(not(debug_assertions), inline(always))]
     pub(crate) fn name(&self) -> &str
     {
         self.name.as_str()
     }
 
     /// Whether it is raw.
-    #[inline(always)]
+    #[cfg_attr(not(debug_assertions), inline(always))]
     pub(crate) fn is_raw(&self) -> bool
     {
         self.name.is_raw()
@@ -221,7 +221,7 @@ impl Ident {
 /// The same identifier, with the same span. It takes no memory. A name of more than 22 bytes is shared, and the copy
 /// fails where it has more owners than can be counted.
 impl TryClone for Ident {
-    #[inline(always)]
+    #[cfg_attr(not(debug_assertions), inline(always))]
     fn try_clone(&self) -> Result<Ident, AllocError> {
         Ok(Ident {
             name: self.name.try_clone()?,

@@ -27,7 +27,7 @@ pub struct Literal {
 
 impl Literal {
     /// The literal of this text, where it stands. Fails where memory runs out.
-    #[inline(always)]
+    #[cfg_attr(not(debug_assertions), inline(always))]
     pub(crate) fn from_parts(text: &str, span: Span) -> Result<Literal, AllocError>
     {
         Ok(Literal {
@@ -43,7 +43,7 @@ impl Literal {
     /// - `ensures`: <code>[chars] result.now ≡ self.now.text</code>
     ///
     /// [chars]: crate::contracts#std.chars
-    #[inline(always)]
+    #[cfg_attr(not(debug_assertions), inline(always))]
     pub fn text(&self) -> &str
     {
         self.text.as_str()
@@ -80,7 +80,7 @@ impl Literal {
 /// The same literal, with the same span. A text of more than 22 bytes is shared, or copied where it begins with `-`.
 /// The copy fails where the text has more owners than can be counted, or memory runs out.
 impl TryClone for Literal {
-    #[inline(always)]
+    #[cfg_attr(not(debug_assertions), inline(always))]
     fn try_clone(&self) -> Result<Literal, AllocError> {
         Ok(Literal {
             text: self.text.try_clone()?,

@@ -54,13 +54,13 @@ impl Punct {
     /// [IsTrue]: crate::contracts#std.IsTrue
     /// [is_mark]: crate::contracts#lexical.Mark.is_mark
     /// [nowhere]: crate::contracts#pm_span.Extent.nowhere
-    #[inline(always)]
+    #[cfg_attr(not(debug_assertions), inline(always))]
     pub fn new(mark: char, spacing: Spacing) -> Punct
     {
         Punct::from_parts(mark, spacing, Span::call_site())
     }
 
-    #[inline(always)]
+    #[cfg_attr(not(debug_assertions), inline(always))]
     pub(crate) fn from_parts(mark: char, spacing: Spacing, span: Span) -> Punct
     {
         Punct {
@@ -75,7 +75,7 @@ impl Punct {
     /// # Contract
     ///
     /// - `ensures`: <code>result ≡ self.now.mark</code>
-    #[inline(always)]
+    #[cfg_attr(not(debug_assertions), inline(always))]
     pub fn as_char(&self) -> char
     {
         self.mark
@@ -86,7 +86,7 @@ impl Punct {
     /// # Contract
     ///
     /// - `ensures`: <code>result ≡ self.now.spacing</code>
-    #[inline(always)]
+    #[cfg_attr(not(debug_assertions), inline(always))]
     pub fn spacing(&self) -> Spacing
     {
         self.spacing
@@ -122,7 +122,7 @@ impl Punct {
 
 /// The same mark, with the same span. It takes no memory.
 impl TryClone for Punct {
-    #[inline(always)]
+    #[cfg_attr(not(debug_assertions), inline(always))]
     fn try_clone(&self) -> Result<Punct, AllocError> {
         Ok(Punct {
             mark: self.mark,
@@ -144,7 +144,7 @@ crate::shim::display!(Punct);
 
 /// The text of a mark.
 // A text of one byte is written by one store, where a character would be encoded first.
-#[inline(always)]
+#[cfg_attr(not(debug_assertions), inline(always))]
 fn text_of(mark: char) -> &'static str
 {
     match mark {

@@ -13,7 +13,7 @@ use crate::shim::fmt;
 
 /// The identifier of this name, which has no `r#` even if it is raw. Fails where memory runs out.
 // Inlined, as it is what most pieces of a text become.
-#[inline(always)]
+#[cfg_attr(not(debug_assertions), inline(always))]
 /// # Contract
 ///
 /// - `requires`: <code>[IsBuiltToken] (tokens.[Name] raw ([chars] name.now))</code>
@@ -36,7 +36,7 @@ pub fn ident(name: &str, raw: bool, span: Span) -> Result<Ident, AllocError>
 /// - `ensures`: <code>[chars] result.now ≡ ident.now.name</code>
 ///
 /// [chars]: crate::contracts#std.chars
-#[inline(always)]
+#[cfg_attr(not(debug_assertions), inline(always))]
 pub fn name_of(ident: &Ident) -> &str
 {
     ident.name()
@@ -47,7 +47,7 @@ pub fn name_of(ident: &Ident) -> &str
 /// # Contract
 ///
 /// - `ensures`: <code>result ≡ ident.now.raw</code>
-#[inline(always)]
+#[cfg_attr(not(debug_assertions), inline(always))]
 pub fn is_raw(ident: &Ident) -> bool
 {
     ident.is_raw()

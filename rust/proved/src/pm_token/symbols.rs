@@ -41,7 +41,7 @@ impl Text {
     }
 
     /// A copy of the text. Fails where memory runs out.
-    #[inline(always)]
+    #[cfg_attr(not(debug_assertions), inline(always))]
     fn new(text: &str) -> Result<Text, AllocError>
     {
         if text.len() <= ROOM {
@@ -65,7 +65,7 @@ impl Text {
 
 /// The same text, which a long one shares. It fails as the copy of a literal does.
 impl TryClone for Text {
-    #[inline(always)]
+    #[cfg_attr(not(debug_assertions), inline(always))]
     fn try_clone(&self) -> Result<Text, AllocError> {
         match self {
             Text::Short(text) => Ok(Text::Short(text.copy())),
@@ -112,7 +112,7 @@ impl Symbol {
     ///
     /// [IfOk]: crate::contracts#std.IfOk
     /// [chars]: crate::contracts#std.chars
-    #[inline(always)]
+    #[cfg_attr(not(debug_assertions), inline(always))]
     pub fn new(text: &str) -> Result<Symbol, AllocError>
     {
         Ok(Symbol {
@@ -148,7 +148,7 @@ impl Symbol {
     /// [IfSome]: crate::contracts#std.IfSome
     /// [chars]: crate::contracts#std.chars
     /// [IsText]: crate::contracts#pm_token.Text.IsText
-    #[inline(always)]
+    #[cfg_attr(not(debug_assertions), inline(always))]
     pub fn joined(front: &str, back: &str) -> Option<Symbol>
     {
         if front.len() > ROOM || back.len() > ROOM - front.len() {
@@ -161,7 +161,7 @@ impl Symbol {
 
     /// The number in decimal digits, behind a `-` where it is negative, and what follows it, if together they are
     /// short. It takes no memory.
-    #[inline(always)]
+    #[cfg_attr(not(debug_assertions), inline(always))]
     pub(crate) fn number(negative: bool, value: u64, suffix: &str) -> Option<Symbol>
     {
         Some(Symbol {
@@ -179,7 +179,7 @@ impl Symbol {
     /// [IfOk]: crate::contracts#std.IfOk
     /// [chars]: crate::contracts#std.chars
     /// [IsText]: crate::contracts#pm_token.Text.IsText
-    #[inline(always)]
+    #[cfg_attr(not(debug_assertions), inline(always))]
     pub fn concat(front: &str, back: &str) -> Result<Symbol, AllocError>
     {
         match Symbol::joined(front, back) {
@@ -223,7 +223,7 @@ impl Symbol {
     /// - `ensures`: <code>[chars] result.now ≡ self.now</code>
     ///
     /// [chars]: crate::contracts#std.chars
-    #[inline(always)]
+    #[cfg_attr(not(debug_assertions), inline(always))]
     pub fn as_str(&self) -> &str
     {
         match &self.text {
@@ -236,7 +236,7 @@ impl Symbol {
 
 /// The same text, which a long one shares. It fails as the copy of a literal does.
 impl TryClone for Symbol {
-    #[inline(always)]
+    #[cfg_attr(not(debug_assertions), inline(always))]
     fn try_clone(&self) -> Result<Symbol, AllocError> {
         Ok(Symbol {
             text: self.text.try_clone()?,

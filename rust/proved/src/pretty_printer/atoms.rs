@@ -188,7 +188,7 @@ pub static NOTHING: Atom = Atom {
 
 impl Atom {
     /// An atom with no role yet.
-    #[inline(always)]
+    #[cfg_attr(not(debug_assertions), inline(always))]
     pub fn new(kind: Kind, tokens: usize, glued: bool, width: usize) -> Atom {
         // Each field is set once, where the atom is to stand.
         Atom {
@@ -443,7 +443,7 @@ struct Marks {
 }
 
 // The operator that begins with this mark, which is the tree of this index.
-#[inline(always)]
+#[cfg_attr(not(debug_assertions), inline(always))]
 fn operator(punct: &Punct, trees: &[TokenTree], index: usize) -> Marks {
     let second_index = index.saturating_add(1);
     let first = punct.as_char();

@@ -164,7 +164,7 @@ impl<'a> Printer<'a> {
     }
 
     /// The gap before the next token, opener or closer. Once memory ran out, any.
-    #[inline(always)]
+    #[cfg_attr(not(debug_assertions), inline(always))]
     pub fn next_gap(&mut self) -> Gap {
         if self.joined > 0 {
             self.joined -= 1;

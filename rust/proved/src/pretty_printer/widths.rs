@@ -81,7 +81,7 @@ fn ends_statement(own: &Atom, next: &Atom, signs_only: bool) -> bool {
 
 /// Whether a space looks well before the atom of this index, which is to have this role, and which isn't the first of
 /// its list.
-#[inline(always)]
+#[cfg_attr(not(debug_assertions), inline(always))]
 pub fn wants_space(
     atoms: &[Atom],
     first: usize,

@@ -56,7 +56,7 @@ impl StreamBuilder {
     }
 
     /// Puts the tree at the end. So many more are expected.
-    #[inline(always)]
+    #[cfg_attr(not(debug_assertions), inline(always))]
     pub(crate) fn put(&mut self, tree: TokenTree, more: usize) -> Result<(), AllocError>
     {
         match &mut self.trees {
@@ -71,7 +71,7 @@ impl StreamBuilder {
     }
 
     /// Puts a copy of the tree at the end. So many more are expected.
-    #[inline(always)]
+    #[cfg_attr(not(debug_assertions), inline(always))]
     pub(crate) fn put_copy(&mut self, tree: &TokenTree, more: usize) -> Result<(), AllocError>
     {
         match &mut self.trees {
@@ -145,7 +145,7 @@ fn listed(stream: &TokenStream, more: usize) -> Result<Vec<TokenTree>, AllocErro
 }
 
 // Puts the tree at the end of the list.
-#[inline(always)]
+#[cfg_attr(not(debug_assertions), inline(always))]
 fn push(list: &mut Vec<TokenTree>, tree: TokenTree) -> Result<(), AllocError>
 {
     // It computes nothing: proofs learn what is true of every tree.
@@ -155,7 +155,7 @@ fn push(list: &mut Vec<TokenTree>, tree: TokenTree) -> Result<(), AllocError>
 }
 
 // Puts a copy of the tree at the end of the list.
-#[inline(always)]
+#[cfg_attr(not(debug_assertions), inline(always))]
 fn copy_onto(list: &mut Vec<TokenTree>, tree: &TokenTree) -> Result<(), AllocError>
 {
     // It computes nothing: proofs learn what is true of every tree.
@@ -165,7 +165,7 @@ fn copy_onto(list: &mut Vec<TokenTree>, tree: &TokenTree) -> Result<(), AllocErr
 }
 
 // Puts copies of the trees at the end of the list. Groups share what is inside them.
-#[inline(always)]
+#[cfg_attr(not(debug_assertions), inline(always))]
 fn push_copies(list: &mut Vec<TokenTree>, trees: &[TokenTree]) -> Result<(), AllocError>
 {
     list.reserve_fallibly(trees.len())?;
@@ -176,7 +176,7 @@ fn push_copies(list: &mut Vec<TokenTree>, trees: &[TokenTree]) -> Result<(), All
 }
 
 // Puts a copy of the tree at the end of the list. Each kind has a line, so that a copy is made where it stands.
-#[inline(always)]
+#[cfg_attr(not(debug_assertions), inline(always))]
 fn push_copy(list: &mut Vec<TokenTree>, tree: &TokenTree) -> Result<(), AllocError>
 {
     match tree {

@@ -21,7 +21,7 @@ pub(crate) struct Repetition<'a> {
 }
 
 // What the tree begins before these. `None` where it stands for itself.
-#[inline(always)]
+#[cfg_attr(not(debug_assertions), inline(always))]
 pub(crate) fn interpolation_at<'a>(
     tree: &TokenTree,
     after: &'a [TokenTree],
@@ -85,7 +85,7 @@ fn all_digits(text: &str) -> bool
 }
 
 // Whether the tree is this mark, Joint or Alone.
-#[inline(always)]
+#[cfg_attr(not(debug_assertions), inline(always))]
 fn is_mark(tree: &TokenTree, mark: char) -> bool
 {
     match tree {

@@ -75,7 +75,7 @@ fn fill_rest(
 }
 
 // Makes the tree, which begins nothing, what comes out in its place.
-#[inline(always)]
+#[cfg_attr(not(debug_assertions), inline(always))]
 fn settle(
     tree: &mut TokenTree,
     apart: bool,
@@ -90,7 +90,7 @@ fn settle(
 }
 
 // Fills the group inside, or sets the mark Alone.
-#[inline(always)]
+#[cfg_attr(not(debug_assertions), inline(always))]
 fn change(
     tree: &mut TokenTree,
     apart: bool,
@@ -130,7 +130,7 @@ fn fill_group(
 }
 
 // Whether the tree is a mark that comes out Alone before these trees.
-#[inline(always)]
+#[cfg_attr(not(debug_assertions), inline(always))]
 fn comes_apart(tree: &TokenTree, after: &[TokenTree]) -> bool
 {
     match tree {

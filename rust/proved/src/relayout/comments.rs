@@ -69,14 +69,14 @@ pub fn with_doc_comments(text: &str) -> Result<String, RelayoutError>
 }
 
 // Whether nothing but white space stands on the line after this white space, where so it was before it or not.
-#[inline(always)]
+#[cfg_attr(not(debug_assertions), inline(always))]
 fn is_free_after(free: bool, white: &str) -> bool
 {
     free || ends_line(white)
 }
 
 // Whether a line ends in the white space.
-#[inline(always)]
+#[cfg_attr(not(debug_assertions), inline(always))]
 fn ends_line(white: &str) -> bool
 {
     white.chars().any(|c| c == '\n')
@@ -85,7 +85,7 @@ fn ends_line(white: &str) -> bool
 // Writes a comment in the place of the attribute at the front of the text, and before it what is kept up to there.
 // `free` says whether nothing but white space stands before the text on its line. Answers what follows the attribute's
 // line; `None`, and nothing is written, where no attribute is to become a comment.
-#[inline(always)]
+#[cfg_attr(not(debug_assertions), inline(always))]
 fn push_comment<'a>(
     out: &mut TextBuilder,
     kept: &str,
@@ -159,7 +159,7 @@ fn front_of(inner: bool) -> &'static str
 
 // What follows the piece at the front of the text, where no attribute is to become a comment, and whether nothing but
 // white space stands before that on its line. `free` says whether so it is before the piece. `None` where none stands.
-#[inline(always)]
+#[cfg_attr(not(debug_assertions), inline(always))]
 fn past_piece(text: &str, first: bool, free: bool) -> Option<(&str, bool)>
 {
     let Some(piece) = piece_at(text, first) else {

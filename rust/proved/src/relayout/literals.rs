@@ -6,7 +6,7 @@ use crate::shim::alloc::AllocError;
 
 // The characters of ASCII at the front of a literal's content that stand for themselves, and what follows them. `None`
 // where no quote begins the text.
-#[inline(always)]
+#[cfg_attr(not(debug_assertions), inline(always))]
 pub(crate) fn plain_front(text: &str) -> Option<(&str, &str)>
 {
     let content = strip(text, "\"")?;
@@ -45,21 +45,21 @@ pub(crate) fn escaped_text<'a>(
 }
 
 // What follows this ASCII front of the text.
-#[inline(always)]
+#[cfg_attr(not(debug_assertions), inline(always))]
 pub(crate) fn strip<'a>(text: &'a str, front: &str) -> Option<&'a str>
 {
     text.strip_prefix(front)
 }
 
 // The characters of ASCII at the front that stand for themselves in a literal, and what follows them.
-#[inline(always)]
+#[cfg_attr(not(debug_assertions), inline(always))]
 fn split_plain(text: &str) -> (&str, &str)
 {
     text.split_at(plain_size(text.as_bytes()))
 }
 
 // How many bytes at the front are characters of ASCII that stand for themselves.
-#[inline(always)]
+#[cfg_attr(not(debug_assertions), inline(always))]
 fn plain_size(bytes: &[u8]) -> usize
 {
     let mut count = 0;
@@ -73,7 +73,7 @@ fn plain_size(bytes: &[u8]) -> usize
 }
 
 // Whether the byte is a character of ASCII that stands for itself.
-#[inline(always)]
+#[cfg_attr(not(debug_assertions), inline(always))]
 fn is_plain(byte: u8) -> bool
 {
     byte >= b' ' && byte < 0x7F && byte != b'\\' && byte != b'"'

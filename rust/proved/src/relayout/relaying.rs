@@ -89,7 +89,7 @@ fn is_line(next: PlacedPiece<'_>) -> bool
 // Takes the next choice for the run of white characters from `from` up to `to`, if it isn't empty. A run that changes
 // is written as the choice says, after the text that was kept before it. Answers the text that is kept now, up to `to`
 // and on, and the choices for later runs.
-#[inline(always)]
+#[cfg_attr(not(debug_assertions), inline(always))]
 fn push_run<'a, 'b>(
     out: &mut TextBuilder,
     choices: &'a [White],

@@ -80,7 +80,7 @@ impl<'a> Cursor<'a> {
     /// [left]: crate::contracts#token_buffer.Reads.left
     /// [nil]: crate::contracts#pm_stream.Forest.nil
     /// [Begins]: crate::contracts#token_buffer.Reads.Begins
-    #[inline(always)]
+    #[cfg_attr(not(debug_assertions), inline(always))]
     pub fn next(self) -> Option<(TokenText<'a>, Cursor<'a>)>
     {
         let text = self.text;

@@ -86,7 +86,7 @@ impl Filling {
     /// [IsFaultFor]: crate::contracts#pm_stream.Fault.IsFaultFor
     /// [IsStray]: crate::contracts#pm_stream.Fault.IsStray
     /// [IfTooLong]: crate::contracts#token_buffer.Refused.IfTooLong
-    #[inline(always)]
+    #[cfg_attr(not(debug_assertions), inline(always))]
     pub fn take(&mut self, piece: Piece, lo: u32, at: u32) -> Result<(), BufferError>
     {
         let hi = lo + piece.bytes as u32;

@@ -31,7 +31,7 @@ pub enum Part<'a> {
 /// [part_event]: crate::contracts#token_buffer.Parts.part_event
 /// [unplaced]: crate::contracts#token_buffer.Parts.unplaced
 /// [event_of]: crate::contracts#token_buffer.Entries.event_of
-#[inline(always)]
+#[cfg_attr(not(debug_assertions), inline(always))]
 pub fn part_of(text: &str, entry: Entry) -> Part<'_>
 {
     match entry {

@@ -31,7 +31,7 @@ impl<'a> Words<'a> {
         }
     }
     /// The next word, from which `here` is the text then on. None at the end, where `here` is empty.
-    #[inline(always)]
+    #[cfg_attr(not(debug_assertions), inline(always))]
     pub fn next(&mut self) -> Option<Said<'a>>
     {
         // In its callers' loops the walk stays in registers, as in `next_piece`.
@@ -49,7 +49,7 @@ impl<'a> Words<'a> {
     }
 
     // Passes white characters of ASCII, all at once: they have no words. Then `here` is what is left.
-    #[inline(always)]
+    #[cfg_attr(not(debug_assertions), inline(always))]
     fn pass_white(&mut self)
     {
         pass_white(&mut self.walk);

@@ -27,7 +27,7 @@ impl Digest {
     }
 
     /// Puts a number in.
-    #[inline(always)]
+    #[cfg_attr(not(debug_assertions), inline(always))]
     pub fn number(&mut self, number: u64) {
         let mixed = (self.state ^ number).wrapping_mul(0x9e37_79b9_7f4a_7c15);
         self.state = mixed ^ (mixed >> 29);

@@ -5,7 +5,7 @@ use crate::lexical::bytes::{Base, Class, count_ascii, holds_ascii};
 use crate::lexical::quick::byte_at;
 
 /// Whether a number of digits alone that the byte follows ends there, and is no front of a float.
-#[inline(always)]
+#[cfg_attr(not(debug_assertions), inline(always))]
 fn ends_number(byte: u8) -> bool
 {
     byte.is_ascii() && byte != b'.' && !holds_ascii(Class::IdentifierContinue, byte)
@@ -20,7 +20,7 @@ fn ends_number(byte: u8) -> bool
 /// [IfSome]: crate::contracts#std.IfSome
 /// [IsAsciiAt]: crate::contracts#lexical.Quick.IsAsciiAt
 /// [Number]: crate::contracts#lexical.Number.Number
-#[inline(always)]
+#[cfg_attr(not(debug_assertions), inline(always))]
 pub fn number_size(text: &str) -> Option<usize>
 {
     let bytes = text.as_bytes();
@@ -45,14 +45,14 @@ fn count_digits(bytes: &[u8]) -> usize
 }
 
 /// Whether a number that the byte follows ends there, and has no suffix.
-#[inline(always)]
+#[cfg_attr(not(debug_assertions), inline(always))]
 fn ends_digits(byte: u8) -> bool
 {
     byte.is_ascii() && !holds_ascii(Class::IdentifierContinue, byte)
 }
 
 /// How many bytes the suffix of a number has that stands at the front, before ASCII, and begins with no exponent.
-#[inline(always)]
+#[cfg_attr(not(debug_assertions), inline(always))]
 fn suffix_size(bytes: &[u8]) -> Option<usize>
 {
     let first = byte_at(bytes, 0);
@@ -71,7 +71,7 @@ fn suffix_size(bytes: &[u8]) -> Option<usize>
 }
 
 /// How many bytes the digits of an exponent have at the front, before ASCII, with no `_` before them.
-#[inline(always)]
+#[cfg_attr(not(debug_assertions), inline(always))]
 fn exponent_digits_size(bytes: &[u8]) -> Option<usize>
 {
     if !holds_ascii(Class::Digit, byte_at(bytes, 0)) {
@@ -86,7 +86,7 @@ fn exponent_digits_size(bytes: &[u8]) -> Option<usize>
 }
 
 /// How many bytes the exponent has at the front, with no `_` before its digits.
-#[inline(always)]
+#[cfg_attr(not(debug_assertions), inline(always))]
 fn exponent_size(bytes: &[u8]) -> Option<usize>
 {
     if !holds_ascii(Class::ExponentLetter, byte_at(bytes, 0)) {
@@ -100,7 +100,7 @@ fn exponent_size(bytes: &[u8]) -> Option<usize>
 }
 
 /// How many bytes an exponent and a suffix have at the front.
-#[inline(always)]
+#[cfg_attr(not(debug_assertions), inline(always))]
 fn exponent_end_size(bytes: &[u8]) -> Option<usize>
 {
     let exponent = exponent_size(bytes)?;
@@ -109,7 +109,7 @@ fn exponent_end_size(bytes: &[u8]) -> Option<usize>
 }
 
 /// How many bytes the float has that stands at the front, with an exponent right after its `digits` first bytes.
-#[inline(always)]
+#[cfg_attr(not(debug_assertions), inline(always))]
 fn dotless_size(bytes: &[u8], digits: usize) -> Option<usize>
 {
     if !holds_ascii(Class::ExponentLetter, byte_at(bytes, digits)) {
@@ -120,7 +120,7 @@ fn dotless_size(bytes: &[u8], digits: usize) -> Option<usize>
 }
 
 /// How many bytes may end a float at the front, after its dot and the digits there: an exponent, if any, and a suffix.
-#[inline(always)]
+#[cfg_attr(not(debug_assertions), inline(always))]
 fn fraction_end_size(bytes: &[u8]) -> Option<usize>
 {
     match suffix_size(bytes) {
@@ -130,7 +130,7 @@ fn fraction_end_size(bytes: &[u8]) -> Option<usize>
 }
 
 /// How many bytes the float has that stands at the front, with a dot right after its `digits` first bytes.
-#[inline(always)]
+#[cfg_attr(not(debug_assertions), inline(always))]
 fn float_size(bytes: &[u8], digits: usize) -> Option<usize>
 {
     if byte_at(bytes, digits) != b'.' {
@@ -148,7 +148,7 @@ fn float_size(bytes: &[u8], digits: usize) -> Option<usize>
 
 /// How many bytes the number has that stands at the front, with `0` and the letter for its prefix, before a digit of
 /// the base.
-#[inline(always)]
+#[cfg_attr(not(debug_assertions), inline(always))]
 fn based_size(bytes: &[u8], letter: u8, base: Base) -> Option<usize>
 {
     if byte_at(bytes, 0) != b'0' || byte_at(bytes, 1) != letter {
@@ -165,14 +165,14 @@ fn based_size(bytes: &[u8], letter: u8, base: Base) -> Option<usize>
 }
 
 /// Whether the byte begins a suffix of an integer, and neither a base nor an exponent.
-#[inline(always)]
+#[cfg_attr(not(debug_assertions), inline(always))]
 fn begins_suffix(byte: u8) -> bool
 {
     byte == b'u' || byte == b'i' || byte == b'f'
 }
 
 /// How many bytes the integer has that stands at the front, with a suffix right after its `digits` first bytes.
-#[inline(always)]
+#[cfg_attr(not(debug_assertions), inline(always))]
 fn suffixed_size(bytes: &[u8], digits: usize) -> Option<usize>
 {
     if !begins_suffix(byte_at(bytes, digits)) {

@@ -10,7 +10,7 @@ use crate::lexical::text::{split_first, strip};
 use crate::shim::memchr::memchr3;
 
 /// Whether a literal between quotes that the byte follows ends there, with no suffix.
-#[inline(always)]
+#[cfg_attr(not(debug_assertions), inline(always))]
 fn ends_literal(byte: u8) -> bool
 {
     byte.is_ascii() && !holds_ascii(Class::IdentifierStart, byte)
@@ -18,7 +18,7 @@ fn ends_literal(byte: u8) -> bool
 
 /// Whether the byte may be the first of the two digits after `x`. In a C string no byte may: two zeros are forbidden
 /// there, which is left to the slower way.
-#[inline(always)]
+#[cfg_attr(not(debug_assertions), inline(always))]
 fn begins_pair(byte: u8, kind: StringKind) -> bool
 {
     match kind {
@@ -29,7 +29,7 @@ fn begins_pair(byte: u8, kind: StringKind) -> bool
 }
 
 /// How many bytes `x` and its two digits have at the front, by the rule `hex-escape`.
-#[inline(always)]
+#[cfg_attr(not(debug_assertions), inline(always))]
 fn hex_size(bytes: &[u8], kind: StringKind) -> Option<usize>
 {
     if byte_at(bytes, 0) == b'x'
@@ -61,7 +61,7 @@ fn unicode_size(bytes: &[u8], kind: StringKind) -> Option<usize>
 }
 
 /// How many bytes the escape of one letter has at the front, after its backslash.
-#[inline(always)]
+#[cfg_attr(not(debug_assertions), inline(always))]
 fn letter_size(bytes: &[u8], kind: StringKind) -> Option<usize>
 {
     let first = byte_at(bytes, 0);
@@ -73,7 +73,7 @@ fn letter_size(bytes: &[u8], kind: StringKind) -> Option<usize>
 
 /// How many bytes the escape has at the front, after its backslash: a letter, `x` and two digits, or the code of a
 /// character.
-#[inline(always)]
+#[cfg_attr(not(debug_assertions), inline(always))]
 fn escape_size(bytes: &[u8], kind: StringKind) -> Option<usize>
 {
     if let Some(size) = letter_size(bytes, kind) {
@@ -87,7 +87,7 @@ fn escape_size(bytes: &[u8], kind: StringKind) -> Option<usize>
 
 /// How many bytes the literal between single quotes has that stands at the front, after its first quote: one of ASCII
 /// that stands for itself, and the other quote.
-#[inline(always)]
+#[cfg_attr(not(debug_assertions), inline(always))]
 fn bare_size(inside: &[u8], kind: StringKind) -> Option<usize>
 {
     let byte = byte_at(inside, 0);
@@ -103,7 +103,7 @@ fn bare_size(inside: &[u8], kind: StringKind) -> Option<usize>
 
 /// How many bytes the literal between single quotes has that stands at the front, after its first quote: a backslash
 /// with a letter, and the other quote.
-#[inline(always)]
+#[cfg_attr(not(debug_assertions), inline(always))]
 fn backslash_size(inside: &[u8], kind: StringKind) -> Option<usize>
 {
     if byte_at(inside, 0) != b'\\' {
@@ -118,7 +118,7 @@ fn backslash_size(inside: &[u8], kind: StringKind) -> Option<usize>
 
 /// How many bytes the literal between single quotes has that stands at the front, after its first quote: one of ASCII
 /// or an escape, and the other quote.
-#[inline(always)]
+#[cfg_attr(not(debug_assertions), inline(always))]
 fn single_size(inside: &[u8], kind: StringKind) -> Option<usize>
 {
     if byte_at(inside, 0) != b'\\' {
@@ -140,7 +140,7 @@ fn single_size(inside: &[u8], kind: StringKind) -> Option<usize>
 /// [IfSome]: crate::contracts#std.IfSome
 /// [IsAsciiAt]: crate::contracts#lexical.Quick.IsAsciiAt
 /// [Character]: crate::contracts#lexical.SingleQuoted.Character
-#[inline(always)]
+#[cfg_attr(not(debug_assertions), inline(always))]
 pub fn character_size(text: &str) -> Option<usize>
 {
     let bytes = text.as_bytes();
@@ -159,7 +159,7 @@ pub fn character_size(text: &str) -> Option<usize>
 /// [IfSome]: crate::contracts#std.IfSome
 /// [IsLiteralAt]: crate::contracts#lexical.Quick.IsLiteralAt
 /// [chars]: crate::contracts#std.chars
-#[inline(always)]
+#[cfg_attr(not(debug_assertions), inline(always))]
 pub fn bare_character(text: &str) -> Option<Extent>
 {
     let bytes = text.as_bytes();
@@ -179,7 +179,7 @@ pub fn bare_character(text: &str) -> Option<Extent>
 /// [IfSome]: crate::contracts#std.IfSome
 /// [IsLiteralAt]: crate::contracts#lexical.Quick.IsLiteralAt
 /// [chars]: crate::contracts#std.chars
-#[inline(always)]
+#[cfg_attr(not(debug_assertions), inline(always))]
 pub fn letter_character(text: &str) -> Option<Extent>
 {
     let bytes = text.as_bytes();
@@ -199,7 +199,7 @@ pub fn letter_character(text: &str) -> Option<Extent>
 /// [IfSome]: crate::contracts#std.IfSome
 /// [IsLiteralAt]: crate::contracts#lexical.Quick.IsLiteralAt
 /// [chars]: crate::contracts#std.chars
-#[inline(always)]
+#[cfg_attr(not(debug_assertions), inline(always))]
 pub fn character(text: &str) -> Option<Extent>
 {
     Some(ascii_extent(character_size(text)?))
@@ -214,7 +214,7 @@ pub fn character(text: &str) -> Option<Extent>
 /// [IfSome]: crate::contracts#std.IfSome
 /// [IsAsciiAt]: crate::contracts#lexical.Quick.IsAsciiAt
 /// [Byte]: crate::contracts#lexical.SingleQuoted.Byte
-#[inline(always)]
+#[cfg_attr(not(debug_assertions), inline(always))]
 pub fn byte_size(text: &str) -> Option<usize>
 {
     let bytes = text.as_bytes();
@@ -233,7 +233,7 @@ pub fn byte_size(text: &str) -> Option<usize>
 /// [IfSome]: crate::contracts#std.IfSome
 /// [IsLiteralAt]: crate::contracts#lexical.Quick.IsLiteralAt
 /// [chars]: crate::contracts#std.chars
-#[inline(always)]
+#[cfg_attr(not(debug_assertions), inline(always))]
 pub fn wide_character(text: &str) -> Option<Extent>
 {
     let (quote, inside) = split_first(text)?;
@@ -250,7 +250,7 @@ pub fn wide_character(text: &str) -> Option<Extent>
 }
 
 /// How many bytes may stand after a backslash in a string, at the front: a LF, or an escape.
-#[inline(always)]
+#[cfg_attr(not(debug_assertions), inline(always))]
 fn escaped_size(bytes: &[u8], kind: StringKind) -> Option<usize>
 {
     if byte_at(bytes, 0) == b'\n' {
@@ -261,7 +261,7 @@ fn escaped_size(bytes: &[u8], kind: StringKind) -> Option<usize>
 
 /// Whether a string of the kind may have each character of the stretch. In a C string none may: zeros are forbidden
 /// there, which is left to the slower way.
-#[inline(always)]
+#[cfg_attr(not(debug_assertions), inline(always))]
 fn may_hold(stretch: &[u8], kind: StringKind) -> bool
 {
     match kind {
@@ -272,7 +272,7 @@ fn may_hold(stretch: &[u8], kind: StringKind) -> bool
 }
 
 /// How many bytes stand before the first quote, backslash or CR, if there is one.
-#[inline(always)]
+#[cfg_attr(not(debug_assertions), inline(always))]
 fn plain_size(bytes: &[u8]) -> Option<usize>
 {
     // Often a quote or an escape follows at once.
@@ -284,7 +284,7 @@ fn plain_size(bytes: &[u8]) -> Option<usize>
 }
 
 /// The same, if a string of the kind may have all that stands before it.
-#[inline(always)]
+#[cfg_attr(not(debug_assertions), inline(always))]
 fn stretch_size(bytes: &[u8], kind: StringKind) -> Option<usize>
 {
     let size = plain_size(bytes)?;
@@ -300,7 +300,7 @@ fn stretch_size(bytes: &[u8], kind: StringKind) -> Option<usize>
 ///
 /// Quotes, backslashes and CR are searched for among its bytes: what stands between them, past ASCII too, stands for
 /// itself. The search goes on after each escape: the string is searched once.
-#[inline(always)]
+#[cfg_attr(not(debug_assertions), inline(always))]
 fn body_size(inside: &str, stretch: usize, kind: StringKind) -> Option<usize>
 {
     let bytes = inside.as_bytes();
@@ -334,7 +334,7 @@ fn body_size(inside: &str, stretch: usize, kind: StringKind) -> Option<usize>
 /// [codes]: crate::contracts#std.codes
 /// [IfSome]: crate::contracts#std.IfSome
 /// [IsLiteralAt]: crate::contracts#lexical.Quick.IsLiteralAt
-#[inline(always)]
+#[cfg_attr(not(debug_assertions), inline(always))]
 pub fn plain_string(inside: &str, stretch: usize) -> Option<Extent>
 {
     let bytes = inside.as_bytes();
@@ -364,7 +364,7 @@ pub fn plain_string(inside: &str, stretch: usize) -> Option<Extent>
 /// [backslash]: crate::contracts#lexical.Character.backslash
 /// [IfSome]: crate::contracts#std.IfSome
 /// [IsLiteralAt]: crate::contracts#lexical.Quick.IsLiteralAt
-#[inline(always)]
+#[cfg_attr(not(debug_assertions), inline(always))]
 pub fn escaped_string(text: &str, inside: &str, stretch: usize) -> Option<Extent>
 {
     let size = body_size(inside, stretch, StringKind::Plain)?;
@@ -380,7 +380,7 @@ pub fn escaped_string(text: &str, inside: &str, stretch: usize) -> Option<Extent
 /// [IfSome]: crate::contracts#std.IfSome
 /// [IsLiteralAt]: crate::contracts#lexical.Quick.IsLiteralAt
 /// [chars]: crate::contracts#std.chars
-#[inline(always)]
+#[cfg_attr(not(debug_assertions), inline(always))]
 pub fn string(text: &str) -> Option<Extent>
 {
     let inside = strip(text, "\"")?;
@@ -399,7 +399,7 @@ pub fn string(text: &str) -> Option<Extent>
 /// [IsAt]: crate::contracts#lexical.Found.IsAt
 /// [Str]: crate::contracts#lexical.Quoted.Str
 /// [chars]: crate::contracts#std.chars
-#[inline(always)]
+#[cfg_attr(not(debug_assertions), inline(always))]
 pub fn string_size(text: &str) -> Option<usize>
 {
     let inside = strip(text, "\"")?;
@@ -417,7 +417,7 @@ pub fn string_size(text: &str) -> Option<usize>
 /// [IsAt]: crate::contracts#lexical.Found.IsAt
 /// [ByteStr]: crate::contracts#lexical.Quoted.ByteStr
 /// [chars]: crate::contracts#std.chars
-#[inline(always)]
+#[cfg_attr(not(debug_assertions), inline(always))]
 pub fn byte_string_size(text: &str) -> Option<usize>
 {
     let inside = strip(text, "b\"")?;

@@ -17,7 +17,7 @@ const FIRST_ROOM: usize = 4;
 // first be put together on the stack.
 impl TokenStream {
     /// Puts the tree after the others (`split`). Where memory runs out the stream stays as it was.
-    #[inline(always)]
+    #[cfg_attr(not(debug_assertions), inline(always))]
     pub(crate) fn put(&mut self, tree: TokenTree) -> Result<(), AllocError>
     {
         match tree {
@@ -29,7 +29,7 @@ impl TokenStream {
     }
 
     /// Puts the group after the trees. Where memory runs out the stream stays as it was.
-    #[inline(always)]
+    #[cfg_attr(not(debug_assertions), inline(always))]
     pub(crate) fn put_group(&mut self, group: Group) -> Result<(), AllocError>
     {
         // It computes nothing: proofs learn what is true of every group.
@@ -38,7 +38,7 @@ impl TokenStream {
     }
 
     /// Puts the identifier after the trees. Where memory runs out the stream stays as it was.
-    #[inline(always)]
+    #[cfg_attr(not(debug_assertions), inline(always))]
     pub(crate) fn put_ident(&mut self, ident: Ident) -> Result<(), AllocError>
     {
         // It computes nothing: proofs learn what is true of every identifier.
@@ -47,7 +47,7 @@ impl TokenStream {
     }
 
     /// Puts the mark after the trees. Where memory runs out the stream stays as it was.
-    #[inline(always)]
+    #[cfg_attr(not(debug_assertions), inline(always))]
     pub(crate) fn put_punct(&mut self, punct: Punct) -> Result<(), AllocError>
     {
         // It computes nothing: proofs learn what is true of every mark.
@@ -57,7 +57,7 @@ impl TokenStream {
 
     /// Puts the literal after the trees, a negative one as its `-` and the rest. Where memory runs out the stream
     /// stays as it was.
-    #[inline(always)]
+    #[cfg_attr(not(debug_assertions), inline(always))]
     pub(crate) fn put_literal(&mut self, literal: Literal) -> Result<(), AllocError>
     {
         // It computes nothing: proofs learn what is true of every literal.
@@ -81,7 +81,7 @@ impl TokenStream {
 }
 
 // Puts the tree after those of a list, which is copied first where it is shared.
-#[inline(always)]
+#[cfg_attr(not(debug_assertions), inline(always))]
 fn push(
     trees: &mut Option<Rc<Vec<TokenTree>>>,
     tree: TokenTree,
@@ -110,7 +110,7 @@ fn push_negative(
 }
 
 // Makes a list with no trees, where there is no list.
-#[inline(always)]
+#[cfg_attr(not(debug_assertions), inline(always))]
 fn make_list(trees: &mut Option<Rc<Vec<TokenTree>>>) -> Result<(), AllocError>
 {
     if trees.is_none() {
@@ -127,7 +127,7 @@ fn first_list() -> Result<Rc<Vec<TokenTree>>, AllocError>
 }
 
 // Puts the tree after the others.
-#[inline(always)]
+#[cfg_attr(not(debug_assertions), inline(always))]
 fn push_onto(trees: &mut Vec<TokenTree>, tree: TokenTree) -> Result<(), AllocError>
 {
     trees.push_fallibly(tree)?;

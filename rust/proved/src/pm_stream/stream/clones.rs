@@ -28,7 +28,7 @@ crate::shim::copied!(TokenStream);
 
 /// The same tree, with the same spans. Fails where memory for its text runs out.
 impl TryClone for TokenTree {
-    #[inline(always)]
+    #[cfg_attr(not(debug_assertions), inline(always))]
     fn try_clone(&self) -> Result<TokenTree, AllocError> {
         match self {
             TokenTree::Group(group) => Ok(TokenTree::Group(group.try_clone()?)),

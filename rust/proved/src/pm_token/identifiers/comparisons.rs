@@ -8,7 +8,7 @@ use crate::shim::hash::{Hash, Hasher};
 impl PartialEq for Ident {
     /// Whether both have the same name, and both are raw or both plain, by the rule
     /// `identifier-equality`. Their spans don't count.
-    #[inline(always)]
+    #[cfg_attr(not(debug_assertions), inline(always))]
     fn eq(&self, other: &Ident) -> bool
     {
         self.name.same(&other.name)

@@ -81,7 +81,7 @@ fn is_name(text: &str) -> bool
 }
 
 /// Whether the byte is an ASCII letter or `_`.
-#[inline(always)]
+#[cfg_attr(not(debug_assertions), inline(always))]
 fn begins_plain(byte: u8) -> bool
 {
     byte.is_ascii_alphabetic() || byte == b'_'
@@ -114,14 +114,14 @@ static CONTINUES: [bool; 256] = [
 ];
 
 /// Whether the byte is an ASCII letter, a digit or `_`.
-#[inline(always)]
+#[cfg_attr(not(debug_assertions), inline(always))]
 fn continues_plain(byte: u8) -> bool
 {
     CONTINUES[byte as usize]
 }
 
 /// How many bytes at the front are ASCII letters, digits or `_`.
-#[inline(always)]
+#[cfg_attr(not(debug_assertions), inline(always))]
 fn count_plain(bytes: &[u8]) -> usize
 {
     let mut count = 0;
@@ -135,7 +135,7 @@ fn count_plain(bytes: &[u8]) -> usize
 }
 
 /// Whether the text is a name of ASCII letters, digits and `_`. It says nothing of other names.
-#[inline(always)]
+#[cfg_attr(not(debug_assertions), inline(always))]
 fn is_plain_name(text: &str) -> bool
 {
     let Some((first, rest)) = text.as_bytes().split_first() else {
@@ -149,7 +149,7 @@ fn is_plain_name(text: &str) -> bool
 
 /// Why no identifier has the name, by the rule `identifier-fault`.
 // Most names are ASCII, which one look at their bytes tells.
-#[inline(always)]
+#[cfg_attr(not(debug_assertions), inline(always))]
 pub(crate) fn fault(name: &str, raw: bool) -> Option<IdentError>
 {
     if !raw && is_plain_name(name) {

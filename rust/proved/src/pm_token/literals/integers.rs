@@ -40,7 +40,7 @@ enum Suffix {
 
 impl Suffix {
     /// The suffix as it is written.
-    #[inline(always)]
+    #[cfg_attr(not(debug_assertions), inline(always))]
     fn name(self) -> &'static str
     {
         match self {
@@ -62,7 +62,7 @@ impl Suffix {
 }
 
 /// The text of a number of 64 bits and its suffix. Fails where memory runs out.
-#[inline(always)]
+#[cfg_attr(not(debug_assertions), inline(always))]
 fn narrow_unsigned(value: u64, suffix: Suffix) -> Result<Symbol, AllocError>
 {
     match Symbol::number(false, value, suffix.name()) {
@@ -72,7 +72,7 @@ fn narrow_unsigned(value: u64, suffix: Suffix) -> Result<Symbol, AllocError>
 }
 
 /// The same of a number with a sign.
-#[inline(always)]
+#[cfg_attr(not(debug_assertions), inline(always))]
 fn narrow_signed(value: i64, suffix: Suffix) -> Result<Symbol, AllocError>
 {
     match Symbol::number(value < 0, value.unsigned_abs(), suffix.name()) {
@@ -98,7 +98,7 @@ fn wide_signed(value: i128, suffix: Suffix) -> Result<Symbol, AllocError>
 }
 
 /// The text of a number and its suffix. Fails where memory runs out.
-#[inline(always)]
+#[cfg_attr(not(debug_assertions), inline(always))]
 fn unsigned_text(value: u128, suffix: Suffix) -> Result<Symbol, AllocError>
 {
     if value <= u128::from(u64::MAX) {
@@ -108,7 +108,7 @@ fn unsigned_text(value: u128, suffix: Suffix) -> Result<Symbol, AllocError>
 }
 
 /// The same of a number with a sign.
-#[inline(always)]
+#[cfg_attr(not(debug_assertions), inline(always))]
 fn signed_text(value: i128, suffix: Suffix) -> Result<Symbol, AllocError>
 {
     if value >= i128::from(i64::MIN) && value <= i128::from(i64::MAX) {
@@ -118,7 +118,7 @@ fn signed_text(value: i128, suffix: Suffix) -> Result<Symbol, AllocError>
 }
 
 /// The literal of a number without a sign.
-#[inline(always)]
+#[cfg_attr(not(debug_assertions), inline(always))]
 fn unsigned(value: u128, suffix: Suffix) -> Result<Literal, AllocError>
 {
     Ok(Literal {
@@ -128,7 +128,7 @@ fn unsigned(value: u128, suffix: Suffix) -> Result<Literal, AllocError>
 }
 
 /// The literal of a number, with `-` before it where it is negative.
-#[inline(always)]
+#[cfg_attr(not(debug_assertions), inline(always))]
 fn signed(value: i128, suffix: Suffix) -> Result<Literal, AllocError>
 {
     Ok(Literal {

@@ -19,7 +19,7 @@ enum NameText {
 
 impl NameText {
     /// A copy of a short text as a name.
-    #[inline(always)]
+    #[cfg_attr(not(debug_assertions), inline(always))]
     fn short(text: &str, raw: bool) -> NameText
     {
         if raw {
@@ -54,7 +54,7 @@ impl Name {
     ///
     /// [IfOk]: crate::contracts#std.IfOk
     /// [chars]: crate::contracts#std.chars
-    #[inline(always)]
+    #[cfg_attr(not(debug_assertions), inline(always))]
     pub fn new(name: &str, raw: bool) -> Result<Name, AllocError>
     {
         let text = if name.len() <= ROOM {
@@ -72,7 +72,7 @@ impl Name {
     /// - `ensures`: <code>[chars] result.now ≡ self.now.name</code>
     ///
     /// [chars]: crate::contracts#std.chars
-    #[inline(always)]
+    #[cfg_attr(not(debug_assertions), inline(always))]
     pub fn as_str(&self) -> &str
     {
         match &self.text {
@@ -90,7 +90,7 @@ impl Name {
     ///
     /// [chars]: crate::contracts#std.chars
     /// [IsUtf8]: crate::contracts#std.IsUtf8
-    #[inline(always)]
+    #[cfg_attr(not(debug_assertions), inline(always))]
     pub fn as_bytes(&self) -> &[u8]
     {
         match &self.text {
@@ -110,7 +110,7 @@ impl Name {
     /// [chars]: crate::contracts#std.chars
     /// [IsUtf8]: crate::contracts#std.IsUtf8
     /// [false]: crate::contracts#std.false
-    #[inline(always)]
+    #[cfg_attr(not(debug_assertions), inline(always))]
     pub fn plain_bytes(&self) -> Option<&[u8]>
     {
         match &self.text {
@@ -126,7 +126,7 @@ impl Name {
     /// - `ensures`: <code>[IsTrue] result ↔ (self.now ≡ other.now)</code>
     ///
     /// [IsTrue]: crate::contracts#std.IsTrue
-    #[inline(always)]
+    #[cfg_attr(not(debug_assertions), inline(always))]
     pub fn same(&self, other: &Name) -> bool
     {
         match (&self.text, &other.text) {
@@ -147,7 +147,7 @@ impl Name {
     /// # Contract
     ///
     /// - `ensures`: <code>result ≡ self.now.raw</code>
-    #[inline(always)]
+    #[cfg_attr(not(debug_assertions), inline(always))]
     pub fn is_raw(&self) -> bool
     {
         match &self.text {
@@ -159,7 +159,7 @@ impl Name {
 
 /// The same name, which a long one shares. It fails where that has more owners than can be counted.
 impl TryClone for Name {
-    #[inline(always)]
+    #[cfg_attr(not(debug_assertions), inline(always))]
     fn try_clone(&self) -> Result<Name, AllocError> {
         let text = match &self.text {
             NameText::Short(name) => NameText::Short(name.copy()),

@@ -29,14 +29,14 @@ impl Shared {
     }
 
     /// The text.
-    #[inline(always)]
+    #[cfg_attr(not(debug_assertions), inline(always))]
     pub(crate) fn as_str(&self) -> &str
     {
         self.text.as_str()
     }
 
     /// The same text. It takes no memory, and fails where the text has more owners than can be counted.
-    #[inline(always)]
+    #[cfg_attr(not(debug_assertions), inline(always))]
     pub(crate) fn share(&self) -> Result<Shared, AllocError>
     {
         // It computes nothing: proofs learn that the bytes are UTF-8.
@@ -60,14 +60,14 @@ impl Unsigned {
     }
 
     /// The text.
-    #[inline(always)]
+    #[cfg_attr(not(debug_assertions), inline(always))]
     pub(crate) fn as_str(&self) -> &str
     {
         self.text.as_str()
     }
 
     /// The same text. It takes no memory, and fails where the text has more owners than can be counted.
-    #[inline(always)]
+    #[cfg_attr(not(debug_assertions), inline(always))]
     pub(crate) fn share(&self) -> Result<Unsigned, AllocError>
     {
         Ok(Unsigned {

@@ -17,7 +17,7 @@ pub(crate) struct Short {
 
 impl Short {
     /// A copy of the text.
-    #[inline(always)]
+    #[cfg_attr(not(debug_assertions), inline(always))]
     pub(crate) fn new(text: &str) -> Short
     {
         let mut bytes = [0; ROOM];
@@ -29,7 +29,7 @@ impl Short {
     }
 
     /// A copy of both texts, one after the other.
-    #[inline(always)]
+    #[cfg_attr(not(debug_assertions), inline(always))]
     pub(crate) fn joined(front: &str, back: &str) -> Short
     {
         let end = front.len() + back.len();
@@ -43,7 +43,7 @@ impl Short {
     }
 
     /// The number in decimal digits, behind a `-` where it is negative, and what follows it, if that is short.
-    #[inline(always)]
+    #[cfg_attr(not(debug_assertions), inline(always))]
     pub(crate) fn number(negative: bool, value: u64, suffix: &str) -> Option<Short>
     {
         let start = usize::from(negative);
@@ -64,21 +64,21 @@ impl Short {
     }
 
     /// Whether both are the same text.
-    #[inline(always)]
+    #[cfg_attr(not(debug_assertions), inline(always))]
     pub(crate) fn same(&self, other: &Short) -> bool
     {
         self.len == other.len && self.bytes == other.bytes
     }
 
     /// The bytes of the text.
-    #[inline(always)]
+    #[cfg_attr(not(debug_assertions), inline(always))]
     pub(crate) fn as_bytes(&self) -> &[u8]
     {
         &self.bytes[..self.len as usize]
     }
 
     /// The text.
-    #[inline(always)]
+    #[cfg_attr(not(debug_assertions), inline(always))]
     pub(crate) fn as_str(&self) -> &str
     {
         // The invariant says that the bytes are UTF-8, so they aren't looked at again.
@@ -96,7 +96,7 @@ impl Short {
     }
 
     /// The same text.
-    #[inline(always)]
+    #[cfg_attr(not(debug_assertions), inline(always))]
     pub(crate) fn copy(&self) -> Short
     {
         Short {
@@ -107,7 +107,7 @@ impl Short {
 }
 
 /// How many decimal digits the number has.
-#[inline(always)]
+#[cfg_attr(not(debug_assertions), inline(always))]
 fn count_digits(value: u64) -> usize
 {
     if value == 0 {
