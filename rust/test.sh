@@ -281,6 +281,15 @@ replace-with = "here"
 directory = "$room/packages/registry"
 END
 
+# Looks for what clippy finds in examples.
+neat() {
+    local example
+    cargo clippy --version > /dev/null 2>&1 || return
+    for example in "$@"; do
+        try "clippy on example/$example" in_copy "example/$example" clippy --offline --quiet --all-targets -- -D warnings
+    done
+}
+
 if has proc-macro2-1 && has unicode-ident-1 && command -v python3 > /dev/null; then
     try "what would be published is complete, and cargo builds it from what it packages" \
         ../checks/packages "$room/packages/registry"
@@ -311,6 +320,7 @@ if has proc-macro2-1 && has unicode-ident-1; then
     try "the example of an attribute over the bridge" in_copy example/traced test --offline --quiet
     wanted="only a function with a body is traced"
     try "its errors stand at its user's tokens" told traced "$wanted" 5:1 "$wanted" 9:5
+    neat names traced
 else
     skip "the bridge over the public crate, and its examples: no proc-macro2 or unicode-ident"
 fi
@@ -321,6 +331,7 @@ generated() {
 }
 if has quote-1; then
     try "the example of a build script over quote and the package" generated
+    neat generator
 else
     skip "the example of a build script: no quote"
 fi
@@ -335,5 +346,6 @@ for version in 2 1; do
         in_copy example run --offline --quiet -- src/main.rs
     try "the example of a derive over syn $version, quote and the package" \
         in_copy example/getters test --offline --quiet
+    neat . derive getters
 done
 finish

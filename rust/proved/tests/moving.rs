@@ -223,6 +223,8 @@ fn each_call_that_a_page_shows_is_made_above() {
     }
     let (mut count, mut missing) = (0, Vec::new());
     for (name, page) in PAGES {
+        let allocator = page.split(|c: char| !c.is_alphanumeric()).any(|word| word == "Global");
+        assert!(!allocator, "{name} names an allocator, which no call in Cargo takes");
         let text = blocks(page).1;
         let calls = text.lines().flat_map(shown).filter(|call| is_expression(call));
         for call in calls {
