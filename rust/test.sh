@@ -175,6 +175,8 @@ if [ "${minor:-0}" -ge 82 ]; then
     try "rust/proved, with overflow checks: recorded answers, sources, the shim" tested
     try "rust/proved without its features" proved build --offline --quiet
     try "the documents of rust/proved" documented
+    without_shim() { ! grep -rlw --include='*.html' shim "$room/target/doc/proved_tokens"; }
+    try "no page of them names what is hidden in the shim" without_shim
     if cargo clippy --version > /dev/null 2>&1; then
         try "clippy on rust/proved" proved clippy --offline --quiet --all-features --all-targets -- -D warnings
     fi
