@@ -15,7 +15,7 @@ STD_LINES = pathlib.Path(__file__).parent / 'std_words.txt'
 PAGE_HEAD = pathlib.Path(__file__).parent / 'contracts_head.txt'
 
 DEFINED = re.compile(r"(?:(?:abbrev|unfoldable|opaque) )*pub (?:(record|data) )?(\w[\w']*) [:({]")
-MADE_BY = re.compile(r"  (\w[\w']*) : ")
+MADE_BY = re.compile(r"(\w[\w']*) : ")
 SHOWN_AGAIN = re.compile(r'pub use Rattle\.(\w+)\.specs\.([\w.]+)$')
 IMPORT = re.compile(r'ghost\s+use\s+([\w.]+?)(?:\.\{(.*)\}|\s+as\s+(\w+))?\s*;', re.S)
 GHOST = re.compile(r'ghost\s+(\w+)\s*[:=]')
@@ -23,7 +23,7 @@ CLAUSE = re.compile(r'(requires|ensures)\s*(\w+)?\s*\{(.*)\}', re.S)
 # A name with what stands before it: a point makes it a field's, or an alias and a point a word of that module.
 NAME = re.compile(r"(?<![\w.'])(?:([a-z_]\w*)\.)?([A-Za-z_][\w']*)|\"(?:\\.|[^\"\\])*\"")
 BINDERS = re.compile(r'λ ([\w ]+)\.|[({]([\w ]+) : |let (\w+) |(\w+) = ')
-KEYWORDS = {'as', 'else', 'if', 'in', 'let', 'record', 'result', 'self', 'then', '_'}
+KEYWORDS = {'as', 'else', 'if', 'in', 'let', 'record', 'result', 'self', 'Self', 'then', '_'}
 # What clauses name without an import: of Rattle's own library, and of Rust its traits, and types named by one letter.
 GIVEN = {name: ('Rattle.std.specs.Prelude', name) for name in ('Err', 'None', 'Ok', 'Some')}
 RUST = {'Hash', 'Ord', 'Ordering', 'PartialEq', 'PartialOrd', *'ABCDEFGHIJKLMNOPQRSTUVWXYZ'}
@@ -47,22 +47,24 @@ class Words:
 
     def learn(self, crate, module, text):
         """Takes note of the definitions of a file. What a type of data is made by has the type's line, or its own."""
-        line, over, kind = [], '', ''
+        line, over, kind, depth = [], '', None, 0
         for row in text.splitlines():
-            defined, made = DEFINED.match(row), MADE_BY.match(row) if kind == 'data' else None
+            inside = row.lstrip()
+            if inside.startswith('-- '):
+                line.append(inside[3:])
+                continue
             again = SHOWN_AGAIN.match(row)
             if again:
                 self.again[crate, again[2].rpartition('.')[2]] = again[1], again[2]
-            if row.strip().startswith('-- '):
-                line.append(row.strip()[3:])
-                continue
-            if defined:
-                over, kind = ' '.join(line), defined[1]
+            # What is further in than a type's first line is its fields, or what it is made by.
+            if inside and len(row) - len(inside) <= depth:
+                kind = None
+            defined, made = DEFINED.match(inside), MADE_BY.match(inside)
+            if defined and not kind:
+                over, kind, depth = ' '.join(line), defined[1], len(row) - len(inside)
                 self.lines[f'{crate}.{module}', defined[2]] = over
-            elif made:
+            elif made and kind == 'data':
                 self.lines[f'{crate}.{module}', made[1]] = ' '.join(line) or over
-            elif row and not row.startswith(' '):
-                kind = ''
             line = []
 
     def word(self, path, name):

@@ -147,11 +147,16 @@ SPEC = '''\
 abbrev pub Small : ℕ → Type 0
 Small x = x < 9
 
--- what a reader gives
-pub data Outcome : Type 0 where
-  -- nothing, as *p*_q
-  Neither : Outcome
-  Both : ℕ → Outcome
+module _ {A : Type 0} where
+  -- what a reader gives
+  pub data Outcome : Type 0 where
+    -- nothing, as *p*_q
+    Neither : Outcome
+    Both : ℕ → Outcome
+
+-- the sizes
+pub record Sizes : Type 0 where
+  pub Small : ℕ
 
 abbrev pub bare : ℕ
 bare = 1
