@@ -867,6 +867,19 @@ def lists(file):
             file.count('lists')
 
 
+@rule
+def reserved(file):
+    """Writes `push` for `push_reserved`, which Rust's `Vec` lacks: it may be called only where there is room.
+
+        fn f(v: &mut Vec<u8>) { v.push_reserved(1); }
+        => fn f(v: &mut Vec<u8>) { v.push(1); }
+    """
+    for at, token in enumerate(file.tokens):
+        if found(file.tokens, at, '. push_reserved ('):
+            file.tokens[following(file.tokens, at)].text = 'push'
+            file.count('reserved')
+
+
 # What every source of Rattle names without an import, where Rust has another thing of that name or none.
 PRELUDE = ('AllocGlobal', 'Box', 'HostRuntime', 'TryClone', 'TryExtend', 'TryFromIterator')
 # The methods that are of traits of the shim, and those that are of traits of tests.

@@ -190,7 +190,8 @@ fn push(list: &mut Vec<TokenTree>, tree: TokenTree) -> Result<(), AllocError>
 {
     // It computes nothing: proofs learn what is true of every tree.
     tree.span();
-    list.push(tree)?;
+    list.reserve(1)?;
+    list.push_reserved(tree);
     Ok(())
 }
 
@@ -223,17 +224,19 @@ fn push_copies(list: &mut Vec<TokenTree>, trees: &[TokenTree]) -> Result<(), All
     Ok(())
 }
 
-// Puts a copy of the tree at the end of the list. Each kind has a line, so that a copy is made where it stands.
+// Puts a copy of the tree at the end of the list. Room is asked for first, and each kind has a line, so that a copy is
+// made where it stands.
 #[inline(always)]
 fn push_copy(list: &mut Vec<TokenTree>, tree: &TokenTree) -> Result<(), AllocError>
     ensures ok { OnOk result (list.new.items ≡ list.old.items ++ tree.now ∷ []) }
     ensures err { OnErr result (list.new.items ≡ list.old.items) }
 {
+    list.reserve(1)?;
     match tree {
-        TokenTree::Group(group) => list.push(TokenTree::Group(group.clone()?))?,
-        TokenTree::Ident(ident) => list.push(TokenTree::Ident(ident.clone()?))?,
-        TokenTree::Punct(mark) => list.push(TokenTree::Punct(mark.clone()?))?,
-        TokenTree::Literal(literal) => list.push(TokenTree::Literal(literal.clone()?))?,
+        TokenTree::Group(group) => list.push_reserved(TokenTree::Group(group.clone()?)),
+        TokenTree::Ident(ident) => list.push_reserved(TokenTree::Ident(ident.clone()?)),
+        TokenTree::Punct(mark) => list.push_reserved(TokenTree::Punct(mark.clone()?)),
+        TokenTree::Literal(literal) => list.push_reserved(TokenTree::Literal(literal.clone()?)),
     }
     Ok(())
 }

@@ -150,7 +150,8 @@ fn push(list: &mut Vec<TokenTree>, tree: TokenTree) -> Result<(), AllocError>
 {
     // It computes nothing: proofs learn what is true of every tree.
     tree.span();
-    list.push_fallibly(tree)?;
+    list.reserve_fallibly(1)?;
+    list.push(tree);
     Ok(())
 }
 
@@ -175,15 +176,17 @@ fn push_copies(list: &mut Vec<TokenTree>, trees: &[TokenTree]) -> Result<(), All
     Ok(())
 }
 
-// Puts a copy of the tree at the end of the list. Each kind has a line, so that a copy is made where it stands.
+// Puts a copy of the tree at the end of the list. Room is asked for first, and each kind has a line, so that a copy is
+// made where it stands.
 #[cfg_attr(not(debug_assertions), inline(always))]
 fn push_copy(list: &mut Vec<TokenTree>, tree: &TokenTree) -> Result<(), AllocError>
 {
+    list.reserve_fallibly(1)?;
     match tree {
-        TokenTree::Group(group) => list.push_fallibly(TokenTree::Group(group.try_clone()?))?,
-        TokenTree::Ident(ident) => list.push_fallibly(TokenTree::Ident(ident.try_clone()?))?,
-        TokenTree::Punct(mark) => list.push_fallibly(TokenTree::Punct(mark.try_clone()?))?,
-        TokenTree::Literal(literal) => list.push_fallibly(TokenTree::Literal(literal.try_clone()?))?,
+        TokenTree::Group(group) => list.push(TokenTree::Group(group.try_clone()?)),
+        TokenTree::Ident(ident) => list.push(TokenTree::Ident(ident.try_clone()?)),
+        TokenTree::Punct(mark) => list.push(TokenTree::Punct(mark.try_clone()?)),
+        TokenTree::Literal(literal) => list.push(TokenTree::Literal(literal.try_clone()?)),
     }
     Ok(())
 }
