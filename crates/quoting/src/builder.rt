@@ -1,5 +1,6 @@
 //! Streams that are put together.
-ghost use Rattle.std.specs.Prelude.{◌≡◌, ◌≤◌, ◌++◌, ◌∷◌, [], IfOk, OnErr, OnOk, drop, length, take};
+ghost use Rattle.std.specs.Prelude.{◌≡◌, ◌≤◌, ◌<◌, ◌+◌, ◌++◌, ◌∷◌, [], IfOk, OnErr, OnOk, drop, length, take};
+ghost use Rattle.std.specs.Prelude.{vec_capacity, vec_len};
 ghost use Rattle.proc_macro2.specs.Forest.{IsBuilt, joined, nil};
 ghost use Rattle.proc_macro2.specs.Trees.{alone, forest, GoesInside};
 
@@ -219,19 +220,30 @@ fn push_copies(list: &mut Vec<TokenTree>, trees: &[TokenTree]) -> Result<(), All
 {
     list.reserve(trees.len())?;
     for tree in trees {
-        push_copy(list, tree)?;
+        put_copy(list, tree)?;
     }
     Ok(())
 }
 
-// Puts a copy of the tree at the end of the list. Room is asked for first, and each kind has a line, so that a copy is
-// made where it stands.
+// Puts a copy of the tree at the end of the list. Room is asked for first, so that the copy is made where it stands.
 #[inline(always)]
 fn push_copy(list: &mut Vec<TokenTree>, tree: &TokenTree) -> Result<(), AllocError>
     ensures ok { OnOk result (list.new.items ≡ list.old.items ++ tree.now ∷ []) }
     ensures err { OnErr result (list.new.items ≡ list.old.items) }
 {
     list.reserve(1)?;
+    put_copy(list, tree)
+}
+
+// Puts a copy of the tree at the end of the list, which has room for it. Each kind has a line.
+#[inline(always)]
+fn put_copy(list: &mut Vec<TokenTree>, tree: &TokenTree) -> Result<(), AllocError>
+    requires { vec_len list.old < vec_capacity list.old }
+    ensures ok { OnOk result (list.new.items ≡ list.old.items ++ tree.now ∷ []) }
+    ensures err { OnErr result (list.new.items ≡ list.old.items) }
+    ensures len { OnOk result (vec_len list.new ≡ vec_len list.old + 1) }
+    ensures capacity { vec_capacity list.new ≡ vec_capacity list.old }
+{
     match tree {
         TokenTree::Group(group) => list.push_reserved(TokenTree::Group(group.clone()?)),
         TokenTree::Ident(ident) => list.push_reserved(TokenTree::Ident(ident.clone()?)),

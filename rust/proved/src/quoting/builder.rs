@@ -171,17 +171,23 @@ fn push_copies(list: &mut Vec<TokenTree>, trees: &[TokenTree]) -> Result<(), All
 {
     list.reserve_fallibly(trees.len())?;
     for tree in trees {
-        push_copy(list, tree)?;
+        put_copy(list, tree)?;
     }
     Ok(())
 }
 
-// Puts a copy of the tree at the end of the list. Room is asked for first, and each kind has a line, so that a copy is
-// made where it stands.
+// Puts a copy of the tree at the end of the list. Room is asked for first, so that the copy is made where it stands.
 #[cfg_attr(not(debug_assertions), inline(always))]
 fn push_copy(list: &mut Vec<TokenTree>, tree: &TokenTree) -> Result<(), AllocError>
 {
     list.reserve_fallibly(1)?;
+    put_copy(list, tree)
+}
+
+// Puts a copy of the tree at the end of the list, which has room for it. Each kind has a line.
+#[cfg_attr(not(debug_assertions), inline(always))]
+fn put_copy(list: &mut Vec<TokenTree>, tree: &TokenTree) -> Result<(), AllocError>
+{
     match tree {
         TokenTree::Group(group) => list.push(TokenTree::Group(group.try_clone()?)),
         TokenTree::Ident(ident) => list.push(TokenTree::Ident(ident.try_clone()?)),
