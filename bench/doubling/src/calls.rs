@@ -108,7 +108,7 @@ fn fronts(stream: &TokenStream) {
 }
 
 /// Takes the items of a stream, and those in their bodies.
-fn outline(stream: &TokenStream) {
+fn files(stream: &TokenStream) {
     let mut streams = vec![stream];
     while let Some(stream) = streams.pop() {
         if let Ok(file) = parse_file(stream.trees()) {
@@ -234,7 +234,7 @@ pub const CALLS: &[Call] = &[
         }
         keep(quote.finish());
     })),
-    ("outline", |text| on_stream(text, outline)),
+    ("parse_file", |text| on_stream(text, files)),
     ("fronts", |text| on_stream(text, fronts)),
     ("split_any_item", |text| on_stream(text, |stream| split(stream, |trees| split_any_item(trees).ok()))),
     ("split_attribute", |text| on_stream(text, |stream| split(stream, |trees| split_attribute(trees)))),
