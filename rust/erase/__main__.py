@@ -13,6 +13,7 @@ as FILE:LINE and nothing is written. rules.py has the rules, checks.py what is r
 """
 import collections
 import pathlib
+import re
 import shutil
 import sys
 
@@ -148,6 +149,19 @@ def make_library(checkout, folder):
     shutil.copytree(PACKAGE, folder, dirs_exist_ok=True,
                     ignore=lambda at, names: [name for name in names if pathlib.Path(at, name) in made])
     write(files)
+    show_errors(folder / 'src')
+
+
+def show_errors(source):
+    """Lets Rust's `Error`, which is by hand, be of errors that an older checkout doesn't print: each is then shown."""
+    errors = source / 'native/errors.rs'
+    written = ' '.join(path.read_text() for path in source.rglob('*.rs'))
+    rows = re.findall(r'^( +#\[cfg.*\]\n)? +((?:\w+::)*(\w+))(?: \{[ \w]*\})?;$', errors.read_text(), re.M)
+    for attribute, path, name in rows:
+        if re.search(rf'impl Display for {name}\b|display!\(\s*{name}\b', written) is None:
+            errors.write_text(f'{errors.read_text()}\n{attribute.strip()}\nimpl core::fmt::Display for {path} {{\n'
+                              '    fn fmt(&self, f: &mut core::fmt::Formatter<\'_>) -> core::fmt::Result {\n'
+                              '        core::fmt::Debug::fmt(self, f)\n    }\n}\n')
 
 
 def main():

@@ -843,9 +843,9 @@ def lists(file):
     A type of the library that has such a method keeps its name. `self` and what is called `quote` are of such types;
     what else is, its declaration says. rustc refuses the rest.
 
-        fn f(a: &str, v: &mut Vec<u8>) -> Result<String, E> { v.push(1)?; self.push(2)?; String::from_str(a)? }
+        fn f(a: &str, v: &mut Vec<u8>) -> Result<String, E> { v.push(1)?; self.push(2)?; return String::from_str(a); }
         => use crate::shim::prelude::{Grow, GrowText}; fn f(a: &str, v: &mut Vec<u8>) -> Result<String, E> {
-           v.push_fallibly(1)?; self.push(2)?; String::from_str_fallibly(a)? }
+           v.push_fallibly(1)?; self.push(2)?; return String::from_str_fallibly(a); }
     """
     tokens, own, fields = file.tokens, set(), set()
     for at, token in enumerate(tokens):
@@ -861,8 +861,8 @@ def lists(file):
         is_field = tokens[preceding(tokens, owner)].text == '.'
         kept = tokens[owner].text in (fields if is_field else own | {'quote', 'self'})
         grows = token.text in GROWING and tokens[before].text == '.' and not kept
-        path = text_of(t for t in tokens[max(0, before - 12):at] if is_code(t))
-        if grows or token.text in MAKING and re.search(r'\b(String|Vec|Vec::<[^:]*>)::$', path):
+        path = ' '.join(t.text for t in tokens[max(0, before - 12):at] if is_code(t))
+        if grows or token.text in MAKING and re.search(r'(?<!\S)(String|Vec|Vec : : < [^:]* >) : :$', path):
             token.text += '_fallibly'
             file.count('lists')
 
