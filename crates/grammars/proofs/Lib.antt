@@ -1,0 +1,13 @@
+pub mod SoundLemmas
+pub mod StepLemmas
+pub mod CompleteLemmas
+pub mod ProductiveLemmas
+pub mod ReadingLemmas
+pub mod TestLemmas
+pub mod ListLemmas
+pub mod FindLemmas
+pub mod WordLemmas
+pub mod WholeLemmas
+pub mod LawLemmas
+pub mod FlatLemmas
+pub mod PieceLemmas

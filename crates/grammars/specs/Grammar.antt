@@ -1,0 +1,71 @@
+-- Grammars over signs, as data, and what they derive.
+use Rattle.std.specs.Prelude.{◌≡◌, Bool, true, List, [], ◌∷◌, ◌++◌}
+
+-- a grammar over the signs C, whose rules have the names N, and which marks parts by the labels L
+pub data Grammar (C N L : Type 0) : Type 0 where
+  -- nothing
+  Nothing : Grammar C N L
+  -- one sign that passes a test
+  Sign : (C → Bool) → Grammar C N L
+  -- one sign that passes a test, followed by the rule with this name: the one word that refers to a rule
+  To : (C → Bool) → N → Grammar C N L
+  -- no sign, but a mark among the events: a part begins or ends here, or is of this kind
+  Mark : L → Grammar C N L
+  -- the first, followed by the second
+  Then : Grammar C N L → Grammar C N L → Grammar C N L
+  -- one of the two
+  Either : Grammar C N L → Grammar C N L → Grammar C N L
+  -- any number of it, one after the other
+  Many : Grammar C N L → Grammar C N L
+  -- any number of the first, with the second between each two and perhaps once more at the end
+  Listed : Grammar C N L → Grammar C N L → Grammar C N L
+
+-- what a reading consists of: signs, with marks between them
+pub data Event (C L : Type 0) : Type 0 where
+  -- a sign
+  One : C → Event C L
+  -- a mark
+  Marked : L → Event C L
+
+-- it, or nothing
+abbrev pub perhaps : {C N L : Type 0} → Grammar C N L → Grammar C N L
+perhaps a = Either a Nothing
+
+-- what may follow an element of a list
+abbrev pub further : {C N L : Type 0} → Grammar C N L → Grammar C N L → Grammar C N L
+further a s = perhaps (Then s (Listed a s))
+
+-- the signs among the events
+abbrev pub signs_of : {C L : Type 0} → List (Event C L) → List C
+signs_of [] = []
+signs_of (One c ∷ events) = c ∷ signs_of events
+signs_of (Marked l ∷ events) = signs_of events
+
+-- the events that a grammar derives, where `rules` gives the grammar of each name
+pub data Derives {C N L : Type 0} (rules : N → Grammar C N L) : Grammar C N L → List (Event C L) → Type 0 where
+  nothing : Derives rules Nothing []
+  sign : {passes : C → Bool} (c : C) → passes c ≡ true → Derives rules (Sign passes) (One c ∷ [])
+  to : {passes : C → Bool} {n : N} (c : C) {events : List (Event C L)} → passes c ≡ true
+      → Derives rules (rules n) events
+      → Derives rules (To passes n) (One c ∷ events)
+  mark : (l : L) → Derives rules (Mark l) (Marked l ∷ [])
+  both : {a b : Grammar C N L} {front back : List (Event C L)} → Derives rules a front → Derives rules b back
+      → Derives rules (Then a b) (front ++ back)
+  first : {a b : Grammar C N L} {events : List (Event C L)} → Derives rules a events
+      → Derives rules (Either a b) events
+  second : {a b : Grammar C N L} {events : List (Event C L)} → Derives rules b events
+      → Derives rules (Either a b) events
+  none : {a : Grammar C N L} → Derives rules (Many a) []
+  more : {a : Grammar C N L} {front back : List (Event C L)} → Derives rules a front → Derives rules (Many a) back
+      → Derives rules (Many a) (front ++ back)
+  empty : {a s : Grammar C N L} → Derives rules (Listed a s) []
+  last : {a s : Grammar C N L} {events : List (Event C L)} → Derives rules a events → Derives rules (Listed a s) events
+  element : {a s : Grammar C N L} {front mid back : List (Event C L)} → Derives rules a front → Derives rules s mid
+      → Derives rules (Listed a s) back
+      → Derives rules (Listed a s) (front ++ (mid ++ back))
+
+-- what a stack of grammars derives, one after the other
+abbrev pub Reads : {C N L : Type 0} → (N → Grammar C N L) → List (Grammar C N L) → List (Event C L) → Type 0
+Reads rules [] events = events ≡ []
+Reads {C = C} {L = L} rules (g ∷ k) events =
+    (front back : List (Event C L)) × (events ≡ front ++ back) × Derives rules g front × Reads rules k back

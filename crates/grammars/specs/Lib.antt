@@ -1,0 +1,10 @@
+pub mod Grammar
+pub mod Machine
+pub mod First
+pub mod Deterministic
+pub mod Tests
+pub mod Find
+pub mod Reading
+pub mod Lists
+pub mod Words
+pub mod Laws

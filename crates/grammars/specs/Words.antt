@@ -1,0 +1,70 @@
+-- What each word of grammars finds: equations by which a reader made of functions, one a rule, is proved.
+use Rattle.std.specs.Prelude.{◌≡◌, Bool, true, false, List, [], ◌∷◌}
+use Rattle.grammars.specs.Grammar.{Grammar, Nothing, Sign, To, Mark, Then, Either, Many, Listed, One, Marked, further}
+use Rattle.grammars.specs.Machine.{is_nullable, skipped}
+use Rattle.grammars.specs.First.{heads}
+use Rattle.grammars.specs.Find.{Past, Stuck, front, and_then, find}
+
+module _ (C N L : Type 0) where
+  -- a grammar that does not begin at the first sign finds nothing there, if it derives a sign
+  abbrev pub LacksFinds : Type 0
+  LacksFinds = (rules : N → Grammar C N L) (g : Grammar C N L) (signs : List C) → heads g signs ≡ false
+      → is_nullable g ≡ false
+      → find rules g signs ≡ Stuck signs
+
+  -- and it finds its marks alone, if it need not derive a sign
+  abbrev pub SkipsFinds : Type 0
+  SkipsFinds = (rules : N → Grammar C N L) (g : Grammar C N L) (signs : List C) → heads g signs ≡ false
+      → is_nullable g ≡ true
+      → find rules g signs ≡ Past (skipped g) signs
+
+  -- `Nothing` finds nothing, and leaves all signs
+  abbrev pub NothingFinds : Type 0
+  NothingFinds = (rules : N → Grammar C N L) (signs : List C) → find rules Nothing signs ≡ Past [] signs
+
+  -- a mark is found at any signs
+  abbrev pub MarkFinds : Type 0
+  MarkFinds = (rules : N → Grammar C N L) (l : L) (signs : List C)
+      → find rules (Mark l) signs ≡ Past (Marked l ∷ []) signs
+
+  -- a sign that passes is found
+  abbrev pub SignFinds : Type 0
+  SignFinds = (rules : N → Grammar C N L) (passes : C → Bool) (c : C) (signs : List C) → passes c ≡ true
+      → find rules (Sign passes) (c ∷ signs) ≡ Past (One c ∷ []) signs
+
+  -- after a sign that passes, the rule is found
+  abbrev pub ToFinds : Type 0
+  ToFinds = (rules : N → Grammar C N L) (passes : C → Bool) (n : N) (c : C) (signs : List C) → passes c ≡ true
+      → find rules (To passes n) (c ∷ signs) ≡ front (One c ∷ []) (find rules (rules n) signs)
+
+  -- of two, the second is found after the first
+  abbrev pub ThenFinds : Type 0
+  ThenFinds = (rules : N → Grammar C N L) (a b : Grammar C N L) (signs : List C)
+      → find rules (Then a b) signs ≡ and_then (find rules a signs) (find rules b)
+
+  -- of two choices, the first is found where it begins
+  abbrev pub FirstFinds : Type 0
+  FirstFinds = (rules : N → Grammar C N L) (a b : Grammar C N L) (signs : List C) → heads a signs ≡ true
+      → find rules (Either a b) signs ≡ find rules a signs
+
+  -- the second is found where it begins and the first does not
+  abbrev pub SecondFinds : Type 0
+  SecondFinds = (rules : N → Grammar C N L) (a b : Grammar C N L) (signs : List C) → heads a signs ≡ false
+      → heads b signs ≡ true
+      → find rules (Either a b) signs ≡ find rules b signs
+
+  -- and where the first does not begin and derives a sign
+  abbrev pub OtherFinds : Type 0
+  OtherFinds = (rules : N → Grammar C N L) (a b : Grammar C N L) (signs : List C) → heads a signs ≡ false
+      → is_nullable a ≡ false
+      → find rules (Either a b) signs ≡ find rules b signs
+
+  -- one more is found where it begins, and then any number
+  abbrev pub MoreFinds : Type 0
+  MoreFinds = (rules : N → Grammar C N L) (a : Grammar C N L) (signs : List C) → heads a signs ≡ true
+      → find rules (Many a) signs ≡ and_then (find rules a signs) (find rules (Many a))
+
+  -- an element is found where it begins, and then what may follow it
+  abbrev pub ElementFinds : Type 0
+  ElementFinds = (rules : N → Grammar C N L) (a s : Grammar C N L) (signs : List C) → heads a signs ≡ true
+      → find rules (Listed a s) signs ≡ and_then (find rules a signs) (find rules (further a s))
