@@ -15,3 +15,14 @@ pub mod ParamLemmas
 pub mod AttributeLemmas
 pub mod ListLemmas
 pub mod CompileErrorLemmas
+pub mod ClassLemmas
+pub mod RuleLemmas
+pub mod StackLemmas
+pub mod AgreeLemmas
+pub mod RangeLemmas
+pub mod PartSpotLemmas
+pub mod ItemSpotLemmas
+pub mod SpotLemmas
+pub mod EndLemmas
+pub mod TableLemmas
+pub mod FormLemmas

@@ -19,3 +19,4 @@ pub mod Param
 pub mod Attribute
 pub mod List
 pub mod CompileError
+pub mod rules

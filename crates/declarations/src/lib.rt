@@ -22,6 +22,7 @@ mod grammar;
 mod header;
 mod item;
 mod keyword;
+pub mod laws;
 mod list;
 mod message;
 mod param_parts;

@@ -1,0 +1,28 @@
+-- What it says that the tables take the steps of the grammar.
+use Rattle.std.proofs.Common.{◌≡◌, true, Option, Some, None, List}
+use Rattle.grammars.specs.Machine as machine
+use Rattle.grammars.proofs.FlatLemmas.{move}
+use Rattle.declarations.specs.Grammar.{ends}
+use Rattle.declarations.specs.rules.Names.{G}
+use Rattle.declarations.specs.rules.Rules.{rules}
+use Rattle.declarations.specs.declared.class.Class.{Class}
+use Rattle.declarations.specs.declared.place.Item.{Item}
+use Rattle.declarations.specs.declared.place.Place.{Place}
+use Rattle.declarations.specs.declared.place.Rule.{Rule}
+use Rattle.declarations.specs.declared.place.Spot.{Spot}
+use Rattle.declarations.specs.declared.place.State.TheVariants as states
+use Rattle.declarations.proofs.StackLemmas.{lifted, reached}
+
+-- the step of the tables is that of the grammar, where the tables come
+abbrev pub Agrees : Option (List G) → Option Place → Class → Type 0
+Agrees None next class = true ≡ true
+Agrees (Some k) next class = lifted next ≡ reached (move rules k class)
+
+-- the tables end at a place where the grammar does, where they come
+abbrev pub EndsAgree : Option (List G) → Place → Type 0
+EndsAgree None place = true ≡ true
+EndsAgree (Some k) place = ends place ≡ machine.ends k
+
+-- a spot, with no angle bracket open
+abbrev pub at_spot : Spot → Item → Rule → Place
+at_spot spot item rule = record { item = item; rule = rule; state = states.At spot; depth = 0 }

@@ -1,0 +1,40 @@
+-- What holds of all classes in the list holds of each.
+use Rattle.std.proofs.Common.{◌≡◌, refl, subst, ℕ, zero, suc, Bool, true, List, [], ◌∷◌, Option, Some, None}
+use Rattle.std.proofs.Common.{inl, inr}
+use Rattle.std.proofs.lemmas.Bool.{and_parts, or_cases, both_ways}
+use Rattle.grammars.specs.Deterministic.{Passes}
+use Rattle.grammars.specs.Tests.{IsAny, IsEvery}
+use Rattle.declarations.specs.rules.Classes.{code, classes, all_of, every, any_of, any}
+use Rattle.declarations.specs.declared.class.Class.{Class}
+use Rattle.declarations.specs.declared.class.Class.TheVariants as signs
+use Rattle.declarations.specs.declared.class.Word.TheVariants as words
+use Rattle.declarations.specs.declared.class.Keyword.TheVariants as keywords
+
+-- the element of a list at a place
+abbrev at : {T : Type 0} → List T → ℕ → Option T
+at [] n = None
+at (x ∷ xs) zero = Some x
+at (x ∷ xs) (suc n) = at xs n
+
+all_at : {T : Type 0} (p : T → Bool) (xs : List T) (n : ℕ) (x : T) → all_of p xs ≡ true → at xs n ≡ Some x → p x ≡ true
+all_at p [] n x h e = cc
+all_at p (y ∷ xs) zero x h e =
+    let same : y ≡ x = cc in subst (λ z. p z ≡ true) same (and_parts (p y) (all_of p xs) h).0
+all_at p (y ∷ xs) (suc n) x h e = all_at p xs n x (and_parts (p y) (all_of p xs) h).1 e
+
+at_code : (c : Class) → at classes (code c) ≡ Some c
+at_code (signs.Word words.Auto) = refl
+at_code (signs.Word _) = refl
+at_code (signs.Keyword keywords.Async) = refl
+at_code (signs.Keyword _) = refl
+at_code _ = refl
+
+pub every_holds : IsEvery every
+every_holds p h c = all_at p classes (code c) c h (at_code c)
+
+some_of : (p : Class → Bool) (xs : List Class) → any_of p xs ≡ true → Passes p
+some_of p [] h = absurd (both_ways _ refl h)
+some_of p (x ∷ xs) h = elim (or_cases (p x) (any_of p xs) h) [ inl y ↦ (x, y) | inr z ↦ some_of p xs z ]
+
+pub any_passes : IsAny any
+any_passes p h = some_of p classes h

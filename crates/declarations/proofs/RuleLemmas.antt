@@ -1,0 +1,130 @@
+-- The grammar passes the tests of the theorem.
+use Rattle.std.proofs.Common.{◌≡◌, refl, Bool, true, false, List, [], ◌∷◌, Option, Some, None, IfSome}
+use Rattle.std.proofs.lemmas.Bool.{both_ways}
+use Rattle.grammars.specs.Grammar.{Event, Derives}
+use Rattle.grammars.specs.Machine.{run}
+use Rattle.grammars.specs.Deterministic.{IsStart, IsWellFormed}
+use Rattle.grammars.specs.Tests.{is_deterministic, is_productive}
+use Rattle.grammars.proofs.SoundLemmas.{ReadsOf, run_sound}
+use Rattle.grammars.proofs.TestLemmas.{alive_holds, clear_holds}
+use Rattle.declarations.specs.rules.Classes.{any, every}
+use Rattle.declarations.specs.rules.Names.{G, Inside, Label, Name, Outside, Range, Target, Expression, ExpressionOpen}
+use Rattle.declarations.specs.rules.Names.{ExpressionWhole, ExpressionLess, ExpressionDot, Closure, Cast, CastWhole}
+use Rattle.declarations.specs.rules.Names.{Function, Qualified, Async, Constant, Static, Alias, Struct, Enum, Union}
+use Rattle.declarations.specs.rules.Names.{Trait}
+use Rattle.declarations.specs.rules.Names.{Impl, Module, Use, UsePath, Call}
+use Rattle.declarations.specs.rules.Rules.{follows, rules}
+use Rattle.declarations.specs.declared.class.Class.{Class}
+use Rattle.declarations.specs.declared.class.Class.TheVariants as signs
+use Rattle.declarations.specs.declared.class.Keyword.TheVariants as keywords
+use Rattle.declarations.specs.declared.class.Word.TheVariants as words
+use Rattle.declarations.specs.declared.types.TypeState.TheVariants as types
+use Rattle.declarations.proofs.ClassLemmas.{any_passes, every_holds}
+
+deterministic : (n : Name) → is_deterministic every follows (rules n) (follows n) ≡ true
+deterministic (Range types.Wanted Inside) = refl
+deterministic (Range types.Wanted _) = refl
+deterministic (Range types.Bound Inside) = refl
+deterministic (Range _ Inside) = refl
+deterministic (Range types.Bound Outside) = refl
+deterministic (Range _ Outside) = refl
+deterministic (Range types.Bound Target) = refl
+deterministic (Range _ Target) = refl
+deterministic Expression = refl
+deterministic _ = refl
+
+productive : (n : Name) → is_productive any (rules n) ≡ true
+productive (Range types.Wanted Inside) = refl
+productive (Range types.Wanted _) = refl
+productive (Range types.Bound Inside) = refl
+productive (Range _ Inside) = refl
+productive (Range types.Bound Outside) = refl
+productive (Range _ Outside) = refl
+productive (Range types.Bound Target) = refl
+productive (Range _ Target) = refl
+productive Expression = refl
+productive _ = refl
+
+-- ---- some signs that each rule reads
+
+-- a name
+abbrev plain : Class
+plain = signs.Word words.Plain
+
+abbrev sample : Name → List Class
+sample (Range types.Wanted _) = plain ∷ []
+sample (Range types.Bound _) = plain ∷ []
+sample (Range types.Lifetime _) = plain ∷ []
+sample (Range types.Argument _) = plain ∷ []
+sample (Range types.Whole _) = []
+sample (Range types.MacroGroup _) = signs.Braces ∷ []
+sample (Range types.Pointer _) = signs.Keyword keywords.Const ∷ plain ∷ []
+sample (Range types.Tilde _) = signs.Keyword keywords.Const ∷ plain ∷ []
+sample (Range types.Abi _) = plain ∷ []
+sample (Range types.Minus _) = signs.Literal ∷ []
+sample (Range types.For _) = signs.Less ∷ signs.Greater ∷ plain ∷ []
+sample (Range types.Binder _) = signs.Greater ∷ plain ∷ []
+sample Expression = signs.Literal ∷ []
+sample ExpressionOpen = []
+sample ExpressionWhole = []
+sample ExpressionLess = signs.Literal ∷ []
+sample ExpressionDot = signs.Literal ∷ []
+sample Closure = signs.Bar ∷ signs.Literal ∷ []
+sample Cast = plain ∷ []
+sample CastWhole = []
+sample Function = plain ∷ signs.Parentheses ∷ signs.Braces ∷ []
+sample Qualified = signs.Keyword keywords.Fn ∷ plain ∷ signs.Parentheses ∷ signs.Braces ∷ []
+sample Async = signs.Keyword keywords.Fn ∷ plain ∷ signs.Parentheses ∷ signs.Braces ∷ []
+sample Constant = plain ∷ signs.Colon ∷ plain ∷ signs.Semicolon ∷ []
+sample Static = plain ∷ signs.Colon ∷ plain ∷ signs.Semicolon ∷ []
+sample Alias = plain ∷ signs.Semicolon ∷ []
+sample Struct = plain ∷ signs.Semicolon ∷ []
+sample Enum = plain ∷ signs.Braces ∷ []
+sample Union = plain ∷ signs.Braces ∷ []
+sample Trait = plain ∷ signs.Braces ∷ []
+sample Impl = plain ∷ signs.Braces ∷ []
+sample Module = plain ∷ signs.Semicolon ∷ []
+sample Use = plain ∷ signs.Semicolon ∷ []
+sample UsePath = plain ∷ signs.Semicolon ∷ []
+sample Call = signs.Exclamation ∷ signs.Braces ∷ []
+
+-- whether there are events
+abbrev is_read : Option (List (Event Class Label)) → Bool
+is_read None = false
+is_read (Some events) = true
+
+sampled : (n : Name) → is_read (run rules (rules n ∷ []) (sample n)) ≡ true
+sampled (Range types.Wanted Inside) = refl
+sampled (Range types.Wanted _) = refl
+sampled (Range types.Bound Inside) = refl
+sampled (Range _ Inside) = refl
+sampled (Range types.Bound Outside) = refl
+sampled (Range _ Outside) = refl
+sampled (Range types.Bound Target) = refl
+sampled (Range _ Target) = refl
+sampled Expression = refl
+sampled _ = refl
+
+derived : (n : Name) (o : Option (List (Event Class Label))) → is_read o ≡ true
+    → IfSome o (ReadsOf rules (rules n ∷ []) (sample n))
+    → (events : List (Event Class Label)) × Derives rules (rules n) events
+derived n None h r = absurd (both_ways _ refl h)
+derived n (Some events) h r = (r.0.0, r.0.3)
+
+pub well_formed : IsWellFormed rules follows
+well_formed = record {
+  deterministic = λ n. clear_holds every every_holds follows (rules n) (follows n) (deterministic n);
+  productive = λ n. alive_holds any any_passes (rules n) (productive n);
+  samples = λ n. derived n (run rules (rules n ∷ []) (sample n)) (sampled n)
+      (run_sound rules (rules n ∷ []) (sample n));
+}
+
+-- ---- where a reading begins
+
+-- a reading may begin with the rule, and nothing follows it
+pub starts : (g : G) → is_deterministic every follows g (λ c. false) ≡ true → is_productive any g ≡ true
+    → IsStart rules follows (g ∷ [])
+starts g h j = record {
+  deterministic = (clear_holds every every_holds follows g (λ c. false) h, tt);
+  productive = (alive_holds any any_passes g j, tt);
+}

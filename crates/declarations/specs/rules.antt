@@ -1,0 +1,11 @@
+pub mod Classes
+pub mod Names
+pub mod Types
+pub mod Expressions
+pub mod Parts
+pub mod Bodies
+pub mod Fronts
+pub mod Items
+pub mod Impls
+pub mod Rules
+pub mod Pieces

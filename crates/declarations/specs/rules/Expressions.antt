@@ -1,0 +1,111 @@
+-- The expressions of discriminants, whose end alone is read.
+use Rattle.std.specs.Prelude.{Bool, not, ◌||◌, List, [], ◌∷◌}
+use Rattle.grammars.specs.Grammar.{To, Then, Either, perhaps}
+use Rattle.declarations.specs.rules.Classes.{is, is_keyword, is_word, one_of}
+use Rattle.declarations.specs.rules.Names.{G, alt, one, Expression, ExpressionOpen, ExpressionWhole, ExpressionLess}
+use Rattle.declarations.specs.rules.Names.{ExpressionDot, Closure, Cast, CastWhole}
+use Rattle.declarations.specs.rules.Types.{angle}
+use Rattle.declarations.specs.declared.class.Class.{Class}
+use Rattle.declarations.specs.declared.class.Class.TheVariants as signs
+
+-- the groups
+abbrev pub groups : List Class
+groups = signs.Restriction ∷ signs.Parentheses ∷ signs.Brackets ∷ signs.Braces ∷ signs.Invisible ∷ []
+
+-- the operands of a cast that are one sign
+abbrev pub cast_operand : Class → Bool
+cast_operand c =
+    one_of groups c || (is_word c || one_of (signs.SelfValue ∷ signs.SelfType ∷ signs.Super ∷ signs.Crate
+    ∷ signs.Underscore ∷ signs.Truth ∷ []) c)
+
+-- the operands that are one sign
+abbrev pub one_operand : Class → Bool
+one_operand c =
+    one_of groups c || (is_word c || one_of (signs.SelfValue ∷ signs.SelfType ∷ signs.Super ∷ signs.Crate
+    ∷ signs.Underscore ∷ signs.Truth ∷ signs.Literal ∷ signs.Await ∷ []) c)
+
+-- where an operand is wanted, but for angle brackets and ranges
+abbrev pub other_operand : G
+other_operand = alt (
+    To (one_of (signs.Lifetime ∷ signs.Jump ∷ [])) ExpressionOpen
+    ∷ To (λ c. is_keyword c || one_of (signs.Minus ∷ signs.Star ∷ signs.And ∷ signs.Exclamation ∷ signs.Equals
+    ∷ signs.Greater ∷ signs.PathSeparator ∷ signs.Bars ∷ []) c) Expression
+    ∷ Then (one signs.Hash) (To (is signs.Brackets) Expression)
+    ∷ To (is signs.Bar) Closure
+    ∷ To (is signs.Arrow) Cast
+    ∷ [])
+
+-- where an operand is wanted, but for ranges
+abbrev pub wanted_operand : G
+wanted_operand = alt (To one_operand ExpressionWhole ∷ angle ExpressionWhole ∷ other_operand ∷ [])
+
+-- the `..` that begins a range
+abbrev pub from_range : G
+from_range = Then (one signs.Dot) (To (is signs.Dot) ExpressionOpen)
+
+-- where an operand is wanted
+abbrev pub expression : G
+expression = Either wanted_operand from_range
+
+-- where an operand may stand, or the expression may end
+abbrev pub open_end : G
+open_end = perhaps (alt (
+    To (is signs.Dot) ExpressionOpen
+    ∷ To (is signs.Question) ExpressionWhole
+    ∷ To (one_of (signs.Plus ∷ signs.Infix ∷ signs.Colon ∷ [])) Expression
+    ∷ wanted_operand
+    ∷ []))
+
+-- after an operand, of an expression or of a cast
+abbrev pub operator : G
+operator = alt (
+    To (λ c. one_of groups c || one_of (signs.Question ∷ signs.Await ∷ []) c) ExpressionWhole
+    ∷ To (is signs.Jump) ExpressionOpen
+    ∷ To (is signs.Dot) ExpressionDot
+    ∷ To (one_of (signs.As ∷ signs.Arrow ∷ [])) Cast
+    ∷ To (λ c. is_keyword c || one_of (signs.Minus ∷ signs.Star ∷ signs.And ∷ signs.Exclamation ∷ signs.Equals
+    ∷ signs.Greater ∷ signs.Plus ∷ signs.Infix ∷ signs.Colon ∷ signs.Bar ∷ signs.Bars ∷ signs.LessEquals ∷ []) c)
+    Expression
+    ∷ [])
+
+-- after an operand
+abbrev pub whole : G
+whole = perhaps (alt (
+    To (one_of (signs.PathSeparator ∷ signs.Less ∷ [])) Expression
+    ∷ To (is signs.LessJoint) ExpressionLess
+    ∷ operator
+    ∷ []))
+
+-- after `<` that is an operator and Joint: another belongs to it
+abbrev pub less : G
+less = alt (
+    To (one_of (signs.Less ∷ signs.LessJoint ∷ signs.LessEquals ∷ [])) Expression
+    ∷ To one_operand ExpressionWhole
+    ∷ other_operand
+    ∷ from_range
+    ∷ [])
+
+-- after an operand and `.`
+abbrev pub dot : G
+dot = Either (To (is signs.Dot) ExpressionOpen) wanted_operand
+
+-- within the bars of a closure
+abbrev pub closure : G
+closure = alt (
+    To (is signs.Bar) Expression
+    ∷ angle Closure
+    ∷ To (λ c. not (one_of (signs.Bar ∷ signs.Less ∷ signs.LessJoint ∷ signs.Semicolon ∷ []) c)) Closure
+    ∷ [])
+
+-- where the type of a cast is wanted
+abbrev pub cast : G
+cast = alt (
+    To cast_operand CastWhole
+    ∷ angle CastWhole
+    ∷ To (λ c. is_keyword c || one_of (signs.Lifetime ∷ signs.PathSeparator ∷ signs.Arrow ∷ signs.Star ∷ signs.And
+    ∷ signs.Exclamation ∷ signs.As ∷ signs.Jump ∷ signs.Await ∷ []) c) Cast
+    ∷ [])
+
+-- after the type of a cast
+abbrev pub cast_whole : G
+cast_whole = perhaps (alt (To (is signs.PathSeparator) Cast ∷ angle CastWhole ∷ operator ∷ []))

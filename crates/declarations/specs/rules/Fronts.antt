@@ -1,0 +1,104 @@
+-- What items begin with, up to their names.
+use Rattle.std.specs.Prelude.{Bool, not, ◌&&◌, ◌||◌, [], ◌∷◌}
+use Rattle.grammars.specs.Grammar.{Mark, Sign, To, Then, Either, perhaps}
+use Rattle.declarations.specs.rules.Classes.{is, one_of, keyword, is_word}
+use Rattle.declarations.specs.rules.Names.{G, seq, alt, one, key, Function, Qualified, Async, Constant, Static, Alias}
+use Rattle.declarations.specs.rules.Names.{Trait, Impl, Module, Named, Rest}
+use Rattle.declarations.specs.rules.Bodies.{braces, semicolon, constant_rest}
+use Rattle.declarations.specs.declared.class.Class.{Class}
+use Rattle.declarations.specs.declared.class.Class.TheVariants as signs
+use Rattle.declarations.specs.declared.class.Keyword.TheVariants as keywords
+use Rattle.declarations.specs.declared.class.Word.TheVariants as words
+
+-- a function, from `fn` on
+abbrev pub fn : G
+fn = To (keyword keywords.Fn) Function
+
+-- a function, from its `extern` on, or from `fn` on
+abbrev pub qualified : G
+qualified = Either (seq (key keywords.Extern ∷ perhaps (one signs.Literal) ∷ fn ∷ [])) fn
+
+-- `unsafe` or `safe`
+abbrev pub is_safe : Class → Bool
+is_safe c = keyword keywords.Unsafe c || is (signs.Word words.Safe) c
+
+-- a segment of a path
+abbrev pub is_segment : Class → Bool
+is_segment c = is_word c || one_of (signs.SelfValue ∷ signs.Super ∷ signs.Crate ∷ []) c
+
+-- after the `extern` and the ABI of a block or a function
+abbrev pub extern_rest : G
+extern_rest = Either braces fn
+
+-- after the `extern` of a block or a function
+abbrev pub unsafe_extern : G
+unsafe_extern = Either (Then (one signs.Literal) extern_rest) extern_rest
+
+-- a name or `_`
+abbrev pub new_name : G
+new_name = Sign (λ c. is_word c || is signs.Underscore c)
+
+-- `as` and such a name, or nothing
+abbrev pub renamed : G
+renamed = perhaps (Then (one signs.As) new_name)
+
+-- the name of a crate
+abbrev pub crate_name : G
+crate_name = Sign (λ c. is_word c || is signs.SelfValue c)
+
+-- after `extern`
+abbrev pub extern_front : G
+extern_front = Either
+    (seq (one signs.Crate ∷ Mark Named ∷ crate_name ∷ Mark Rest ∷ renamed ∷ semicolon ∷ []))
+    unsafe_extern
+
+-- after `auto`
+abbrev pub auto_front : G
+auto_front = To (keyword keywords.Trait) Trait
+
+-- after `safe`
+abbrev pub safe_front : G
+safe_front = Either (To (keyword keywords.Static) Static) qualified
+
+-- after `default unsafe`
+abbrev pub default_unsafe : G
+default_unsafe = Either (To (keyword keywords.Impl) Impl) qualified
+
+-- after `default`
+abbrev pub default_front : G
+default_front = alt (
+    To (keyword keywords.Async) Async
+    ∷ To (keyword keywords.Const) Constant
+    ∷ To (keyword keywords.Impl) Impl
+    ∷ To (keyword keywords.Type) Alias
+    ∷ Then (key keywords.Unsafe) default_unsafe
+    ∷ To (is (signs.Word words.Safe)) Qualified
+    ∷ qualified
+    ∷ [])
+
+-- after `unsafe`
+abbrev pub unsafe_front : G
+unsafe_front = alt (
+    Then (key keywords.Extern) unsafe_extern
+    ∷ fn
+    ∷ To (keyword keywords.Impl) Impl
+    ∷ To (keyword keywords.Mod) Module
+    ∷ To (keyword keywords.Static) Static
+    ∷ To (keyword keywords.Trait) Trait
+    ∷ Then (one (signs.Word words.Auto)) auto_front
+    ∷ [])
+
+-- after `async`
+abbrev pub async_front : G
+async_front = Either (To is_safe Qualified) qualified
+
+-- after `const`
+abbrev pub const_front : G
+const_front = alt (
+    To (keyword keywords.Async) Async
+    ∷ To (keyword keywords.Unsafe) Qualified
+    ∷ qualified
+    ∷ Then (one (signs.Word words.Safe)) (Either qualified constant_rest)
+    ∷ seq (Mark Named ∷ Sign (λ c. (is_word c && not (is (signs.Word words.Safe) c)) || is signs.Underscore c)
+    ∷ constant_rest ∷ [])
+    ∷ [])

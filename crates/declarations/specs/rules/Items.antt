@@ -1,0 +1,115 @@
+-- Items, macro calls and imports.
+use Rattle.std.specs.Prelude.{Bool, ◌||◌, [], ◌∷◌}
+use Rattle.grammars.specs.Grammar.{Mark, Sign, To, Then, Either, Many, perhaps}
+use Rattle.declarations.specs.rules.Classes.{is, one_of, keyword, is_round}
+use Rattle.declarations.specs.rules.Names.{G, seq, alt, one, key, Async, Constant, Static, Alias, Struct, Enum, Union}
+use Rattle.declarations.specs.rules.Names.{Trait, Impl, Module, Use, UsePath, Call, Visible, Front, Body}
+use Rattle.declarations.specs.rules.Parts.{attributes, inner_attributes, visible, visibility, generics}
+use Rattle.declarations.specs.rules.Bodies.{braces, semicolon, name, braced}
+use Rattle.declarations.specs.rules.Fronts.{fn, is_segment, renamed, extern_front, auto_front, safe_front}
+use Rattle.declarations.specs.rules.Fronts.{default_front, unsafe_front}
+use Rattle.declarations.specs.declared.class.Class.{Class}
+use Rattle.declarations.specs.declared.class.Class.TheVariants as signs
+use Rattle.declarations.specs.declared.class.Keyword.TheVariants as keywords
+use Rattle.declarations.specs.declared.class.Word.TheVariants as words
+
+-- ---- macros and imports
+
+-- the group of a macro call
+abbrev pub call_end : G
+call_end = Either braces
+    (seq (Mark Body ∷ Sign (one_of (signs.Parentheses ∷ signs.Restriction ∷ signs.Brackets ∷ [])) ∷ semicolon ∷ []))
+
+-- after the `!` of a macro call
+abbrev pub call_name : G
+call_name = Either (Then name call_end) call_end
+
+-- after a segment of the path of a macro call
+abbrev pub call : G
+call = Either (Then (one signs.Exclamation) call_name) (Then (one signs.PathSeparator) (To is_segment Call))
+
+-- after the name of a `macro`
+abbrev pub macro_rest : G
+macro_rest = Then (perhaps (Sign is_round)) braces
+
+-- after a segment of the path of an import
+abbrev pub use_segment : G
+use_segment = Either (To (is signs.PathSeparator) UsePath) (Then renamed semicolon)
+
+-- where the path of an import wants a segment
+abbrev pub use_path : G
+use_path = Either
+    (Then (Sign is_segment) use_segment)
+    (Then (Sign (one_of (signs.Star ∷ signs.Braces ∷ []))) semicolon)
+
+-- ---- items
+
+-- items that begin with a keyword
+abbrev pub keyworded : G
+keyworded = alt (
+    To (keyword keywords.Async) Async
+    ∷ To (keyword keywords.Const) Constant
+    ∷ To (keyword keywords.Enum) Enum
+    ∷ Then (key keywords.Extern) extern_front
+    ∷ fn
+    ∷ To (keyword keywords.Impl) Impl
+    ∷ seq (key keywords.Macro ∷ name ∷ macro_rest ∷ [])
+    ∷ To (keyword keywords.Mod) Module
+    ∷ To (keyword keywords.Static) Static
+    ∷ To (keyword keywords.Struct) Struct
+    ∷ To (keyword keywords.Trait) Trait
+    ∷ To (keyword keywords.Type) Alias
+    ∷ Then (key keywords.Unsafe) unsafe_front
+    ∷ To (keyword keywords.Use) Use
+    ∷ [])
+
+-- items after a visibility
+abbrev pub declaration : G
+declaration = alt (
+    Then (one (signs.Word words.Auto)) auto_front
+    ∷ Then (one (signs.Word words.Default)) default_front
+    ∷ Then (one (signs.Word words.Safe)) safe_front
+    ∷ To (is (signs.Word words.Union)) Union
+    ∷ keyworded
+    ∷ [])
+
+-- what begins a macro call, but the words that may begin another item
+abbrev pub begins_call : Class → Bool
+begins_call c = is (signs.Word words.Plain) c || one_of (signs.SelfValue ∷ signs.Super ∷ signs.Crate ∷ []) c
+
+-- items without one: macro calls and groups without delimiters too
+abbrev pub unmarked : G
+unmarked = alt (
+    Then (one (signs.Word words.Auto)) (Either call auto_front)
+    ∷ Then (one (signs.Word words.Default)) (Either call default_front)
+    ∷ Then (one (signs.Word words.Safe)) (Either call safe_front)
+    ∷ Then (one (signs.Word words.Union)) (Either call (seq (name ∷ generics ∷ braced ∷ [])))
+    ∷ Then (Sign begins_call) call
+    ∷ Then (one signs.PathSeparator) (To is_segment Call)
+    ∷ one signs.Invisible
+    ∷ keyworded
+    ∷ [])
+
+-- an item of any kind, after its attributes
+abbrev pub any_rest : G
+any_rest = Either (seq (Mark Visible ∷ visible ∷ Mark Front ∷ declaration ∷ [])) (Then (Mark Front) unmarked)
+
+-- an item of any kind, or a group without delimiters
+abbrev pub any_item : G
+any_item = Then attributes any_rest
+
+-- the keyword of a struct, an enum or a union, and the rest
+abbrev pub type_keyword : G
+type_keyword = alt (
+    To (keyword keywords.Struct) Struct
+    ∷ To (keyword keywords.Enum) Enum
+    ∷ To (is (signs.Word words.Union)) Union
+    ∷ [])
+
+-- a struct, an enum or a union: attributes, a visibility and the rest
+abbrev pub type_item : G
+type_item = seq (attributes ∷ visibility ∷ Mark Front ∷ type_keyword ∷ [])
+
+-- a file: inner attributes and items
+abbrev pub file : G
+file = Then inner_attributes (Many any_item)

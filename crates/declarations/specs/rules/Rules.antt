@@ -1,0 +1,64 @@
+-- The rules with names, and what may follow them.
+use Rattle.std.specs.Prelude.{Bool, true, ◌||◌, [], ◌∷◌}
+use Rattle.grammars.specs.Grammar.{To, Then, Either, perhaps}
+use Rattle.declarations.specs.rules.Classes.{is, keyword, one_of}
+use Rattle.declarations.specs.rules.Names.{Inside, Outside, Target, Name, Range, Expression, ExpressionOpen}
+use Rattle.declarations.specs.rules.Names.{ExpressionWhole, ExpressionLess, ExpressionDot, Closure, Cast, CastWhole}
+use Rattle.declarations.specs.rules.Names.{Function, Qualified, Async, Constant, Static, Alias, Struct, Enum, Union}
+use Rattle.declarations.specs.rules.Names.{Trait}
+use Rattle.declarations.specs.rules.Names.{Impl, Module, Use, UsePath, Call, G, seq, key}
+use Rattle.declarations.specs.rules.Types.{range}
+use Rattle.declarations.specs.rules.Expressions as expressions
+use Rattle.declarations.specs.rules.Parts.{generics}
+use Rattle.declarations.specs.rules.Bodies.{alias_rest, body_end, braced, function_rest, name, struct_rest}
+use Rattle.declarations.specs.rules.Bodies.{trait_rest, typed}
+use Rattle.declarations.specs.rules.Fronts.{async_front, const_front, qualified}
+use Rattle.declarations.specs.rules.Items.{call, use_path}
+use Rattle.declarations.specs.rules.Impls.{impl_front}
+use Rattle.declarations.specs.declared.class.Class.{Class}
+use Rattle.declarations.specs.declared.class.Class.TheVariants as signs
+use Rattle.declarations.specs.declared.class.Keyword.TheVariants as keywords
+
+-- what each rule says
+abbrev pub rules : Name → G
+rules (Range state context) = range state context
+rules Expression = expressions.expression
+rules ExpressionOpen = expressions.open_end
+rules ExpressionWhole = expressions.whole
+rules ExpressionLess = expressions.less
+rules ExpressionDot = expressions.dot
+rules Closure = expressions.closure
+rules Cast = expressions.cast
+rules CastWhole = expressions.cast_whole
+rules Function = seq (name ∷ generics ∷ function_rest ∷ [])
+rules Qualified = qualified
+rules Async = async_front
+rules Constant = const_front
+rules Static = seq (perhaps (key keywords.Mut) ∷ name ∷ typed ∷ [])
+rules Alias = seq (name ∷ generics ∷ alias_rest ∷ [])
+rules Struct = seq (name ∷ generics ∷ struct_rest ∷ [])
+rules Enum = seq (name ∷ generics ∷ braced ∷ [])
+rules Union = seq (name ∷ generics ∷ braced ∷ [])
+rules Trait = seq (name ∷ generics ∷ trait_rest ∷ [])
+rules Impl = impl_front
+rules Module = Then name body_end
+rules Use = Either (To (is signs.PathSeparator) UsePath) use_path
+rules UsePath = use_path
+rules Call = call
+
+-- the classes of signs that may follow each rule
+abbrev pub follows : Name → Class → Bool
+follows (Range state Inside) c = is signs.Greater c
+follows (Range state Outside) c =
+    keyword keywords.Where c
+    || one_of (signs.Comma ∷ signs.Colon ∷ signs.Equals ∷ signs.Semicolon ∷ signs.Greater ∷ signs.Braces ∷ []) c
+follows (Range state Target) c = keyword keywords.Where c || is signs.Braces c
+follows Expression c = is signs.Comma c
+follows ExpressionOpen c = is signs.Comma c
+follows ExpressionWhole c = is signs.Comma c
+follows ExpressionLess c = is signs.Comma c
+follows ExpressionDot c = is signs.Comma c
+follows Closure c = is signs.Comma c
+follows Cast c = is signs.Comma c
+follows CastWhole c = is signs.Comma c
+follows _ c = true

@@ -1,0 +1,67 @@
+//! The laws of declarations. The functions compute nothing: their contracts are the laws.
+
+ghost use Rattle.grammars.specs.Deterministic.{IsWellFormed};
+ghost use Rattle.declarations.specs.Forms.{
+  AreAttributes,
+  AreBounds,
+  AreFields,
+  AreGenerics,
+  AreInnerAttributes,
+  AreTupleFields,
+  AreVariants,
+  IsAnyItem,
+  IsExpression,
+  IsField,
+  IsItem,
+  IsTupleField,
+  IsType,
+  IsVariant,
+  IsVisibility,
+  IsWhere,
+};
+ghost use Rattle.declarations.specs.rules.Expressions.{expression};
+ghost use Rattle.declarations.specs.rules.Items.{any_item, type_item};
+ghost use Rattle.declarations.specs.rules.Parts.{
+  attributes,
+  field,
+  fields,
+  generics,
+  inner_attributes,
+  tuple_field,
+  tuple_fields,
+  variant,
+  variants,
+  visibility,
+  where_clause,
+};
+ghost use Rattle.declarations.specs.rules.Pieces.{ReadsBy};
+ghost use Rattle.declarations.specs.rules.Rules.{follows, rules};
+ghost use Rattle.declarations.specs.rules.Types.{bounds, type};
+
+/// The tables of the walk are the grammar of declarations, written out: each form that they read at the front of some
+/// signs reads exactly the pieces that its rule derives and that can't go on with the next sign.
+///
+/// The grammar is the value `rules` of `specs/rules`. One sign decides at each of its choices, and each rule derives
+/// something, so by `grammars::laws::one_reading` a piece has one reading, and what is no piece has its fault at one
+/// place.
+///
+/// Of `Vec < T > , x` the type is the piece `Vec < T >`: no type begins with `Vec < T > ,`.
+pub fn tables_are_the_grammar()
+    ensures well_formed { IsWellFormed rules follows }
+    ensures types { ReadsBy type IsType }
+    ensures bounds { ReadsBy bounds AreBounds }
+    ensures attributes { ReadsBy attributes AreAttributes }
+    ensures inner_attributes { ReadsBy inner_attributes AreInnerAttributes }
+    ensures visibility { ReadsBy visibility IsVisibility }
+    ensures field { ReadsBy field IsField }
+    ensures fields { ReadsBy fields AreFields }
+    ensures tuple_field { ReadsBy tuple_field IsTupleField }
+    ensures tuple_fields { ReadsBy tuple_fields AreTupleFields }
+    ensures variant { ReadsBy variant IsVariant }
+    ensures variants { ReadsBy variants AreVariants }
+    ensures expression { ReadsBy expression IsExpression }
+    ensures generics { ReadsBy generics AreGenerics }
+    ensures where_clause { ReadsBy where_clause IsWhere }
+    ensures type_item { ReadsBy type_item IsItem }
+    ensures any_item { ReadsBy any_item IsAnyItem }
+{}
