@@ -372,15 +372,15 @@ def drop_derives(file):
 
 @rule
 def drop_bounds(file):
-    """Leaves out the bound `Drop`, which every type of Rust meets.
+    """Leaves out the bound `Drop`, which every type of Rust meets, of a type parameter and of a trait's associated type.
 
-        fn pass<R: BufRead + Drop, T: Drop>(r: R, t: T) {}
-        => fn pass<R: BufRead, T>(r: R, t: T) {}
+        trait Sink { type Opened: Drop; type Made: Copy + Drop; } fn pass<R: BufRead + Drop, T: Drop>(r: R, t: T) {}
+        => trait Sink { type Opened; type Made: Copy; } fn pass<R: BufRead, T>(r: R, t: T) {}
     """
     goes = set()
     for at, token in enumerate(file.tokens):
         for end in found(file.tokens, at, '+ Drop') + found(file.tokens, at, ': Drop'):
-            if file.tokens[following(file.tokens, end)].text in ('>', ',') and file.tokens[at - 1].text != ':':
+            if file.tokens[following(file.tokens, end)].text in ('>', ',', ';') and file.tokens[at - 1].text != ':':
                 goes |= set(range(at, end + 1))
                 if file.tokens[at - 1].kind == 'white':
                     goes.add(at - 1)

@@ -18,7 +18,8 @@ use Rattle.pm_stream.specs.Forest.{Forest, nil}
 use Rattle.pm_stream.specs.Parsing.{FaultAt}
 use Rattle.pm_stream.specs.OpenGroups.{Opened, FitsInnermost, unclosed_onto}
 use Rattle.pm_stream.proofs.ParseLemmas.{reads_on}
-use Rattle.pm_stream.proofs.ParserLemmas.{Reads, reads_none, reads_all, reads_open, reads_stray, reads_stuck}
+use Rattle.pm_stream.specs.Reading.{Reads}
+use Rattle.pm_stream.proofs.ParserLemmas.{reads_none, reads_all, reads_open, reads_stray, reads_stuck}
 use Rattle.explain.specs.Explained.{IsExplained, IsOpenerOf, IsStretch, IsStuck, Parses, SaysLeftOpen}
 use Rattle.explain.specs.Open.{LeavesOpen, Loses, Refuses, RefusesFor, RefusesPiece, Steps, Waiting, WaitsAs}
 use Rattle.explain.specs.Open.{openers_of}

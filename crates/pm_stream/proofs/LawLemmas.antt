@@ -23,7 +23,8 @@ use Rattle.pm_stream.proofs.CoverLemmas.{expansion-append}
 use Rattle.pm_stream.proofs.DocLemmas.{doc_trees, doc_trees-events}
 use Rattle.pm_stream.proofs.EventLemmas.{one_stream, flattening_balanced, one_last_opener, balanced_has_none}
 use Rattle.pm_stream.proofs.EventLemmas.{unclosed-joined}
-use Rattle.pm_stream.proofs.ParserLemmas.{Reads, reads_none, reads_more, reads_all, reads_open}
+use Rattle.pm_stream.specs.Reading.{Reads}
+use Rattle.pm_stream.proofs.ParserLemmas.{reads_none, reads_more, reads_all, reads_open}
 use Rattle.pm_stream.proofs.ParserLemmas.{reads_stuck, reads_stray}
 
 -- a piece at the front of a text

@@ -14,6 +14,8 @@ pub mod OpenGroupLemmas
 pub mod PrintedEventLemmas
 pub mod ParserLemmas
 pub mod ParseLemmas
+pub mod ReadingLemmas
+pub mod ParsingLemmas
 pub mod FaultLemmas
 pub mod ReprintLemmas
 pub mod PlaceLemmas

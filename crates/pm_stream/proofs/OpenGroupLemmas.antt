@@ -30,7 +30,7 @@ nested_more [] m n le h = tt
 nested_more (frame ∷ frames) m n le h = (omega (arith, h.0), h.1)
 
 -- what is left of the list before a group
-nested_before : (frame : Frame) (frames : List Frame) (trees : List TokenTree)
+pub nested_before : (frame : Frame) (frames : List Frame) (trees : List TokenTree)
     → IsNested (frame ∷ frames) (length trees)
     → IsNested frames (length (take frame.before trees))
 nested_before frame frames trees h = subst (IsNested frames) (sym (length-take-le frame.before trees h.0)) h.1

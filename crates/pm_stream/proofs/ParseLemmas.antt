@@ -18,7 +18,8 @@ use Rattle.pm_stream.specs.Forest.{Forest}
 use Rattle.pm_stream.specs.Parsing.{ParsesTo, FaultAt}
 use Rattle.pm_stream.specs.OpenGroups.{Opened, unclosed_onto}
 use Rattle.pm_stream.specs.Fault.{IsFaultFor, IsStray, IsOpenFault, IsFault}
-use Rattle.pm_stream.proofs.ParserLemmas.{Reads, reads_more, reads_white, reads_all, reads_open}
+use Rattle.pm_stream.specs.Reading.{Reads}
+use Rattle.pm_stream.proofs.ParserLemmas.{reads_more, reads_white, reads_all, reads_open}
 use Rattle.pm_stream.proofs.ParserLemmas.{reads_stray, reads_stuck}
 
 found_shorter : (first : Bool) (source : List ℕ) (piece : Piece) (h : IsPieceAt first source piece)
@@ -74,7 +75,7 @@ fault_is base source at reason (Lex extent) fault h =
 fault_is base source at reason MapFull fault h = absurd h
 fault_is base source at reason (Memory error) fault h = tt
 
-stray_at : (base : ℕ) (source mid front rest : List ℕ) (at : ℕ) (first : Bool) (groups : List Opened) (trees : Forest)
+pub stray_at : (base : ℕ) (source mid front rest : List ℕ) (at : ℕ) (first : Bool) (groups : List Opened) (trees : Forest)
     (kind : PieceKind)
     → Reads base source mid at first groups trees → mid ≡ front ++ rest
     → IsPiece first (kind_of kind front) front rest → IsStray kind groups → FaultAt base source at

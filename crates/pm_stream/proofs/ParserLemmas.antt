@@ -2,27 +2,19 @@
 use Rattle.std.proofs.Common.{◌≡◌, ◌≢◌, inl, inr, ℕ, ◌+◌, Bool, true, false, List, [], ◌∷◌, ◌++◌, length, refl, sym, ap}
 use Rattle.std.proofs.Common.{◌∙◌, subst, arith}
 use Rattle.lexical.specs.Class.{is_white}
-use Rattle.lexical.specs.Piece.{Kind, Piece, Gap, Close, IsPiece, HasNoPiece}
+use Rattle.lexical.specs.Piece.{Kind, Gap, Close, IsPiece, HasNoPiece}
 use Rattle.std.specs.List.{list_all}
 use Rattle.std.proofs.lemmas.Bool.{and_parts}
-use Rattle.lexical.specs.Cover.{CoversUpTo, width}
+use Rattle.lexical.specs.Cover.{CoversUpTo}
 use Rattle.lexical.proofs.PieceFacts.{piece_not_empty}
 use Rattle.pm_stream.specs.Delimited.{delimiter_of}
 use Rattle.pm_stream.specs.Events.{Opens, Closes, events_onto, expansion, CanGoOn}
 use Rattle.pm_stream.specs.Forest.{Forest, nil, flattening}
 use Rattle.pm_stream.specs.Parsing.{ParsesTo, is_first, HasStrayCloser, FaultAt}
 use Rattle.pm_stream.specs.OpenGroups.{Opened, unclosed_onto, FitsInnermost}
+use Rattle.pm_stream.specs.Reading.{Reads}
 use Rattle.pm_stream.proofs.CoverLemmas.{covers_none, covers_more, width-append, is_first-more, expansion-more}
 use Rattle.pm_stream.proofs.EventLemmas.{flattening_balanced, unclosed-append, unclosed_goes_on, stray_closer}
-
--- what was read has the expansion of pieces up to the rest of the source; `first` says that there are none
-pub record Reads (base : ℕ) (source rest : List ℕ) (at : ℕ) (first : Bool) (groups : List Opened)
-    (trees : Forest) : Type 0 where
-  pub pieces : List Piece
-  pub covers : CoversUpTo pieces source rest
-  pub begins : is_first pieces ≡ first
-  pub position : at ≡ base + width pieces
-  pub expands : unclosed_onto groups trees [] ≡ expansion base pieces
 
 pub reads_none : (base : ℕ) (source : List ℕ) → Reads base source source base true [] nil
 reads_none base source =

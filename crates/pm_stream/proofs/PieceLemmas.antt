@@ -62,7 +62,7 @@ literal_found first text bytes piece utf8 h is e =
     (token_built (Literal h.front) h.rest (piece_text first (chars text) piece (scalars-chars text utf8) h) stands.1)
 
 -- two fronts of a text that are as long are the same
-same_fronts : (p q r s : List ℕ) → p ++ r ≡ q ++ s → length p ≡ length q → p ≡ q
+pub same_fronts : (p q r s : List ℕ) → p ++ r ≡ q ++ s → length p ≡ length q → p ≡ q
 same_fronts [] [] r s e size = refl
 same_fronts [] (d ∷ q) r s e size = absurd (omega (arith, size))
 same_fronts (c ∷ p) [] r s e size = absurd (omega (arith, size))

@@ -1,28 +1,26 @@
--- Where the trees of a text stand: what was placed, with one step more, and how it ends.
-use Rattle.std.proofs.Common.{◌≡◌, ◌≢◌, ℕ, ◌+◌, ◌-◌, ◌<◌, ◌≤◌, Bool, true, false, cond, not, List, [], ◌∷◌, ◌++◌}
+-- Where the trees of a text stand: what was placed, with one step more.
+use Rattle.std.proofs.Common.{◌≡◌, ℕ, ◌+◌, ◌-◌, ◌<◌, ◌≤◌, Bool, true, false, cond, not, List, [], ◌∷◌, ◌++◌}
 use Rattle.std.proofs.Common.{length, take, map, reverse, refl, sym, ap, ap₂, ◌∙◌, subst, arith, append_assoc}
 use Rattle.std.proofs.Common.{◌==◌, eqb-true, true≢false}
-use Rattle.std.proofs.Common.{append-nil, length-append, Result, Ok, Err, IfOk, IfErr, inl, inr, ◌⊎◌}
+use Rattle.std.proofs.Common.{append-nil, length-append, Result, Ok, Err, IfOk, inl, inr, ◌⊎◌}
 use Rattle.std.proofs.Math.ListN.{set}
 use Rattle.std.proofs.Math.Seq.{set-append_seam, take-append_seam}
 use Rattle.std.proofs.lemmas.List.{map-append, reverse-append}
 use Rattle.std.proofs.lemmas.List.Sums.{sum_by-append, sum_by-cons, take_while-cons}
 use Rattle.std.specs.Prelude.{count_by, take_while}
 use Rattle.std.specs.Str.{chars, IsUtf8, IsCharBoundary, encode_utf8_all}
-use Rattle.lexical.specs.Piece.{HasNoPiece, IsPiece}
+use Rattle.lexical.specs.Piece.{IsPiece}
 use Rattle.lexical.specs.Class.{is_ident_continue}
-use Rattle.lexical.specs.Delimiter.{is_opener, is_closer}
 use Rattle.lexical.specs.Identifier.{Identifier}
 use Rattle.lexical.specs.Mark.{is_mark}
 use Rattle.lexical.specs.declared.piece.PieceKind.TheVariants as pieces
 use Rattle.lexical.proofs.ClassLemmas.{ident_continue_ascii}
-use Rattle.lexical.proofs.PieceFacts.{close_is, open_is, stands_mark, start_continues}
+use Rattle.lexical.proofs.PieceFacts.{stands_mark, start_continues}
 use Rattle.grammar_laws.proofs.NameLemmas.{identifier_alone}
 use Rattle.pm_span.specs.Line.{is_one_line}
 use Rattle.lexical.specs.Found.{IsPieceAt, kind_of}
 use Rattle.lexical.specs.WhiteRun.{IsPastWhite}
-use Rattle.lexical.specs.Token.{Token, raw_front}
-use Rattle.lexical.specs.declared.piece.PieceKind.{PieceKind}
+use Rattle.lexical.specs.Token.{raw_front}
 use Rattle.lexical.specs.declared.piece.Piece.{Piece as Found}
 use Rattle.lexical.proofs.TextLemmas.{all_pass, encode_all_ascii}
 use Rattle.lexical.specs.Ascii.{all_ascii}
@@ -33,27 +31,27 @@ use Rattle.std.proofs.lemmas.List.Folds.{list_all-append}
 use Rattle.pm_span.specs.CharOffset.{byte_offset, is_line_feed}
 use Rattle.pm_span.proofs.SeamLemmas.{boundary_at, front_at}
 use Rattle.pm_token.specs.declared.delimiters.Delimiter.{Delimiter}
+use Rattle.pm_token.specs.declared.delimiters.Delimiter.TheVariants.{Parenthesis, Brace, Bracket, None}
 use Rattle.pm_token.specs.declared.errors.ParseError.{ParseError}
-use Rattle.pm_token.specs.declared.errors.ParseError.TheVariants.{Lex}
-use Rattle.pm_stream.specs.Events.{Event, One, Opens, Closes, doc_onto, events_onto}
-use Rattle.pm_stream.specs.Fault.{IsFault, IsFaultFor, IsOpenFault, IsStray}
-use Rattle.pm_stream.specs.Forest.{Forest, nil, leaf, group, flat_onto, flattening, joined}
-use Rattle.pm_stream.specs.InOrder.{in_order, token_tree}
+use Rattle.pm_stream.specs.Delimited.{opening, closing}
+use Rattle.pm_stream.specs.Events.{Event, Opens, Closes}
+use Rattle.pm_stream.specs.Forest.{Forest, nil, group, flat_onto, flattening, joined}
+use Rattle.pm_stream.specs.InOrder.{in_order}
 use Rattle.pm_stream.specs.Parsing.{ParsesTo, HasNoFault}
 use Rattle.pm_stream.specs.OpenGroups.{Opened, unclosed_onto}
-use Rattle.pm_stream.specs.Places.{ArePlaced, has_one_line, listed, moved_past, next_place, place_of, placed, tree_kind}
-use Rattle.pm_stream.specs.PlacerState.{IsPlacing, Places, PlacesEvents, PlacesMore, listed_open, open_groups, opener}
+use Rattle.pm_stream.specs.Places.{ArePlaced, listed, moved_past, next_place, place_of, placed}
+use Rattle.pm_stream.specs.PlacerState.{Places, doc_group_places, doc_places, listed_open, open_groups, opener, origin}
+use Rattle.pm_stream.specs.Reading.{ReadsAll}
+use Rattle.pm_stream.specs.Taken.{IsAt, Taken, nothing, past, position}
 use Rattle.pm_stream.specs.declared.placing.OpenGroup.{OpenGroup}
 use Rattle.pm_stream.specs.declared.placing.Place.{Place}
 use Rattle.pm_stream.specs.declared.placing.PlacedTree.{PlacedTree}
 use Rattle.pm_stream.specs.declared.placing.Placer.{Placer}
 use Rattle.pm_stream.specs.declared.placing.TreeKind.TheVariants as kinds
-use Rattle.pm_stream.proofs.DocLemmas.{doc_trees, doc_trees-events}
-use Rattle.pm_stream.proofs.EventLemmas.{unclosed-joined}
+use Rattle.pm_stream.proofs.DocLemmas.{doc_trees}
+use Rattle.pm_stream.proofs.EventLemmas.{unclosed-append, unclosed-joined}
 use Rattle.pm_stream.proofs.InOrderLemmas.{in_order-append, in_order-joined}
 use Rattle.pm_stream.proofs.LawLemmas.{parses_or_not}
-use Rattle.pm_stream.proofs.ParseLemmas.{reads_on, fault_stray, ends_ok, ends_refused}
-use Rattle.pm_stream.proofs.ParserLemmas.{Reads, reads_none}
 
 -- ---- lines and columns
 
@@ -109,6 +107,13 @@ moved_past-append : (place : Place) (p q : List ℕ) → moved_past place (p ++ 
 moved_past-append place [] q = refl
 moved_past-append place (c ∷ p) q = moved_past-append (next_place place c) p q
 
+-- the place of the position after a front of the source
+place_is : (base at : ℕ) (source front rest : List ℕ) (place : Place) → source ≡ front ++ rest
+    → at ≡ base + length front → place ≡ moved_past origin front
+    → place ≡ place_of base source at
+place_is base at source front rest place whole e here =
+    here ∙ (end_place-append [] front ∙ sym (place_of-front base at source front rest whole e))
+
 -- ---- pieces on one line
 
 one_line_moves : (place : Place) (text : List ℕ) → is_one_line text ≡ true
@@ -152,30 +157,41 @@ one_line_name raw name rest text h e =
     ap is_one_line alone.whole ∙ (list_all-append _ alone.front alone.back ∙ and_from _ _ first back) in
     ap is_one_line e ∙ (list_all-append _ (raw_front raw) name ∙ and_from _ _ front whole)
 
-one_line_piece : (first : Bool) (kind : PieceKind) (front rest : List ℕ) → IsPiece first (kind_of kind front) front rest
-    → has_one_line kind ≡ true → is_one_line front ≡ true
-one_line_piece first pieces.FrontMark front rest h e = absurd (true≢false (sym e))
-one_line_piece first pieces.Gap front rest h e = absurd (true≢false (sym e))
-one_line_piece first (pieces.Doc inner text) front rest h e = absurd (true≢false (sym e))
-one_line_piece first (pieces.Opener c) front rest h e =
-    let is = open_is first c front rest h in
-    one_character is_opener refl c front is.0 is.1
-one_line_piece first (pieces.Closer c) front rest h e =
-    let is = close_is first c front rest h in
-    one_character is_closer refl c front is.0 is.1
-one_line_piece first pieces.Literal front rest h e = absurd (true≢false (sym e))
-one_line_piece first (pieces.Mark joint mark) front rest h e =
-    one_character is_mark refl mark front h.0 (stands_mark mark joint rest h.1)
-one_line_piece first (pieces.Name raw name) front rest h e =
-    one_line_name raw (chars name.now) rest front h.1 h.0
+-- the end of a piece on one line
+moves_along : (start : Place) (front : List ℕ) (count : ℕ) → count ≡ length front → is_one_line front ≡ true
+    → record { line = start.line; column = start.column + count } ≡ moved_past start front
+moves_along start front count size h =
+    ap (λ n. record { line = start.line; column = start.column + n }) size ∙ one_line_moves start front h
 
--- the end of such a piece
-pub one_line_end : (first : Bool) (text : List ℕ) (start : Place) (piece : Found) → (found : IsPieceAt first text piece)
-    → has_one_line piece.kind ≡ true
+pub mark_moves : (first : Bool) (text : List ℕ) (start : Place) (piece : Found) (joint : Bool) (mark : ℕ)
+    → (found : IsPieceAt first text piece) → piece.kind ≡ pieces.Mark joint mark
     → record { line = start.line; column = start.column + piece.chars } ≡ moved_past start found.front
-one_line_end first text start piece found e =
-    ap (λ n. record { line = start.line; column = start.column + n }) found.chars
-    ∙ one_line_moves start found.front (one_line_piece first piece.kind found.front found.rest found.stands e)
+mark_moves first text start piece joint mark found e =
+    let stands = subst (λ k. IsPiece first (kind_of k found.front) found.front found.rest) e found.stands in
+    moves_along start found.front piece.chars found.chars
+    (one_character is_mark refl mark found.front stands.0 (stands_mark mark joint found.rest stands.1))
+
+pub name_moves : (first : Bool) (text : List ℕ) (start : Place) (piece : Found) (raw : Bool) (name : _)
+    → (found : IsPieceAt first text piece) → piece.kind ≡ pieces.Name raw name
+    → record { line = start.line; column = start.column + piece.chars } ≡ moved_past start found.front
+name_moves first text start piece raw name found e =
+    let stands = subst (λ k. IsPiece first (kind_of k found.front) found.front found.rest) e found.stands in
+    moves_along start found.front piece.chars found.chars
+    (one_line_name raw (chars name.now) found.rest found.front stands.1 stands.0)
+
+pub opening_moves : (d : Delimiter) (start : Place) → length (opening d) ≡ 1
+    → record { line = start.line; column = start.column + 1 } ≡ moved_past start (opening d)
+opening_moves Parenthesis start one = refl
+opening_moves Brace start one = refl
+opening_moves Bracket start one = refl
+opening_moves None start one = absurd (omega (arith, one))
+
+pub closing_moves : (d : Delimiter) (start : Place) → length (closing d) ≡ 1
+    → record { line = start.line; column = start.column + 1 } ≡ moved_past start (closing d)
+closing_moves Parenthesis start one = refl
+closing_moves Brace start one = refl
+closing_moves Bracket start one = refl
+closing_moves None start one = absurd (omega (arith, one))
 
 -- ---- lists of trees
 
@@ -192,59 +208,23 @@ listed_open-joined place (x ∷ groups) trees more =
     ∙ sym (append_assoc (listed_open place groups x.outer) (opener place x.lo ∷ listed place trees)
     (listed place more))
 
--- ---- one step more
-
--- trees of which these are the events
-places_trees : (place : ℕ → Place) (old new : Placer) (f : Forest) → new.groups ≡ old.groups
-    → new.trees.items ≡ old.trees.items ++ listed place f → PlacesEvents place old new (flattening f)
-places_trees place old new f same grown = λ groups trees h. record {
-  groups_now = groups;
-  trees_now = joined trees f;
-  places = record {
-    around = ap (λ v. reverse v.items) same ∙ h.around;
-    lists = grown ∙ (ap (λ xs. xs ++ listed place f) h.lists ∙ sym (listed_open-joined place groups trees f));
-  };
-  grows = unclosed-joined groups trees f [];
-}
-
-pub places_leaf : (place : ℕ → Place) (old new : Placer) (token : Token) (lo hi : ℕ) (start end : Place)
-    → new.groups ≡ old.groups
-    → new.trees.items
-    ≡ old.trees.items ++ (record { start = start; end = end; kind = tree_kind (token_tree token lo hi) } ∷ [])
-    → start ≡ place lo → end ≡ place hi
-    → record { start = place lo; end = place hi; kind = tree_kind (token_tree token lo hi) }
-    ≡ placed place (token_tree token lo hi)
-    → PlacesEvents place old new (One token lo hi ∷ [])
-places_leaf place old new token lo hi start end same grown starts ends is =
-    places_trees place old new (leaf token lo hi nil) same
-    (grown ∙ ap (λ t. old.trees.items ++ (t ∷ []))
-    (ap₂ (λ s e. record { start = s; end = e; kind = tree_kind (token_tree token lo hi) }) starts ends ∙ is))
-
-pub places_nothing : (place : ℕ → Place) (old new : Placer) → new ≡ old → PlacesEvents place old new []
-places_nothing place old new same = λ groups trees h. record {
-  groups_now = groups;
-  trees_now = trees;
-  places = subst (λ p. Places place p groups trees) (sym same) h;
-  grows = refl;
-}
-
-pub places_open : (place : ℕ → Place) (old new : Placer) (d : Delimiter) (lo : ℕ) (start : Place)
-    → reverse new.groups.items
-    ≡ record { delimiter = d; lo = lo; start = start; index = length old.trees.items } ∷ reverse old.groups.items
-    → new.trees.items ≡ old.trees.items ++ (record { start = start; end = start; kind = kinds.Group } ∷ [])
-    → start ≡ place lo → PlacesEvents place old new (Opens d lo ∷ [])
-places_open place old new d lo start around grown is = λ groups trees h.
-    let frame : Place → ℕ → OpenGroup = λ s n. record { delimiter = d; lo = lo; start = s; index = n } in
-    record {
-      groups_now = record { outer = trees; delimiter = d; lo = lo } ∷ groups;
-      trees_now = nil;
-      places = record {
-        around = around ∙ (ap₂ (λ s n. frame s n ∷ reverse old.groups.items) is (ap length h.lists)
-            ∙ ap (λ gs. frame (place lo) (length (listed_open place groups trees)) ∷ gs) h.around);
-        lists = grown ∙ ap₂ (λ xs s. xs ++ (record { start = s; end = s; kind = kinds.Group } ∷ [])) h.lists is;
-      };
-      grows = refl;
-    }
+-- line and column grow by no more than there are characters
+pub moved_past-within : (place : Place) (text : List ℕ)
+    → ((moved_past place text).line ≤ place.line + length text)
+    × ((moved_past place text).column ≤ place.column + length text)
+moved_past-within place [] = (omega arith, omega arith)
+moved_past-within place (c ∷ text) =
+    let more = moved_past-within (next_place place c) text in
+    let one : ((next_place place c).line ≤ place.line + 1) × ((next_place place c).column ≤ place.column + 1) =
+    elim (is_line_feed c) as
+    (λ b. ((cond {A = Place} b (record { line = place.line + 1; column = 0 })
+    (record { line = place.line; column = place.column + 1 })).line ≤ place.line + 1)
+    × ((cond {A = Place} b (record { line = place.line + 1; column = 0 })
+    (record { line = place.line; column = place.column + 1 })).column ≤ place.column + 1)) [
+      | true ↦ (omega arith, omega arith)
+      | false ↦ (omega arith, omega arith)
+    ] in
+    (omega (arith, more.0, one.0), omega (arith, more.1, one.1))
 
 -- the innermost of the open groups, without its trees
 abbrev frame_of : (ℕ → Place) → Opened → List Opened → OpenGroup
@@ -255,102 +235,171 @@ frame_of place x groups = record {
   index = length (listed_open place groups x.outer);
 }
 
-places_close_of : (place : ℕ → Place) (old new : Placer) (d : Delimiter) (hi : ℕ) (end : Place)
-    (frame : OpenGroup) (frames : List OpenGroup) → reverse old.groups.items ≡ frame ∷ frames
-    → reverse new.groups.items ≡ frames → frame.delimiter ≡ d
-    → new.trees.items
-    ≡ set old.trees.items frame.index (record { start = frame.start; end = end; kind = kinds.Group })
-    → end ≡ place hi → (groups : List Opened) (trees : Forest) → Places place old groups trees
-    → PlacesMore place new groups trees (Closes d hi ∷ [])
-places_close_of place old new d hi end frame frames was now same grown ends [] trees h =
-    let clash : frame ∷ frames ≡ [] = sym was ∙ h.around in cc
-places_close_of place old new d hi end frame frames was now same grown ends (x ∷ groups) trees h =
-    let before = listed_open place groups x.outer in
-    let split : frame ∷ frames ≡ frame_of place x groups ∷ open_groups place groups = sym was ∙ h.around in
-    let rest : frames ≡ open_groups place groups = cc in
-    let head : frame ≡ frame_of place x groups = cc in
-    let fits : x.delimiter ≡ d = ap (λ f. f.delimiter) (sym head) ∙ same in
-    let tree : PlacedTree = record { start = place x.lo; end = place hi; kind = kinds.Group } in
-    let made : record { start = frame.start; end = end; kind = kinds.Group } ≡ tree =
-    ap₂ (λ s e. record { start = s; end = e; kind = kinds.Group }) (ap (λ f. f.start) head) ends in
-    let index : frame.index ≡ length before = ap (λ f. f.index) head in
-    let written : new.trees.items ≡ before ++ (tree ∷ listed place trees) =
-    grown ∙ (ap₂ (λ n t. set old.trees.items n t) index made
-    ∙ (ap (λ xs. set xs (length before) tree) h.lists
-    ∙ set-append_seam before (opener place x.lo) (listed place trees) tree)) in
-    record {
-      groups_now = groups;
-      trees_now = joined x.outer (group d x.lo hi trees nil);
-      places = record {
-        around = now ∙ rest;
-        lists = written ∙ sym (listed_open-joined place groups x.outer (group d x.lo hi trees nil));
-      };
-      grows = unclosed-joined groups x.outer (group d x.lo hi trees nil) []
-          ∙ ap (λ e. unclosed_onto groups x.outer (Opens e x.lo ∷ flat_onto trees (Closes d hi ∷ []))) (sym fits);
-    }
+-- ---- one step more
 
-pub places_close : (place : ℕ → Place) (old new : Placer) (d : Delimiter) (hi : ℕ) (end : Place) (frame : OpenGroup)
-    → reverse old.groups.items ≡ frame ∷ reverse new.groups.items → frame.delimiter ≡ d
-    → new.trees.items
-    ≡ set old.trees.items frame.index (record { start = frame.start; end = end; kind = kinds.Group })
-    → end ≡ place hi → PlacesEvents place old new (Closes d hi ∷ [])
-places_close place old new d hi end frame was same grown ends =
-    places_close_of place old new d hi end frame (reverse new.groups.items) was refl same grown ends
-
-within_of : (place : ℕ → Place) (placer : Placer) (frame : OpenGroup) (frames : List OpenGroup)
-    → reverse placer.groups.items ≡ frame ∷ frames
-    → (groups : List Opened) (trees : Forest) → Places place placer groups trees
-    → frame.index < length placer.trees.items
-within_of place placer frame frames was [] trees h =
-    let clash : frame ∷ frames ≡ [] = sym was ∙ h.around in cc
-within_of place placer frame frames was (x ∷ groups) trees h =
-    let before = listed_open place groups x.outer in
-    let split : frame ∷ frames ≡ frame_of place x groups ∷ open_groups place groups = sym was ∙ h.around in
-    let head : frame ≡ frame_of place x groups = cc in
-    omega (
-      arith,
-      ap (λ f. f.index) head,
-      ap length h.lists,
-      length-append before (opener place x.lo ∷ listed place trees),
+-- there is room for the lines and columns of what follows
+pub placed_room : (placer : Placer) (taken : Taken OpenGroup) → Places placer taken
+    → (placer.here.line ≤ position taken) × (placer.here.column ≤ position taken)
+placed_room placer taken h =
+    let within = moved_past-within origin taken.passed in (
+      omega (arith, within.0, ap (λ p. p.line) h.here, h.begins),
+      omega (arith, within.1, ap (λ p. p.column) h.here, h.begins),
     )
 
 -- the tree of an open group is in the list
-pub placed_within : (placer : Placer) (frame : OpenGroup) (frames : List OpenGroup)
-    → reverse placer.groups.items ≡ frame ∷ frames → IsPlacing placer → frame.index < length placer.trees.items
-placed_within placer frame frames was h = within_of h.place placer frame frames was h.groups h.trees h.places
+within_of : (place : ℕ → Place) (items : List PlacedTree) (x : OpenGroup) (outer opened : List OpenGroup)
+    (groups : List Opened) (trees : Forest) → opened ≡ x ∷ outer → opened ≡ open_groups place groups
+    → items ≡ listed_open place groups trees → x.index < length items
+within_of place items x outer opened [] trees was around lists =
+    let clash : x ∷ outer ≡ [] = sym was ∙ around in cc
+within_of place items x outer opened (y ∷ groups) trees was around lists =
+    let before = listed_open place groups y.outer in
+    let split : x ∷ outer ≡ open_groups place (y ∷ groups) = sym was ∙ around in
+    let head : x ≡ frame_of place y groups = cc in
+    omega (
+      arith,
+      ap (λ f. f.index) head,
+      ap length lists,
+      length-append before (opener place y.lo ∷ listed place trees),
+    )
+
+pub placed_within : (placer : Placer) (taken : Taken OpenGroup) (x : OpenGroup) (outer : List OpenGroup)
+    → taken.opened ≡ x ∷ outer → Places placer taken → x.index < length placer.trees.items
+placed_within placer taken x outer was h =
+    within_of (place_of taken.base taken.source) placer.trees.items x outer taken.opened h.groups h.trees was h.around
+    h.lists
+
+module _ (old new : Placer) (before : Taken OpenGroup) (text front rest : List ℕ) (at : ℕ) (h : Places old before)
+    (e : IsAt before at text) (whole : text ≡ front ++ rest) (moved : new.here ≡ moved_past old.here front) where
+  abbrev place : ℕ → Place
+  place = place_of before.base before.source
+
+  abbrev after : ℕ
+  after = at + length front
+
+  now_here : new.here ≡ moved_past origin (before.passed ++ front)
+  now_here = moved ∙ (ap (λ p. moved_past p front) h.here ∙ sym (moved_past-append origin before.passed front))
+
+  start_is : old.here ≡ place at
+  start_is = place_is before.base at before.source before.passed text old.here e.1 e.0 h.here
+
+  end_is : new.here ≡ place after
+  end_is = place_is before.base after before.source (before.passed ++ front) rest new.here
+      (e.1 ∙ (ap (λ t. before.passed ++ t) whole ∙ sym (append_assoc before.passed front rest)))
+      (omega (arith, e.0, length-append before.passed front)) now_here
+
+  -- trees of which these are the events; none, where what was passed is a gap
+  pub placed_trees : (added : List PlacedTree) (f : Forest) (es : List Event) → es ≡ flattening f
+      → new.trees.items ≡ old.trees.items ++ added
+      → ((place : ℕ → Place) → old.here ≡ place at → new.here ≡ place after → added ≡ listed place f)
+      → Places new (past before front before.opened es)
+  placed_trees added f es is grown places = record {
+    begins = h.begins;
+    groups = h.groups;
+    trees = joined h.trees f;
+    same = unclosed-joined h.groups h.trees f []
+        ∙ (unclosed-append h.groups h.trees [] (flattening f)
+        ∙ ap₂ (λ xs ys. xs ++ ys) h.same (sym is));
+    here = now_here;
+    around = h.around;
+    lists = grown ∙ (ap₂ (λ xs ys. xs ++ ys) h.lists (places place start_is end_is)
+        ∙ sym (listed_open-joined place h.groups h.trees f));
+  }
+
+  pub placed_open : (d : Delimiter) (x : OpenGroup)
+      → x ≡ record { delimiter = d; lo = at; start = old.here; index = length old.trees.items }
+      → new.trees.items ≡ old.trees.items ++ (record { start = old.here; end = old.here; kind = kinds.Group } ∷ [])
+      → Places new (past before front (x ∷ before.opened) (Opens d at ∷ []))
+  placed_open d x is grown =
+      let frame : Place → ℕ → OpenGroup = λ s n. record { delimiter = d; lo = at; start = s; index = n } in
+      record {
+        begins = h.begins;
+        groups = record { outer = h.trees; delimiter = d; lo = at } ∷ h.groups;
+        trees = nil;
+        same = unclosed-append h.groups h.trees [] (Opens d at ∷ []) ∙ ap (λ es. es ++ (Opens d at ∷ [])) h.same;
+        here = now_here;
+        around = ap₂ (λ y ys. y ∷ ys) (is ∙ ap₂ frame start_is (ap length h.lists)) h.around;
+        lists = grown ∙ ap₂ (λ xs s. xs ++ (record { start = s; end = s; kind = kinds.Group } ∷ [])) h.lists start_is;
+      }
+
+  close_of : (d : Delimiter) (x : OpenGroup) (outer : List OpenGroup) (groups : List Opened) (trees : Forest)
+      → before.opened ≡ x ∷ outer → x.delimiter ≡ d
+      → new.trees.items ≡ set old.trees.items x.index (record { start = x.start; end = new.here; kind = kinds.Group })
+      → unclosed_onto groups trees [] ≡ before.events → before.opened ≡ open_groups place groups
+      → old.trees.items ≡ listed_open place groups trees
+      → Places new (past before front outer (Closes d after ∷ []))
+  close_of d x outer [] trees was fits grown same around lists =
+      let clash : x ∷ outer ≡ [] = sym was ∙ around in cc
+  close_of d x outer (y ∷ groups) trees was fits grown same around lists =
+      let split : x ∷ outer ≡ open_groups place (y ∷ groups) = sym was ∙ around in
+      let head : x ≡ frame_of place y groups = cc in
+      let back : outer ≡ open_groups place groups = cc in
+      let agree : y.delimiter ≡ d = ap (λ o. o.delimiter) (sym head) ∙ fits in
+      let first = listed_open place groups y.outer in
+      let tree : PlacedTree = record { start = place y.lo; end = place after; kind = kinds.Group } in
+      let made : record { start = x.start; end = new.here; kind = kinds.Group } ≡ tree =
+      ap₂ (λ s e. record { start = s; end = e; kind = kinds.Group }) (ap (λ o. o.start) head) end_is in
+      record {
+        begins = h.begins;
+        groups = groups;
+        trees = joined y.outer (group d y.lo after trees nil);
+        same = unclosed-joined groups y.outer (group d y.lo after trees nil) []
+            ∙ (ap (λ b. unclosed_onto groups y.outer (Opens b y.lo ∷ flat_onto trees (Closes d after ∷ []))) (sym agree)
+            ∙ (unclosed-append (y ∷ groups) trees [] (Closes d after ∷ [])
+            ∙ ap (λ es. es ++ (Closes d after ∷ [])) same));
+        here = now_here;
+        around = back;
+        lists = grown ∙ (ap₂ (λ n t. set old.trees.items n t) (ap (λ o. o.index) head) made
+            ∙ (ap (λ xs. set xs (length first) tree) lists
+            ∙ (set-append_seam first (opener place y.lo) (listed place trees) tree
+            ∙ sym (listed_open-joined place groups y.outer (group d y.lo after trees nil)))));
+      }
+
+  pub placed_close : (d : Delimiter) (x : OpenGroup) (outer : List OpenGroup) → before.opened ≡ x ∷ outer
+      → x.delimiter ≡ d
+      → new.trees.items ≡ set old.trees.items x.index (record { start = x.start; end = new.here; kind = kinds.Group })
+      → Places new (past before front outer (Closes d after ∷ []))
+  placed_close d x outer was fits grown =
+      close_of d x outer h.groups h.trees was fits grown h.same h.around h.lists
+
+-- ---- all trees
+
+pub placed_none : (base : ℕ) (source : List ℕ) (placer : Placer) → 1 ≤ base → placer.here ≡ origin
+    → placer.trees.items ≡ [] → Places placer (nothing base source)
+placed_none base source placer begins here none = record {
+  begins = begins;
+  groups = [];
+  trees = nil;
+  same = refl;
+  here = here;
+  around = refl;
+  lists = none;
+}
+
+all_of : (base : ℕ) (source : List ℕ) (items : List PlacedTree) (groups : List Opened) (trees stream : Forest)
+    → ParsesTo base source stream → unclosed_onto groups trees [] ≡ flattening stream
+    → [] ≡ open_groups (place_of base source) groups → items ≡ listed_open (place_of base source) groups trees
+    → ArePlaced base source items
+all_of base source items [] trees stream parses same none lists = record {
+  stream = trees;
+  parses = record { pieces = parses.pieces; covers = parses.covers; expands = same ∙ parses.expands };
+  places = lists;
+}
+all_of base source items (y ∷ groups) trees stream parses same none lists =
+    let clash : [] ≡ open_groups (place_of base source) (y ∷ groups) = none in cc
+
+pub placed_all : (base : ℕ) (source : List ℕ) (placer : Placer)
+    → ReadsAll (λ placer taken. Places placer taken) base source placer → ArePlaced base source placer.trees.items
+placed_all base source placer h =
+    all_of base source placer.trees.items h.takes.groups h.takes.trees h.stream h.parses h.takes.same h.takes.around
+    h.takes.lists
 
 -- ---- a doc comment
 
--- the group of its text
-abbrev doc_group_places : Place → Place → List PlacedTree
-doc_group_places start end =
-    record { start = start; end = end; kind = kinds.Group }
-    ∷ record { start = start; end = end; kind = kinds.Ident }
-    ∷ record { start = start; end = end; kind = kinds.Punct }
-    ∷ record { start = start; end = end; kind = kinds.Literal }
-    ∷ []
-
--- its tokens
-abbrev doc_places : Bool → Place → Place → List PlacedTree
-doc_places true start end =
-    record { start = start; end = end; kind = kinds.Punct }
-    ∷ record { start = start; end = end; kind = kinds.Punct }
-    ∷ doc_group_places start end
-doc_places false start end = record { start = start; end = end; kind = kinds.Punct } ∷ doc_group_places start end
-
-doc_listed : (place : ℕ → Place) (lo hi : ℕ) (inner : Bool) (text : List ℕ)
+pub doc_listed : (place : ℕ → Place) (lo hi : ℕ) (inner : Bool) (text : List ℕ)
     → listed place (doc_trees lo hi inner text) ≡ doc_places inner (place lo) (place hi)
 doc_listed place lo hi true text = refl
 doc_listed place lo hi false text = refl
-
-pub places_doc : (place : ℕ → Place) (old new : Placer) (lo hi : ℕ) (inner : Bool) (text : List ℕ) (start end : Place)
-    → new.groups ≡ old.groups → new.trees.items ≡ old.trees.items ++ doc_places inner start end
-    → start ≡ place lo → end ≡ place hi → PlacesEvents place old new (doc_onto lo hi inner text [])
-places_doc place old new lo hi inner text start end same grown starts ends =
-    subst (PlacesEvents place old new) (doc_trees-events lo hi inner text [])
-    (places_trees place old new (doc_trees lo hi inner text) same
-    (grown ∙ ap (λ xs. old.trees.items ++ xs)
-    (ap₂ (doc_places inner) starts ends ∙ sym (doc_listed place lo hi inner text))))
 
 -- its tokens were placed, one after another
 pub doc_grown : (inner : Bool) (start end : Place) (old one mid two three four five : List PlacedTree)
@@ -376,201 +425,7 @@ doc_grown inner start end old one mid two three four five a b c d e f =
           ∙ (simp append_assoc refl ∙ ap (λ i. old ++ doc_places i start end) (sym outward.0)))
     ]
 
--- the trees of a piece of this kind were placed
-pub places_by : (place : ℕ → Place) (old made new : Placer) (es : List Event) (kind is : PieceKind) (lo : ℕ)
-    (front : List ℕ) → new ≡ made → PlacesEvents place old made es → kind ≡ is
-    → es ≡ events_onto lo (kind_of is front) front []
-    → PlacesEvents place old new (events_onto lo (kind_of kind front) front [])
-places_by place old made new es kind is lo front same h e gives =
-    subst (λ p. PlacesEvents place old p (events_onto lo (kind_of kind front) front [])) (sym same)
-    (subst (PlacesEvents place old made) (gives ∙ ap (λ k. events_onto lo (kind_of k front) front []) (sym e)) h)
-
--- ---- the loop
-
--- what was placed, what was read, and where the rest of the source begins
-pub record PlacedTo (base : ℕ) (source rest : List ℕ) (at : ℕ) (first : Bool) (placer : Placer) (start : Place) :
-    Type 0 where
-  pub groups : List Opened
-  pub trees : Forest
-  pub front : List ℕ
-  pub split : source ≡ front ++ rest
-  pub width : at ≡ base + length front
-  pub here : start ≡ moved_past (record { line = 1; column = 0 }) front
-  pub places : Places (place_of base source) placer groups trees
-  pub reads : Reads base source rest at first groups trees
-
-pub placed_none : (base : ℕ) (source : List ℕ) (new : Placer) → new.groups.items ≡ [] → new.trees.items ≡ []
-    → PlacedTo base source source base true new (record { line = 1; column = 0 })
-placed_none base source new groups trees = record {
-  groups = [];
-  trees = nil;
-  front = [];
-  split = refl;
-  width = omega arith;
-  here = refl;
-  places = record { around = ap reverse groups; lists = trees };
-  reads = reads_none base source;
-}
-
-pub IsPlacing-to : {base : ℕ} {source rest : List ℕ} {at : ℕ} {first : Bool} {placer : Placer} {start : Place}
-    → PlacedTo base source rest at first placer start → IsPlacing placer
-IsPlacing-to {base} {source} h =
-    record { place = place_of base source; groups = h.groups; trees = h.trees; places = h.places }
-
--- line and column grow by no more than there are characters
-pub moved_past-within : (place : Place) (text : List ℕ)
-    → ((moved_past place text).line ≤ place.line + length text)
-    × ((moved_past place text).column ≤ place.column + length text)
-moved_past-within place [] = (omega arith, omega arith)
-moved_past-within place (c ∷ text) =
-    let more = moved_past-within (next_place place c) text in
-    let one : ((next_place place c).line ≤ place.line + 1) × ((next_place place c).column ≤ place.column + 1) =
-    elim (is_line_feed c) as
-    (λ b. ((cond {A = Place} b (record { line = place.line + 1; column = 0 })
-    (record { line = place.line; column = place.column + 1 })).line ≤ place.line + 1)
-    × ((cond {A = Place} b (record { line = place.line + 1; column = 0 })
-    (record { line = place.line; column = place.column + 1 })).column ≤ place.column + 1)) [
-      | true ↦ (omega arith, omega arith)
-      | false ↦ (omega arith, omega arith)
-    ] in
-    (omega (arith, more.0, one.0), omega (arith, more.1, one.1))
-
-pub placed_room : {base : ℕ} {source rest : List ℕ} {at : ℕ} {first : Bool} {placer : Placer} {start : Place}
-    → PlacedTo base source rest at first placer start → 1 ≤ base → (start.line ≤ at) × (start.column ≤ at)
-placed_room {start = start} h begins =
-    let within = moved_past-within (record { line = 1; column = 0 }) h.front in
-    let line = ap (λ p. p.line) h.here in
-    let column = ap (λ p. p.column) h.here in
-    (omega (arith, within.0, line, h.width), omega (arith, within.1, column, h.width))
-
--- the place of the position after a front of the source
-place_is : (base at : ℕ) (source front rest : List ℕ) (place : Place) → source ≡ front ++ rest
-    → at ≡ base + length front → place ≡ moved_past (record { line = 1; column = 0 }) front
-    → place ≡ place_of base source at
-place_is base at source front rest place whole e here =
-    here ∙ (end_place-append [] front ∙ sym (place_of-front base at source front rest whole e))
-
-pub placed_start : {base : ℕ} {source rest : List ℕ} {at : ℕ} {first : Bool} {placer : Placer} {start : Place}
-    → PlacedTo base source rest at first placer start → start ≡ place_of base source at
-placed_start {base} {source} {rest} {at} {start = start} h =
-    place_is base at source h.front rest start h.split h.width h.here
-
-pub placed_end : {base : ℕ} {source mid : List ℕ} {at : ℕ} {first : Bool} {placer : Placer} {start : Place}
-    (end : Place) (front rest : List ℕ) → PlacedTo base source mid at first placer start → mid ≡ front ++ rest
-    → end ≡ moved_past start front → end ≡ place_of base source (at + length front)
-placed_end {base} {source} {mid} {at} {start = start} end front rest h whole e =
-    place_is base (at + length front) source (h.front ++ front) rest end
-    (h.split ∙ (ap (λ x. h.front ++ x) whole ∙ sym (append_assoc h.front front rest)))
-    (omega (arith, h.width, length-append h.front front))
-    (e ∙ (ap (λ p. moved_past p front) h.here
-    ∙ sym (moved_past-append (record { line = 1; column = 0 }) h.front front)))
-
-pub placed_on : (base : ℕ) (source mid tail rest : List ℕ) (at count : ℕ) (first : Bool) (old new : Placer)
-    (start end next : Place) (piece : Found) → (h : PlacedTo base source mid at first old start)
-    → (found : IsPieceAt first mid piece) → tail ≡ found.rest
-    → PlacesEvents (place_of base source) old new (events_onto at (kind_of piece.kind found.front) found.front [])
-    → (white : IsPastWhite tail rest count) → end ≡ moved_past start found.front → next ≡ moved_past end white.front
-    → PlacedTo base source rest (at + (piece.chars + count)) false new next
-placed_on base source mid tail rest at count first old new start end next piece h found e step white ends goes =
-    let more = step h.groups h.trees h.places in
-    let read = found.front ++ white.front in
-    record {
-      groups = more.groups_now;
-      trees = more.trees_now;
-      front = h.front ++ read;
-      split = h.split ∙ (ap (λ x. h.front ++ x) (found.whole ∙ (ap (λ x. found.front ++ x) (sym e ∙ white.whole)
-          ∙ sym (append_assoc found.front white.front rest)))
-          ∙ sym (append_assoc h.front read rest));
-      width = omega (
-        arith,
-        h.width,
-        found.chars,
-        white.chars,
-        length-append h.front read,
-        length-append found.front white.front,
-      );
-      here = goes ∙ (ap (λ p. moved_past p white.front) ends
-          ∙ (sym (moved_past-append start found.front white.front)
-          ∙ (ap (λ p. moved_past p read) h.here
-          ∙ sym (moved_past-append (record { line = 1; column = 0 }) h.front read))));
-      places = more.places;
-      reads = reads_on base source mid tail rest at count first h.groups more.groups_now h.trees more.trees_now piece
-          h.reads found e more.grows white;
-    }
-
--- there is room for the lines and columns of the white characters after a piece
-pub white_room : {base : ℕ} {source mid : List ℕ} {at : ℕ} {first : Bool} {placer : Placer} {start end : Place}
-    (tail rest : List ℕ) (count limit : ℕ) (piece : Found) → (h : PlacedTo base source mid at first placer start)
-    → 1 ≤ base → (found : IsPieceAt first mid piece) → tail ≡ found.rest → (white : IsPastWhite tail rest count)
-    → end ≡ moved_past start found.front → at + length mid < limit
-    → (end.line + length white.front < limit) × (end.column + length white.front < limit)
-white_room {at = at} {start = start} {end = end} tail rest count limit piece h begins found e white ends room =
-    let here = placed_room h begins in
-    let more = moved_past-within start found.front in
-    let whole = ap length found.whole in
-    let behind = ap length (sym e ∙ white.whole) in
-    let line = ap (λ p. p.line) ends in
-    let column = ap (λ p. p.column) ends in (
-      omega (
-        arith,
-        here.0,
-        more.0,
-        line,
-        whole,
-        behind,
-        length-append found.front found.rest,
-        length-append white.front rest,
-        room,
-      ),
-      omega (
-        arith,
-        here.1,
-        more.1,
-        column,
-        whole,
-        behind,
-        length-append found.front found.rest,
-        length-append white.front rest,
-        room,
-      ),
-    )
-
-pub placed_stray : (base : ℕ) (source mid : List ℕ) (at : ℕ) (first : Bool) (placer : Placer) (start : Place)
-    (piece : Found) (error : ParseError)
-    → PlacedTo base source mid at first placer start → IsPieceAt first mid piece
-    → ((place : ℕ → Place) (groups : List Opened) (trees : Forest) → Places place placer groups trees
-    → IsFaultFor at (IsStray piece.kind groups) error)
-    → IsFault base source error
-placed_stray base source mid at first placer start piece error h found stray =
-    fault_stray base source mid at first h.groups h.trees piece error h.reads found
-    (stray (place_of base source) h.groups h.trees h.places)
-
-pub placed_ok : {A : Type 0} (items : A → List PlacedTree) (base : ℕ) (source rest : List ℕ) (at : ℕ) (first : Bool)
-    (placer : Placer) (start : Place) (result : Result A ParseError)
-    → PlacedTo base source rest at first placer start
-    → IfOk result (λ out. (rest ≡ []) × ((place : ℕ → Place) (groups : List Opened) (trees : Forest)
-    → Places place placer groups trees → (groups ≡ []) × (items out ≡ listed place trees)))
-    → IfOk result (λ out. ArePlaced base source (items out))
-placed_ok items base source rest at first placer start (Ok out) h ends =
-    let last = ends.1 (place_of base source) h.groups h.trees h.places in
-    record {
-      stream = h.trees;
-      parses = ends_ok base source rest at first h.groups h.trees (Ok h.trees) h.reads (ends.0, last.0, refl);
-      places = last.1;
-    }
-placed_ok items base source rest at first placer start (Err error) h ends = tt
-
-pub placed_refused : {A : Type 0} (base : ℕ) (source rest : List ℕ) (at : ℕ) (first : Bool) (placer : Placer)
-    (start : Place) (result : Result A ParseError)
-    → PlacedTo base source rest at first placer start → HasNoPiece first rest
-    → (rest ≢ [] → IfErr result (IsFaultFor at (Unit {0})))
-    → (rest ≡ [] → IfErr result (λ error. (place : ℕ → Place) (groups : List Opened) (trees : Forest)
-    → Places place placer groups trees → IsOpenFault groups error))
-    → IfErr result (IsFault base source)
-placed_refused base source rest at first placer start (Ok out) h none stuck stays = tt
-placed_refused base source rest at first placer start (Err error) h none stuck stays =
-    ends_refused base source rest at first h.groups h.trees (Err error) h.reads none stuck
-    (λ e. stays e (place_of base source) h.groups h.trees h.places)
+-- ---- what is around it
 
 -- a text whose trees were placed has no fault
 pub placed_faultless : {A : Type 0} (items : A → List PlacedTree) (base begin : ℕ) (source : List ℕ)
@@ -584,12 +439,11 @@ white_ascii : (cs : List ℕ) → list_all ascii_white cs ≡ true → all_ascii
 white_ascii = all_pass _ _ (λ c is. (and_parts _ _ is).0)
 
 -- the white characters that are passed over, by bytes
-pub white_cut : (tail after : List ℕ) (count : ℕ) → IsUtf8 tail
-    → (white : IsPastWhite (chars tail) (chars after) count)
+pub white_cut : (tail rest : List ℕ) (count : ℕ) → IsUtf8 tail → (white : IsPastWhite (chars tail) rest count)
     → IsCharBoundary tail count × (chars (take count tail) ≡ white.front)
-white_cut tail after count utf8 white =
+white_cut tail rest count utf8 white =
     let cut : take count (chars tail) ≡ white.front =
-    ap₂ take white.chars white.whole ∙ take-append_seam white.front (chars after) in
+    ap₂ take white.chars white.whole ∙ take-append_seam white.front rest in
     let bytes : encode_utf8_all white.front ≡ white.front =
     encode_all_ascii white.front (white_ascii white.front white.stands.each) in
     let size : byte_offset (chars tail) count ≡ count =
@@ -597,24 +451,3 @@ white_cut tail after count utf8 white =
       subst (IsCharBoundary tail) size (boundary_at tail count utf8),
       ap (λ n. chars (take n tail)) (sym size) ∙ (front_at tail count utf8 ∙ cut),
     )
-
--- ---- how it ends
-
-pub end_placed : (place : ℕ → Place) (placer : Placer) (groups : List Opened) (trees : Forest)
-    → placer.groups.items ≡ [] → Places place placer groups trees
-    → (groups ≡ []) × (placer.trees.items ≡ listed place trees)
-end_placed place placer [] trees none h = (refl, h.lists)
-end_placed place placer (x ∷ groups) trees none h =
-    let clash : [] ≡ frame_of place x groups ∷ open_groups place groups = sym (ap reverse none) ∙ h.around in cc
-
-pub end_stays_open : (place : ℕ → Place) (placer : Placer) (groups : List Opened) (trees : Forest) (frame : OpenGroup)
-    (frames : List OpenGroup) (error : ParseError)
-    → reverse placer.groups.items ≡ frame ∷ frames → error ≡ Lex (record { lo = frame.lo; hi = frame.lo })
-    → Places place placer groups trees → IsOpenFault groups error
-end_stays_open place placer [] trees frame frames error was is h =
-    let clash : frame ∷ frames ≡ [] = sym was ∙ h.around in cc
-end_stays_open place placer (x ∷ groups) trees frame frames error was is h =
-    let split : frame ∷ frames ≡ frame_of place x groups ∷ open_groups place groups = sym was ∙ h.around in
-    let head : frame ≡ frame_of place x groups = cc in
-    let same : frame.lo ≡ x.lo = ap (λ f. f.lo) head in
-    rw is (ap (λ n. record { lo = n; hi = n }) same, tt)

@@ -18,6 +18,8 @@ pub mod Same
 pub mod SameTree
 pub mod Parsing
 pub mod OpenGroups
+pub mod Taken
+pub mod Reading
 pub mod PrintsText
 pub mod Fault
 pub mod Nesting

@@ -1,24 +1,27 @@
--- What the parser's state is seen as.
-use Rattle.std.specs.Prelude.{ℕ, List, reverse}
+-- What the parser has read so far.
+use Rattle.std.specs.Prelude.{◌≡◌, List, [], ◌++◌, length}
 use Rattle.pm_stream.specs.Events.{Event}
-use Rattle.pm_stream.specs.Forest.{Forest}
+use Rattle.pm_stream.specs.OpenGroups.{unclosed_onto, IsBuiltUpTo}
 use Rattle.pm_stream.specs.Trees.{forest}
-use Rattle.pm_stream.specs.Nesting.{innermost, opened}
-use Rattle.pm_stream.specs.OpenGroups.{Opened, unclosed_onto, IsBuiltUpTo}
+use Rattle.pm_stream.specs.Nesting.{innermost, opened, IsNested}
+use Rattle.pm_stream.specs.Taken.{Taken, position}
+use Rattle.pm_stream.specs.declared.parse.Frame.{Frame}
 use Rattle.pm_stream.specs.declared.parse.Parser.{Parser}
 
--- the open groups, the innermost first
-abbrev pub groups : Parser → List Opened
-groups parser = opened (reverse parser.frames.items) parser.trees.items
+-- the one list holds the trees of all open groups, which are built and have these events
+pub record Parses (parser : Parser) (taken : Taken Frame) : Type 0 where
+  pub nested : IsNested taken.opened (length parser.trees.items)
+  pub events : unclosed_onto (opened taken.opened parser.trees.items)
+      (forest (innermost taken.opened parser.trees.items)) [] ≡ taken.events
+  pub built : IsBuiltUpTo (position taken) (opened taken.opened parser.trees.items)
+      (forest (innermost taken.opened parser.trees.items))
 
--- the trees of the innermost
-abbrev pub trees : Parser → Forest
-trees parser = forest (innermost (reverse parser.frames.items) parser.trees.items)
-
--- the events of what was read, and then other events
-abbrev pub read_onto : Parser → List Event → List Event
-read_onto parser = unclosed_onto (groups parser) (trees parser)
-
--- what was read is built, and each open group begins at or before the position
-abbrev pub IsBuiltTo : ℕ → Parser → Type 0
-IsBuiltTo at parser = IsBuiltUpTo at (groups parser) (trees parser)
+-- the step put in trees of these events
+abbrev pub Adds : Parser → Parser → List Event → Type 0
+Adds old new more = (taken : Taken Frame) → Parses old taken → Parses new (record {
+  base = taken.base;
+  source = taken.source;
+  passed = taken.passed;
+  opened = taken.opened;
+  events = taken.events ++ more;
+})

@@ -1,9 +1,9 @@
 -- What was placed so far, while groups are open.
-use Rattle.std.specs.Prelude.{ℕ, ◌≡◌, List, [], ◌∷◌, ◌++◌, length, reverse}
-use Rattle.pm_stream.specs.Events.{Event}
+use Rattle.std.specs.Prelude.{ℕ, ◌≡◌, ◌≤◌, Bool, true, false, List, [], ◌∷◌, ◌++◌, length}
 use Rattle.pm_stream.specs.Forest.{Forest}
 use Rattle.pm_stream.specs.OpenGroups.{Opened, unclosed_onto}
-use Rattle.pm_stream.specs.Places.{listed}
+use Rattle.pm_stream.specs.Places.{listed, moved_past, place_of}
+use Rattle.pm_stream.specs.Taken.{Taken}
 use Rattle.pm_stream.specs.declared.placing.Place.{Place}
 use Rattle.pm_stream.specs.declared.placing.PlacedTree.{PlacedTree}
 use Rattle.pm_stream.specs.declared.placing.TreeKind.TheVariants as kinds
@@ -32,27 +32,33 @@ open_groups place (group ∷ groups) =
     }
     ∷ open_groups place groups
 
--- what was placed is these open groups and trees, which need not be there
-pub record Places (place : ℕ → Place) (placer : Placer) (groups : List Opened) (trees : Forest) : Type 0 where
-  pub around : reverse placer.groups.items ≡ open_groups place groups
-  pub lists : placer.trees.items ≡ listed_open place groups trees
+-- where a text begins
+abbrev pub origin : Place
+origin = record { line = 1; column = 0 }
 
--- the trees of these events and then more were placed
-pub record PlacesMore (place : ℕ → Place) (placer : Placer) (groups : List Opened) (trees : Forest)
-    (events : List Event) : Type 0 where
-  pub groups_now : List Opened
-  pub trees_now : Forest
-  pub places : Places place placer groups_now trees_now
-  pub grows : unclosed_onto groups_now trees_now [] ≡ unclosed_onto groups trees events
-
--- the step placed the trees of these events more
-abbrev pub PlacesEvents : (ℕ → Place) → Placer → Placer → List Event → Type 0
-PlacesEvents place old new events = (groups : List Opened) (trees : Forest) → Places place old groups trees
-    → PlacesMore place new groups trees events
-
--- something was placed
-pub record IsPlacing (placer : Placer) : Type 0 where
-  pub place : ℕ → Place
+-- what was placed is the trees and the open groups of these events, which need not be there
+pub record Places (placer : Placer) (taken : Taken OpenGroup) : Type 0 where
+  pub begins : 1 ≤ taken.base
   pub groups : List Opened
   pub trees : Forest
-  pub places : Places place placer groups trees
+  pub same : unclosed_onto groups trees [] ≡ taken.events
+  pub here : placer.here ≡ moved_past origin taken.passed
+  pub around : taken.opened ≡ open_groups (place_of taken.base taken.source) groups
+  pub lists : placer.trees.items ≡ listed_open (place_of taken.base taken.source) groups trees
+
+-- the group of a doc comment's text
+abbrev pub doc_group_places : Place → Place → List PlacedTree
+doc_group_places start end =
+    record { start = start; end = end; kind = kinds.Group }
+    ∷ record { start = start; end = end; kind = kinds.Ident }
+    ∷ record { start = start; end = end; kind = kinds.Punct }
+    ∷ record { start = start; end = end; kind = kinds.Literal }
+    ∷ []
+
+-- its tokens
+abbrev pub doc_places : Bool → Place → Place → List PlacedTree
+doc_places true start end =
+    record { start = start; end = end; kind = kinds.Punct }
+    ∷ record { start = start; end = end; kind = kinds.Punct }
+    ∷ doc_group_places start end
+doc_places false start end = record { start = start; end = end; kind = kinds.Punct } ∷ doc_group_places start end

@@ -1,8 +1,5 @@
 -- Where the trees of a text stand, by line and column.
-use Rattle.std.specs.Prelude.{ℕ, Bool, true, false, ◌≡◌, ◌+◌, ◌-◌, List, [], ◌∷◌, map, if◌then◌else◌}
-use Rattle.lexical.specs.declared.piece.PieceKind.{PieceKind}
-use Rattle.lexical.specs.declared.piece.PieceKind.TheVariants.{FrontMark, Gap, Doc, Opener, Closer, Mark, Name}
-use Rattle.lexical.specs.declared.piece.PieceKind.TheVariants.{Literal}
+use Rattle.std.specs.Prelude.{ℕ, ◌≡◌, ◌+◌, ◌-◌, List, [], ◌∷◌, map, if◌then◌else◌}
 use Rattle.pm_span.specs.CharOffset.{is_line_feed, line, column}
 use Rattle.pm_stream.specs.Forest.{Forest}
 use Rattle.pm_stream.specs.InOrder.{in_order}
@@ -33,17 +30,6 @@ next_place place c =
 abbrev pub moved_past : Place → List ℕ → Place
 moved_past place [] = place
 moved_past place (c ∷ text) = moved_past (next_place place c) text
-
--- no piece that the lexer calls so has a line feed
-abbrev pub has_one_line : PieceKind → Bool
-has_one_line FrontMark = false
-has_one_line Gap = false
-has_one_line (Doc inner text) = false
-has_one_line (Opener c) = true
-has_one_line (Closer c) = true
-has_one_line Literal = false
-has_one_line (Mark joint mark) = true
-has_one_line (Name raw name) = true
 
 -- the kind of a tree
 abbrev pub tree_kind : TokenTree → TreeKind

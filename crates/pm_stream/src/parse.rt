@@ -1,30 +1,28 @@
 //! The parser: from the pieces of a text to its token trees.
-ghost use Rattle.std.specs.Prelude.{◌≡◌, ◌≢◌, ◌≤◌, ◌+◌, ◌<◌, ◌^◌, ◌↔◌, ℕ, Bool, List, [], ◌∷◌, ◌++◌, length, reverse};
+ghost use Rattle.std.specs.Prelude.{◌≡◌, ◌+◌, ◌<◌, ◌^◌, ◌↔◌, [], ◌∷◌, length};
 ghost use Rattle.std.specs.Prelude.{OnOk, IfOk, IfErr, IsTrue, if◌then◌else◌};
 ghost use Rattle.std.specs.Str.{chars};
-ghost use Rattle.lexical.specs.Found.{IsPieceAt, kind_of};
 ghost use Rattle.lexical.specs.Mark.{is_mark};
 ghost use Rattle.lexical.specs.Token as tokens;
 ghost use Rattle.pm_span.specs.Files.{Fits, Holds, new_map, next_lo, with_file};
 ghost use Rattle.pm_token.specs.Built.{IsBuiltToken};
 ghost use Rattle.pm_token.specs.Leaf.{is_joint};
-ghost use Rattle.pm_stream.specs.Delimited.{delimiter_of};
-ghost use Rattle.pm_stream.specs.Events.{Event, One, Opens, Closes, doc_onto, events_onto};
-ghost use Rattle.pm_stream.specs.Forest.{nil, flat_onto, IsBuilt};
-ghost use Rattle.pm_stream.specs.Trees.{alone, GoesInside};
 ghost use Rattle.pm_token.specs.Outcome.{IfLex, was_read};
+ghost use Rattle.pm_stream.specs.Events.{One, doc_onto};
+ghost use Rattle.pm_stream.specs.Fault.{IsFault};
+ghost use Rattle.pm_stream.specs.Forest.{flat_onto, IsBuilt};
 ghost use Rattle.pm_stream.specs.HeldSpans.{HoldsAll};
+ghost use Rattle.pm_stream.specs.ParserState.{Adds, Parses};
 ghost use Rattle.pm_stream.specs.Parsing.{ParsesTo, FaultAt, HasNoFault, IsOnlyFault};
-ghost use Rattle.pm_stream.specs.OpenGroups.{FitsInnermost};
-ghost use Rattle.pm_stream.specs.Nesting.{IsNested, IsNested-prop};
-ghost use Rattle.pm_stream.specs.Fault.{IsFaultFor, IsStray, IsOpenFault, IsFault};
+ghost use Rattle.pm_stream.specs.Trees.{alone, forest, GoesInside};
 
 use crate::doc::doc_group;
+use crate::reading::{TokenSink, read};
 use crate::stream::{Group, TokenStream, TokenTree};
-use lexical::{Piece, PieceKind, past_white, piece_at};
+use lexical::Piece;
 use pm_span::parts::{add_file, allocator, fits, fits_new, span_of};
 use pm_span::{SourceMap, Span};
-use pm_token::parts::{fault, ident, literal, punct};
+use pm_token::parts::{ident, literal, punct};
 use pm_token::{Delimiter, ParseError, Spacing};
 use std::alloc::{AllocError, Global};
 
@@ -107,32 +105,20 @@ pub(crate) fn parse(alloc: Global, base: u32, text: &str) -> Result<TokenStream,
     ensures built { IfOk result IsBuilt }
     ensures lex { IfErr result (IsFault base (chars text.now)) }
 {
-    let mut parser = Parser::new(alloc);
-    let mut rest = text;
-    let mut at = base;
-    let mut first = true;
-    while let Some(piece) = piece_at(rest, first) {
-        parser.take(piece, rest, at)?;
-        let tail = &rest[piece.bytes..];
-        // White characters are gaps, which say nothing, and are passed over all at once.
-        let (after, white) = past_white(tail);
-        rest = after;
-        at += (piece.chars + white) as u32;
-        first = false;
-    }
-    parser.end(rest, at)
+    let mut parser = Parser {
+        alloc,
+        trees: Vec::new(alloc),
+    };
+    read(alloc, base, text, &mut parser)?;
+    Ok(parser.finish()?)
 }
 
 /// What was read so far.
 #[derive(Drop)]
 struct Parser {
     alloc: Global,
-    /// The groups that are open, the innermost last.
-    frames: Vec<Frame>,
-    /// The trees of all of them and those outside every group, the innermost group's last.
+    /// The trees of all open groups and those outside every group, the innermost group's last.
     trees: Vec<TokenTree>,
-    // Each group's trees come after those before it.
-    ghost nested: { IsNested (reverse frames.items) (length trees.items) } by { IsNested-prop _ _ },
 }
 
 /// A group whose closer is still to come.
@@ -146,57 +132,101 @@ struct Frame {
     lo: u32,
 }
 
-impl Parser {
-    ghost use Rattle.pm_stream.specs.ParserState.{groups, trees, read_onto, IsBuiltTo};
+impl TokenSink for Parser {
+    type Opened = Frame;
 
-    /// Nothing was read.
-    fn new(alloc: Global) -> Parser
-        ensures groups { groups result ≡ [] }
-        ensures trees { trees result ≡ nil }
-    {
-        Parser {
-            alloc,
-            frames: Vec::new(alloc),
-            trees: Vec::new(alloc),
-        }
+    ghost opens = { λ frame. (frame.delimiter, frame.lo) };
+
+    ghost took = { λ parser taken. Parses parser taken };
+
+    #[inline(always)]
+    fn opener(frame: &Frame) -> (Delimiter, u32) {
+        (frame.delimiter, frame.lo)
     }
 
-    /// Takes the piece at the front of the text, which begins at `lo`. A closer that doesn't close
-    /// the innermost open group is a fault.
-    fn take(&mut self, piece: Piece, text: &str, lo: u32) -> Result<(), ParseError>
-        requires stands { (first : Bool) × IsPieceAt first (chars text.now) piece }
-        requires room { lo + piece.chars < 2 ^ 32 }
-        requires built { IsBuiltTo lo self.old }
-        ensures ok { OnOk result ((front rest : List ℕ) → chars text.now ≡ front ++ rest
-            → piece.entry.chars ≡ length front → read_onto self.new []
-            ≡ read_onto self.old (events_onto lo (kind_of piece.entry.kind front) front [])) }
-        ensures built { OnOk result (IsBuiltTo (lo + piece.entry.chars) self.new) }
-        ensures stray { IfErr result (IsFaultFor lo (IsStray piece.entry.kind (groups self.old))) }
-    {
-        let hi = lo + piece.chars as u32;
-        match piece.kind {
-            PieceKind::Opener(c) => self.open(delimiter(c), lo)?,
-            PieceKind::Closer(c) => self.close(delimiter(c), lo, hi)?,
-            PieceKind::Doc { inner, text } => self.push_doc(inner, text, span_of(lo, hi))?,
-            PieceKind::Mark { joint, mark } => self.push_mark(mark, joint, span_of(lo, hi))?,
-            PieceKind::Name { raw, name } => {
-                let name = ident(self.alloc, name, raw, span_of(lo, hi))?;
-                self.push(TokenTree::Ident(name))?;
-            }
-            PieceKind::Literal => self.push_literal(&text[..piece.bytes], span_of(lo, hi))?,
-            PieceKind::FrontMark | PieceKind::Gap => {}
-        }
+    #[inline(always)]
+    fn mark(
+        &mut self,
+        mark: char,
+        joint: bool,
+        piece: Piece<'_>,
+        _text: &str,
+        at: u32,
+    ) -> Result<(), AllocError> {
+        self.push_mark(mark, joint, span_of(at, at + piece.chars as u32))
+    }
+
+    #[inline(always)]
+    fn name(
+        &mut self,
+        raw: bool,
+        name: &str,
+        piece: Piece<'_>,
+        text: &str,
+        at: u32,
+    ) -> Result<(), AllocError> {
+        // Proofs learn by it that the text is UTF-8.
+        let _ = text;
+        let name = ident(self.alloc, name, raw, span_of(at, at + piece.chars as u32))?;
+        self.push(TokenTree::Ident(name))
+    }
+
+    #[inline(always)]
+    fn literal(&mut self, piece: Piece<'_>, text: &str, at: u32) -> Result<(), AllocError> {
+        self.push_literal(&text[..piece.bytes], span_of(at, at + piece.chars as u32))
+    }
+
+    #[inline(always)]
+    fn doc(
+        &mut self,
+        inner: bool,
+        said: &str,
+        piece: Piece<'_>,
+        _text: &str,
+        at: u32,
+    ) -> Result<(), AllocError> {
+        self.push_doc(inner, said, span_of(at, at + piece.chars as u32))
+    }
+
+    #[inline(always)]
+    fn gap(&mut self, _piece: Piece<'_>, _text: &str, _at: u32) {}
+
+    #[inline(always)]
+    fn white(&mut self, _text: &str, _size: usize) {}
+
+    #[inline(always)]
+    fn open(&mut self, delimiter: Delimiter, _text: &str, at: u32) -> Result<Frame, AllocError> {
+        let before = self.trees.len();
+        Ok(Frame {
+            before,
+            delimiter,
+            lo: at,
+        })
+    }
+
+    #[inline(never)]
+    fn close(
+        &mut self,
+        frame: Frame,
+        delimiter: Delimiter,
+        _text: &str,
+        at: u32,
+    ) -> Result<(), AllocError> {
+        let trees = self.trees.split_off(frame.before)?;
+        let stream = TokenStream::from_vec(self.alloc, trees)?;
+        let group = Group::from_parts(delimiter, stream, span_of(frame.lo, at + 1));
+        self.trees.push(TokenTree::Group(group))?;
         Ok(())
     }
+}
 
+impl Parser {
     /// Takes a tree that may be put into a stream.
     // Inlined so that the tree is made in the list itself.
     #[inline(always)]
     fn push(&mut self, tree: TokenTree) -> Result<(), AllocError>
         requires { GoesInside tree }
-        ensures ok { OnOk result ((events : List Event)
-            → read_onto self.new events ≡ read_onto self.old (flat_onto (alone tree) events)) }
-        ensures built { OnOk result ((at : ℕ) → IsBuiltTo at self.old → IsBuiltTo at self.new) }
+        ensures { OnOk result (Adds self.old self.new (flat_onto (alone tree) [])) }
     {
         // Proofs learn by it that the tree is built.
         let _ = tree.span();
@@ -207,9 +237,7 @@ impl Parser {
     /// Takes a mark.
     fn push_mark(&mut self, mark: char, joint: bool, span: Span) -> Result<(), AllocError>
         requires { IsTrue (is_mark mark) }
-        ensures ok { OnOk result ((events : List Event) → read_onto self.new events
-            ≡ read_onto self.old (One (tokens.Mark mark joint) span.lo span.hi ∷ events)) }
-        ensures built { OnOk result ((at : ℕ) → IsBuiltTo at self.old → IsBuiltTo at self.new) }
+        ensures { OnOk result (Adds self.old self.new (One (tokens.Mark mark joint) span.lo span.hi ∷ [])) }
     {
         self.push(TokenTree::Punct(punct(mark, spacing(joint), span)))
     }
@@ -219,9 +247,7 @@ impl Parser {
     #[inline(never)]
     fn push_literal(&mut self, text: &str, span: Span) -> Result<(), AllocError>
         requires { IsBuiltToken (tokens.Literal (chars text.now)) }
-        ensures ok { OnOk result ((events : List Event) → read_onto self.new events
-            ≡ read_onto self.old (One (tokens.Literal (chars text.now)) span.lo span.hi ∷ events)) }
-        ensures built { OnOk result ((at : ℕ) → IsBuiltTo at self.old → IsBuiltTo at self.new) }
+        ensures { OnOk result (Adds self.old self.new (One (tokens.Literal (chars text.now)) span.lo span.hi ∷ [])) }
     {
         let literal = literal(self.alloc, text, span)?;
         self.push(TokenTree::Literal(literal))
@@ -230,9 +256,7 @@ impl Parser {
     /// Takes a doc comment: the mark `#`, the mark `!` if it is inner, and the group of its text.
     #[inline(never)]
     fn push_doc(&mut self, inner: bool, text: &str, span: Span) -> Result<(), AllocError>
-        ensures ok { OnOk result ((events : List Event) → read_onto self.new events
-            ≡ read_onto self.old (doc_onto span.lo span.hi inner (chars text.now) events)) }
-        ensures built { OnOk result ((at : ℕ) → IsBuiltTo at self.old → IsBuiltTo at self.new) }
+        ensures { OnOk result (Adds self.old self.new (doc_onto span.lo span.hi inner (chars text.now) [])) }
     {
         self.push_mark('#', false, span)?;
         if inner {
@@ -242,95 +266,18 @@ impl Parser {
         self.push(TokenTree::Group(group))
     }
 
-    /// Takes an opener that begins at `lo`.
-    fn open(&mut self, delimiter: Delimiter, lo: u32) -> Result<(), AllocError>
-        requires { IsBuiltTo lo self.old }
-        ensures ok { OnOk result ((events : List Event)
-            → read_onto self.new events ≡ read_onto self.old (Opens delimiter lo ∷ events)) }
-        ensures built { OnOk result (IsBuiltTo lo self.new) }
+    /// The stream of what was read, where no group is open.
+    fn finish(self) -> Result<TokenStream, AllocError>
+        requires { IsBuilt (forest self.trees.items) }
+        ensures ok { IfOk result (λ stream. stream ≡ forest self.trees.items) }
     {
-        let before = self.trees.len();
-        self.frames.push(Frame {
-            before,
-            delimiter,
-            lo,
-        })?;
-        Ok(())
-    }
-
-    /// Takes a closer from `lo` to `hi`. It is a fault unless it closes the innermost open group.
-    #[inline(never)]
-    fn close(&mut self, delimiter: Delimiter, lo: u32, hi: u32) -> Result<(), ParseError>
-        requires ordered { lo ≤ hi }
-        requires built { IsBuiltTo lo self.old }
-        ensures ok { OnOk result ((events : List Event)
-            → read_onto self.new events ≡ read_onto self.old (Closes delimiter hi ∷ events)) }
-        ensures built { OnOk result (IsBuiltTo hi self.new) }
-        ensures stray { IfErr result
-            (IsFaultFor lo (FitsInnermost delimiter (groups self.old) → ⊥)) }
-    {
-        let Some(frame) = self.frames.pop() else {
-            return Err(fault_at(lo));
-        };
-        if frame.delimiter != delimiter {
-            return Err(fault_at(lo));
-        }
-        let trees = self.trees.split_off(frame.before)?;
-        let stream = TokenStream::from_vec(self.alloc, trees)?;
-        let group = Group::from_parts(delimiter, stream, span_of(frame.lo, hi));
-        self.trees.push(TokenTree::Group(group))?;
-        Ok(())
-    }
-
-    /// The stream of what was read, where nothing is left of the text. What is left at the position
-    /// is a fault there, as no piece stands at its front.
-    fn end(self, rest: &str, at: u32) -> Result<TokenStream, ParseError>
-        requires { IsBuilt (trees self) }
-        ensures ok { IfOk result (λ stream.
-            (chars rest.now ≡ []) × (groups self ≡ []) × (stream ≡ trees self)) }
-        ensures built { IfOk result IsBuilt }
-        ensures stuck { chars rest.now ≢ [] → IfErr result (IsFaultFor at (Unit {0})) }
-        ensures stays_open { chars rest.now ≡ [] → IfErr result (IsOpenFault (groups self)) }
-    {
-        if !rest.is_empty() {
-            return Err(fault_at(at));
-        }
-        self.finish()
-    }
-
-    /// The stream of what was read. A group that is still open is a fault: where the innermost
-    /// begins.
-    fn finish(self) -> Result<TokenStream, ParseError>
-        requires { IsBuilt (trees self) }
-        ensures ok { IfOk result (λ stream. (groups self ≡ []) × (stream ≡ trees self)) }
-        ensures built { IfOk result IsBuilt }
-        ensures stays_open { IfErr result (IsOpenFault (groups self)) }
-    {
-        let Parser {
-            alloc,
-            mut frames,
-            mut trees,
-        } = self;
-        if let Some(frame) = frames.pop() {
-            return Err(fault_at(frame.lo));
-        }
+        let Parser { alloc, mut trees } = self;
         // The list also held the trees of all open groups. If the smaller allocation is refused,
         // the list stays as it is.
         if trees.capacity().saturating_sub(trees.len()) > FEW_TREES {
             trees.shrink_to_fit();
         }
-        Ok(TokenStream::from_vec(alloc, trees)?)
-    }
-}
-
-/// The delimiter of which `c` is the opener or the closer.
-pub(crate) fn delimiter(c: char) -> Delimiter
-    ensures { result ≡ delimiter_of c }
-{
-    match c {
-        '(' | ')' => Delimiter::Parenthesis,
-        '{' | '}' => Delimiter::Brace,
-        _ => Delimiter::Bracket,
+        TokenStream::from_vec(alloc, trees)
     }
 }
 
@@ -343,11 +290,4 @@ fn spacing(joint: bool) -> Spacing
     } else {
         Spacing::Alone
     }
-}
-
-/// The fault at a position.
-pub(crate) fn fault_at(position: u32) -> ParseError
-    ensures { result ≡ ParseError.Lex (record { lo = position; hi = position }) }
-{
-    ParseError::Lex(fault(span_of(position, position)))
 }

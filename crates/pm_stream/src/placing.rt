@@ -1,22 +1,17 @@
 //! Where each tree of a text stands, with no trees made of it.
-ghost use Rattle.std.specs.Prelude.{◌≡◌, ◌≢◌, ◌+◌, ◌<◌, ◌≤◌, ◌^◌, ◌++◌, ℕ, Bool, List, [], ◌∷◌, length};
-ghost use Rattle.std.specs.Prelude.{◌↔◌, OnOk, IfOk, IfErr};
+ghost use Rattle.std.specs.Prelude.{◌≡◌, ◌+◌, ◌<◌, ◌≤◌, ◌^◌, ◌↔◌, ◌++◌, ℕ, Bool, List, [], ◌∷◌, length};
+ghost use Rattle.std.specs.Prelude.{OnOk, IfOk, IfErr};
 ghost use Rattle.std.specs.Str.{chars};
-ghost use Rattle.lexical.specs.Found.{IsPieceAt, kind_of};
+ghost use Rattle.lexical.specs.Found.{IsPieceAt};
 ghost use Rattle.pm_span.specs.Files.{Fits, new_map, next_lo};
 ghost use Rattle.pm_token.specs.Outcome.{IfLex};
+ghost use Rattle.pm_stream.specs.Fault.{IsFault};
 ghost use Rattle.pm_stream.specs.Parsing.{FaultAt, HasNoFault, IsOnlyFault};
-ghost use Rattle.pm_stream.specs.Events.{Opens, Closes, doc_onto, events_onto};
-ghost use Rattle.pm_stream.specs.Fault.{IsFault, IsFaultFor, IsOpenFault, IsStray};
-ghost use Rattle.pm_stream.specs.Forest.{Forest};
-ghost use Rattle.pm_stream.specs.OpenGroups.{FitsInnermost, Opened};
-ghost use Rattle.pm_stream.specs.Places.{ArePlaced, has_one_line, listed, moved_past};
-ghost use Rattle.pm_stream.specs.PlacerState.{IsPlacing, Places, PlacesEvents};
-ghost use Rattle.pm_stream.specs.declared.placing.Place.{Place};
-ghost use Rattle.pm_stream.specs.declared.placing.PlacedTree.{PlacedTree};
+ghost use Rattle.pm_stream.specs.Places.{ArePlaced, moved_past};
+ghost use Rattle.pm_stream.specs.PlacerState.{Places, doc_places};
 
-use crate::parse::{delimiter, fault_at};
-use lexical::{Piece, PieceKind, past_white, piece_at};
+use crate::reading::{TokenSink, read};
+use lexical::Piece;
 use pm_span::parts::fits_new;
 use pm_token::{Delimiter, ParseError};
 use std::alloc::{AllocError, Global};
@@ -90,56 +85,37 @@ fn place_trees_at(alloc: Global, base: u32, text: &str) -> Result<Vec<PlacedTree
     ensures ok { IfOk result (λ trees. ArePlaced base (chars text.now) trees.items) }
     ensures lex { IfErr result (IsFault base (chars text.now)) }
 {
-    let mut placer = Placer::with_room(alloc, text.len())?;
-    let mut rest = text;
-    let mut at = base;
-    let mut start = Place { line: 1, column: 0 };
-    let mut first = true;
-    while let Some(piece) = piece_at(rest, first) {
-        let end = end_of(piece, rest, start);
-        placer.take(piece, at, start, end)?;
-        let tail = &rest[piece.bytes..];
-        // White characters are gaps, which are no trees, and are passed over all at once.
-        let (after, white) = past_white(tail);
-        start = past(end, &tail[..white]);
-        rest = after;
-        at += (piece.chars + white) as u32;
-        first = false;
-    }
-    placer.end(rest, at)
+    let mut placer = Placer {
+        here: Place { line: 1, column: 0 },
+        // A tree of code has some five bytes, with the white characters after it.
+        trees: Vec::with_capacity(alloc, text.len() / 4)?,
+    };
+    read(alloc, base, text, &mut placer)?;
+    Ok(placer.trees)
 }
 
-/// Where the piece at the front of the text ends, if it begins at this place.
+/// The place so many characters further on in its line.
 #[inline(always)]
-fn end_of(piece: Piece, text: &str, start: Place) -> Place
+fn along(start: Place, chars: u32) -> Place
+    requires { start.column + chars < 2 ^ 32 }
+    ensures { result ≡ record { line = start.line; column = start.column + chars } }
+{
+    Place {
+        line: start.line,
+        column: start.column + chars,
+    }
+}
+
+/// The place after the piece at the front of the text, which begins at this one.
+#[inline(always)]
+fn end_of(start: Place, piece: Piece, text: &str) -> Place
     requires stands { (first : Bool) × IsPieceAt first (chars text.now) piece }
     requires lines { start.line + piece.chars < 2 ^ 32 }
     requires columns { start.column + piece.chars < 2 ^ 32 }
-    ensures { (first : Bool) → (found : IsPieceAt first (chars text.now) piece.entry)
-        → result ≡ moved_past start found.front }
+    ensures { (front rest : List ℕ) → chars text.now ≡ front ++ rest → piece.entry.chars ≡ length front
+        → result ≡ moved_past start front }
 {
-    // Most pieces are short and on one line, and aren't looked through again.
-    if has_one_line(piece.kind) {
-        return Place {
-            line: start.line,
-            column: start.column + piece.chars as u32,
-        };
-    }
     past(start, &text[..piece.bytes])
-}
-
-/// Whether no piece of this kind has a line feed.
-#[inline(always)]
-fn has_one_line(kind: PieceKind) -> bool
-    ensures { result ≡ has_one_line kind.entry }
-{
-    match kind {
-        PieceKind::Opener(_)
-        | PieceKind::Closer(_)
-        | PieceKind::Mark { .. }
-        | PieceKind::Name { .. } => true,
-        PieceKind::FrontMark | PieceKind::Gap | PieceKind::Doc { .. } | PieceKind::Literal => false,
-    }
 }
 
 /// The place after a text that begins at this one.
@@ -178,8 +154,8 @@ fn past_char(place: Place, c: char) -> Place
 /// What was placed so far.
 #[derive(Drop)]
 struct Placer {
-    /// The groups that are open, the innermost last.
-    groups: Vec<OpenGroup>,
+    /// The place up to which it was read.
+    here: Place,
     /// The trees in reading order. An open group ends where it begins.
     trees: Vec<PlacedTree>,
 }
@@ -197,136 +173,148 @@ struct OpenGroup {
     index: usize,
 }
 
-impl Placer {
-    /// Nothing was placed. There is room for most texts of so many bytes.
-    fn with_room(alloc: Global, bytes: usize) -> Result<Placer, AllocError>
-        ensures groups { IfOk result (λ new. new.groups.items ≡ []) }
-        ensures trees { IfOk result (λ new. new.trees.items ≡ []) }
-    {
-        Ok(Placer {
-            groups: Vec::new(alloc),
-            // A tree of code has some five bytes, with the white characters after it.
-            trees: Vec::with_capacity(alloc, bytes / 4)?,
+impl TokenSink for Placer {
+    type Opened = OpenGroup;
+
+    ghost opens = { λ group. (group.delimiter, group.lo) };
+
+    ghost took = { λ placer taken. Places placer taken };
+
+    #[inline(always)]
+    fn opener(group: &OpenGroup) -> (Delimiter, u32) {
+        (group.delimiter, group.lo)
+    }
+
+    #[inline(always)]
+    fn mark(
+        &mut self,
+        _mark: char,
+        _joint: bool,
+        piece: Piece<'_>,
+        _text: &str,
+        _at: u32,
+    ) -> Result<(), AllocError> {
+        self.push(along(self.here, piece.chars as u32), TreeKind::Punct)
+    }
+
+    #[inline(always)]
+    fn name(
+        &mut self,
+        _raw: bool,
+        _name: &str,
+        piece: Piece<'_>,
+        _text: &str,
+        _at: u32,
+    ) -> Result<(), AllocError> {
+        self.push(along(self.here, piece.chars as u32), TreeKind::Ident)
+    }
+
+    #[inline(always)]
+    fn literal(&mut self, piece: Piece<'_>, text: &str, _at: u32) -> Result<(), AllocError> {
+        self.push(end_of(self.here, piece, text), TreeKind::Literal)
+    }
+
+    #[inline(always)]
+    fn doc(
+        &mut self,
+        inner: bool,
+        _said: &str,
+        piece: Piece<'_>,
+        text: &str,
+        _at: u32,
+    ) -> Result<(), AllocError> {
+        self.push_doc(inner, end_of(self.here, piece, text))
+    }
+
+    #[inline(always)]
+    fn gap(&mut self, piece: Piece<'_>, text: &str, _at: u32) {
+        self.here = end_of(self.here, piece, text);
+    }
+
+    #[inline(always)]
+    fn white(&mut self, text: &str, size: usize) {
+        self.here = past(self.here, &text[..size]);
+    }
+
+    #[inline(always)]
+    fn open(
+        &mut self,
+        delimiter: Delimiter,
+        _text: &str,
+        at: u32,
+    ) -> Result<OpenGroup, AllocError> {
+        let start = self.here;
+        let index = self.trees.len();
+        self.trees.push(PlacedTree {
+            start,
+            end: start,
+            kind: TreeKind::Group,
+        })?;
+        self.here = along(start, 1);
+        Ok(OpenGroup {
+            delimiter,
+            lo: at,
+            start,
+            index,
         })
     }
 
-    /// Takes a piece that begins at the position `lo` and the place `start`, and ends at `end`. A closer that doesn't
-    /// close the innermost open group is a fault.
-    fn take(&mut self, piece: Piece, lo: u32, start: Place, end: Place) -> Result<(), ParseError>
-        requires { IsPlacing self.old }
-        ensures ok { OnOk result ((place : ℕ → Place) (front : List ℕ) → start ≡ place lo
-            → end ≡ place (lo + length front)
-            → PlacesEvents place self.old self.new (events_onto lo (kind_of piece.entry.kind front) front [])) }
-        ensures stray { IfErr result (λ error. (place : ℕ → Place) (groups : List Opened) (trees : Forest)
-            → Places place self.old groups trees
-            → IsFaultFor lo (IsStray piece.entry.kind groups) error) }
-    {
-        match piece.kind {
-            PieceKind::Opener(c) => self.open(delimiter(c), lo, start)?,
-            PieceKind::Closer(c) => self.close(delimiter(c), lo, end)?,
-            PieceKind::Doc { inner, text } => {
-                let _ = text;
-                self.push_doc(inner, start, end)?;
-            }
-            PieceKind::Mark { joint, mark } => {
-                let _ = joint;
-                let _ = mark;
-                self.push(start, end, TreeKind::Punct)?;
-            }
-            PieceKind::Name { raw, name } => {
-                let _ = raw;
-                let _ = name;
-                self.push(start, end, TreeKind::Ident)?;
-            }
-            PieceKind::Literal => self.push(start, end, TreeKind::Literal)?,
-            PieceKind::FrontMark | PieceKind::Gap => {}
-        }
-        Ok(())
-    }
-
-    /// Adds a tree of this kind.
     #[inline(always)]
-    fn push(&mut self, start: Place, end: Place, kind: TreeKind) -> Result<(), AllocError>
-        ensures ok { OnOk result (self.new.trees.items
-            ≡ self.old.trees.items ++ (record { start = start; end = end; kind = kind } ∷ [])) }
-        ensures groups { self.new.groups ≡ self.old.groups }
-    {
-        self.trees.push(PlacedTree { start, end, kind })?;
-        Ok(())
-    }
-
-    /// Adds the trees of a doc comment: the mark `#`, the mark `!` if it is inner, and the group of its text.
-    #[inline(never)]
-    fn push_doc(&mut self, inner: bool, start: Place, end: Place) -> Result<(), AllocError>
-        ensures ok { OnOk result ((place : ℕ → Place) (lo hi : ℕ) (text : List ℕ) → start ≡ place lo → end ≡ place hi
-            → PlacesEvents place self.old self.new (doc_onto lo hi inner text [])) }
-    {
-        self.push(start, end, TreeKind::Punct)?;
-        if inner {
-            self.push(start, end, TreeKind::Punct)?;
-        }
-        self.push(start, end, TreeKind::Group)?;
-        self.push(start, end, TreeKind::Ident)?;
-        self.push(start, end, TreeKind::Punct)?;
-        self.push(start, end, TreeKind::Literal)?;
-        Ok(())
-    }
-
-    /// Opens a group that begins at the position `lo` and the place `start`.
-    fn open(&mut self, delimiter: Delimiter, lo: u32, start: Place) -> Result<(), AllocError>
-        ensures ok { OnOk result ((place : ℕ → Place) → start ≡ place lo
-            → PlacesEvents place self.old self.new (Opens delimiter lo ∷ [])) }
-    {
-        let index = self.trees.len();
-        self.groups.push(OpenGroup {
-            delimiter,
-            lo,
-            start,
-            index,
-        })?;
-        self.push(start, start, TreeKind::Group)?;
-        Ok(())
-    }
-
-    /// Closes a group by a closer at the position `lo`, which ends at the place `end`. It is a fault unless it closes
-    /// the innermost open group.
-    fn close(&mut self, delimiter: Delimiter, lo: u32, end: Place) -> Result<(), ParseError>
-        requires { IsPlacing self.old }
-        ensures ok { OnOk result ((place : ℕ → Place) (hi : ℕ) → end ≡ place hi
-            → PlacesEvents place self.old self.new (Closes delimiter hi ∷ [])) }
-        ensures stray { IfErr result (λ error. (place : ℕ → Place) (groups : List Opened) (trees : Forest)
-            → Places place self.old groups trees → IsFaultFor lo (FitsInnermost delimiter groups → ⊥) error) }
-    {
-        let Some(group) = self.groups.pop() else {
-            return Err(fault_at(lo));
-        };
-        if group.delimiter != delimiter {
-            return Err(fault_at(lo));
-        }
+    fn close(
+        &mut self,
+        group: OpenGroup,
+        _delimiter: Delimiter,
+        _text: &str,
+        _at: u32,
+    ) -> Result<(), AllocError> {
+        let end = along(self.here, 1);
         self.trees[group.index] = PlacedTree {
             start: group.start,
             end,
             kind: TreeKind::Group,
         };
+        self.here = end;
+        Ok(())
+    }
+}
+
+impl Placer {
+    /// Adds a tree of this kind, from where it was read to `end`.
+    #[inline(always)]
+    fn push(&mut self, end: Place, kind: TreeKind) -> Result<(), AllocError>
+        ensures { OnOk result ((self.new.here ≡ end) × (self.new.trees.items
+            ≡ self.old.trees.items ++ (record { start = self.old.here; end = end; kind = kind } ∷ []))) }
+    {
+        self.add(end, kind)?;
+        self.here = end;
         Ok(())
     }
 
-    /// The trees, where nothing is left of the text and no group is open.
-    fn end(self, rest: &str, at: u32) -> Result<Vec<PlacedTree>, ParseError>
-        ensures ok { IfOk result (λ placed. (chars rest.now ≡ [])
-            × ((place : ℕ → Place) (groups : List Opened) (trees : Forest) → Places place self groups trees
-            → (groups ≡ []) × (placed.items ≡ listed place trees))) }
-        ensures stuck { chars rest.now ≢ [] → IfErr result (IsFaultFor at (Unit {0})) }
-        ensures stays_open { chars rest.now ≡ [] → IfErr result (λ error. (place : ℕ → Place)
-            (groups : List Opened) (trees : Forest) → Places place self groups trees → IsOpenFault groups error) }
+    /// Adds the trees of a doc comment: the mark `#`, the mark `!` if it is inner, and the group of its text.
+    #[inline(never)]
+    fn push_doc(&mut self, inner: bool, end: Place) -> Result<(), AllocError>
+        ensures { OnOk result ((self.new.here ≡ end)
+            × (self.new.trees.items ≡ self.old.trees.items ++ doc_places inner self.old.here end)) }
     {
-        if !rest.is_empty() {
-            return Err(fault_at(at));
+        self.add(end, TreeKind::Punct)?;
+        if inner {
+            self.add(end, TreeKind::Punct)?;
         }
-        let Placer { mut groups, trees } = self;
-        if let Some(group) = groups.pop() {
-            return Err(fault_at(group.lo));
-        }
-        Ok(trees)
+        self.add(end, TreeKind::Group)?;
+        self.add(end, TreeKind::Ident)?;
+        self.add(end, TreeKind::Punct)?;
+        self.push(end, TreeKind::Literal)
+    }
+
+    /// Adds a tree of this kind, but more begin where it does.
+    #[inline(always)]
+    fn add(&mut self, end: Place, kind: TreeKind) -> Result<(), AllocError>
+        ensures trees { OnOk result (self.new.trees.items
+            ≡ self.old.trees.items ++ (record { start = self.old.here; end = end; kind = kind } ∷ [])) }
+        ensures here { self.new.here ≡ self.old.here }
+    {
+        let start = self.here;
+        self.trees.push(PlacedTree { start, end, kind })?;
+        Ok(())
     }
 }

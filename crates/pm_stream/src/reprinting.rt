@@ -1,25 +1,22 @@
 //! From a text to its printed text, with no trees in between.
-ghost use Rattle.std.specs.Prelude.{◌≡◌, ◌≢◌, ◌+◌, ◌<◌, ◌^◌, ◌++◌, ℕ, Bool, List, [], ◌∷◌, length, string_bytes};
-ghost use Rattle.std.specs.Prelude.{◌↔◌, OnOk, IfOk, IfErr, false};
-ghost use Rattle.std.specs.Str.{chars, encode_utf8_all};
-ghost use Rattle.lexical.specs.Found.{IsPieceAt, kind_of};
+ghost use Rattle.std.specs.Prelude.{◌≡◌, ◌+◌, ◌<◌, ◌^◌, ◌↔◌, ◌++◌, ℕ, [], ◌∷◌, length, string_bytes};
+ghost use Rattle.std.specs.Prelude.{OnOk, IfOk, IfErr};
+ghost use Rattle.std.specs.Str.{chars};
 ghost use Rattle.lexical.specs.Token.{Mark, Token, token_text};
 ghost use Rattle.pm_span.specs.Files.{Fits, new_map, next_lo};
 ghost use Rattle.pm_token.specs.Outcome.{IfLex};
 ghost use Rattle.pm_stream.specs.Parsing.{FaultAt, HasNoFault, IsOnlyFault};
-ghost use Rattle.pm_stream.specs.Events.{One, Opens, Closes, doc_onto, events_onto};
-ghost use Rattle.pm_stream.specs.Fault.{IsFault, IsFaultFor, IsOpenFault, IsStray};
-ghost use Rattle.pm_stream.specs.Forest.{Forest};
+ghost use Rattle.pm_stream.specs.Events.{One, doc_onto};
+ghost use Rattle.pm_stream.specs.Fault.{IsFault};
 ghost use Rattle.pm_stream.specs.Delimited.{opening};
-ghost use Rattle.pm_stream.specs.Printed.{parts, printed, space};
+ghost use Rattle.pm_stream.specs.Printed.{parts, space};
 ghost use Rattle.pm_stream.specs.PrintedTree.{ending};
 ghost use Rattle.pm_stream.specs.PrinterState.{Prints, PrintsEvents, doc_front};
 ghost use Rattle.pm_stream.specs.PrintsText.{PrintsText};
-ghost use Rattle.pm_stream.specs.OpenGroups.{FitsInnermost, Opened};
 
 use crate::display::is_brace;
-use crate::parse::{delimiter, fault_at};
-use lexical::{Piece, PieceKind, past_white, piece_at};
+use crate::reading::{TokenSink, read};
+use lexical::Piece;
 use pm_span::parts::fits_new;
 use pm_token::parts::TextBuilder;
 use pm_token::{Delimiter, ParseError};
@@ -56,27 +53,17 @@ fn reprint_at(alloc: Global, base: u32, text: &str) -> Result<String, ParseError
     ensures ok { IfOk result (λ out. PrintsText base (chars text.now) (string_bytes out)) }
     ensures lex { IfErr result (IsFault base (chars text.now)) }
 {
-    let mut printer = Printer::with_room(alloc, text.len())?;
-    let mut rest = text;
-    let mut at = base;
-    let mut first = true;
-    while let Some(piece) = piece_at(rest, first) {
-        printer.take(piece, rest, at)?;
-        let tail = &rest[piece.bytes..];
-        // White characters are gaps, of which nothing is printed, and are passed over all at once.
-        let (after, white) = past_white(tail);
-        rest = after;
-        at += (piece.chars + white) as u32;
-        first = false;
-    }
-    printer.end(rest, at)
+    let mut printer = Printer {
+        draft: TextBuilder::with_room(alloc, text.len())?,
+        gap: false,
+    };
+    read(alloc, base, text, &mut printer)?;
+    Ok(printer.draft.into_string())
 }
 
 /// What was printed so far.
 #[derive(Drop)]
 struct Printer {
-    /// The groups that are open, the innermost last.
-    groups: Vec<OpenGroup>,
     /// What is printed of what was read.
     draft: TextBuilder,
     /// Whether a space goes before what is printed next.
@@ -92,50 +79,96 @@ struct OpenGroup {
     lo: u32,
 }
 
-impl Printer {
-    /// Nothing was printed, and there is room for so many bytes.
-    fn with_room(alloc: Global, bytes: usize) -> Result<Printer, AllocError>
-        ensures groups { IfOk result (λ new. new.groups.items ≡ []) }
-        ensures draft { IfOk result (λ new. new.draft ≡ []) }
-        ensures gap { IfOk result (λ new. new.gap ≡ false) }
-    {
-        Ok(Printer {
-            groups: Vec::new(alloc),
-            draft: TextBuilder::with_room(alloc, bytes)?,
-            gap: false,
-        })
+impl TokenSink for Printer {
+    type Opened = OpenGroup;
+
+    ghost opens = { λ group. (group.delimiter, group.lo) };
+
+    ghost took = { λ printer taken. Prints printer taken.events };
+
+    #[inline(always)]
+    fn opener(group: &OpenGroup) -> (Delimiter, u32) {
+        (group.delimiter, group.lo)
     }
 
-    /// Takes the piece at the front of the text, which begins at `lo`. A closer that doesn't close
-    /// the innermost open group is a fault.
-    fn take(&mut self, piece: Piece, text: &str, lo: u32) -> Result<(), ParseError>
-        requires stands { (first : Bool) × IsPieceAt first (chars text.now) piece }
-        ensures ok { OnOk result ((front rest : List ℕ) → chars text.now ≡ front ++ rest
-            → piece.entry.chars ≡ length front
-            → PrintsEvents self.old self.new (events_onto lo (kind_of piece.entry.kind front) front [])) }
-        ensures stray { IfErr result (λ error. (groups : List Opened) (trees : Forest) → Prints self.old groups trees
-            → IsFaultFor lo (IsStray piece.entry.kind groups) error) }
-    {
-        match piece.kind {
-            PieceKind::Opener(c) => self.open(delimiter(c), lo)?,
-            PieceKind::Closer(c) => self.close(delimiter(c), lo)?,
-            PieceKind::Doc { inner, text } => self.push_doc(inner, text)?,
-            PieceKind::Mark { joint, mark } => self.push_mark(mark, joint)?,
-            PieceKind::Name { raw, name } => {
-                let _ = raw;
-                let _ = name;
-                self.push_token(&text[..piece.bytes], true)?;
-            }
-            PieceKind::Literal => self.push_token(&text[..piece.bytes], true)?,
-            PieceKind::FrontMark | PieceKind::Gap => {}
-        }
+    #[inline(always)]
+    fn mark(
+        &mut self,
+        mark: char,
+        joint: bool,
+        _piece: Piece<'_>,
+        _text: &str,
+        _at: u32,
+    ) -> Result<(), AllocError> {
+        self.push_mark(mark, joint)
+    }
+
+    #[inline(always)]
+    fn name(
+        &mut self,
+        _raw: bool,
+        _name: &str,
+        piece: Piece<'_>,
+        text: &str,
+        _at: u32,
+    ) -> Result<(), AllocError> {
+        self.push_token(&text[..piece.bytes], true)
+    }
+
+    #[inline(always)]
+    fn literal(&mut self, piece: Piece<'_>, text: &str, _at: u32) -> Result<(), AllocError> {
+        self.push_token(&text[..piece.bytes], true)
+    }
+
+    #[inline(always)]
+    fn doc(
+        &mut self,
+        inner: bool,
+        said: &str,
+        _piece: Piece<'_>,
+        _text: &str,
+        _at: u32,
+    ) -> Result<(), AllocError> {
+        self.push_doc(inner, said)
+    }
+
+    #[inline(always)]
+    fn gap(&mut self, _piece: Piece<'_>, _text: &str, _at: u32) {}
+
+    #[inline(always)]
+    fn white(&mut self, _text: &str, _size: usize) {}
+
+    #[inline(always)]
+    fn open(
+        &mut self,
+        delimiter: Delimiter,
+        _text: &str,
+        at: u32,
+    ) -> Result<OpenGroup, AllocError> {
+        self.write_opening(delimiter)?;
+        self.gap = is_brace(delimiter);
+        Ok(OpenGroup { delimiter, lo: at })
+    }
+
+    // Out of line, so that less is kept in registers for the pieces that come more often.
+    #[inline(never)]
+    fn close(
+        &mut self,
+        _group: OpenGroup,
+        delimiter: Delimiter,
+        _text: &str,
+        _at: u32,
+    ) -> Result<(), AllocError> {
+        push_ending(&mut self.draft, delimiter)?;
+        self.gap = true;
         Ok(())
     }
+}
 
+impl Printer {
     /// Prints the text, after a space if one goes before it.
     fn write(&mut self, text: &str) -> Result<(), AllocError>
         ensures ok { OnOk result (self.new.draft ≡ self.old.draft ++ (space self.old.gap ++ chars text.now)) }
-        ensures kept { self.new.groups ≡ self.old.groups }
     {
         if self.gap {
             self.draft.push(' ')?;
@@ -146,7 +179,6 @@ impl Printer {
     /// Prints the character, after a space if one goes before it. It costs less than a text of one character.
     fn write_char(&mut self, c: char) -> Result<(), AllocError>
         ensures ok { OnOk result (self.new.draft ≡ self.old.draft ++ (space self.old.gap ++ c ∷ [])) }
-        ensures kept { self.new.groups ≡ self.old.groups }
     {
         if self.gap {
             self.draft.push(' ')?;
@@ -187,9 +219,9 @@ impl Printer {
     }
 
     /// Prints what a group begins with, after a space if one goes before it.
+    #[inline(always)]
     fn write_opening(&mut self, delimiter: Delimiter) -> Result<(), AllocError>
         ensures ok { OnOk result (self.new.draft ≡ self.old.draft ++ (space self.old.gap ++ opening delimiter)) }
-        ensures kept { self.new.groups ≡ self.old.groups }
     {
         match delimiter {
             Delimiter::Parenthesis => self.write_char('('),
@@ -197,56 +229,6 @@ impl Printer {
             Delimiter::Bracket => self.write_char('['),
             Delimiter::None => self.write(""),
         }
-    }
-
-    /// Prints an opener that begins at `lo`.
-    fn open(&mut self, delimiter: Delimiter, lo: u32) -> Result<(), AllocError>
-        ensures ok { OnOk result (PrintsEvents self.old self.new (Opens delimiter lo ∷ [])) }
-    {
-        self.write_opening(delimiter)?;
-        self.gap = is_brace(delimiter);
-        self.groups.push(OpenGroup { delimiter, lo })?;
-        Ok(())
-    }
-
-    /// Prints a closer at `lo`. It is a fault unless it closes the innermost open group.
-    fn close(&mut self, delimiter: Delimiter, lo: u32) -> Result<(), ParseError>
-        ensures ok { OnOk result ((hi : ℕ) → PrintsEvents self.old self.new (Closes delimiter hi ∷ [])) }
-        ensures stray { IfErr result (λ error. (groups : List Opened) (trees : Forest) → Prints self.old groups trees
-            → IsFaultFor lo (FitsInnermost delimiter groups → ⊥) error) }
-    {
-        let Some(group) = self.groups.pop() else {
-            return Err(fault_at(lo));
-        };
-        if group.delimiter != delimiter {
-            return Err(fault_at(lo));
-        }
-        push_ending(&mut self.draft, delimiter)?;
-        self.gap = true;
-        Ok(())
-    }
-
-    /// What was printed, where nothing is left of the text and no group is open.
-    fn end(self, rest: &str, at: u32) -> Result<String, ParseError>
-        ensures ok { IfOk result (λ out. (chars rest.now ≡ [])
-            × ((groups : List Opened) (trees : Forest) → Prints self groups trees
-            → (groups ≡ []) × (string_bytes out ≡ encode_utf8_all (printed trees)))) }
-        ensures stuck { chars rest.now ≢ [] → IfErr result (IsFaultFor at (Unit {0})) }
-        ensures stays_open { chars rest.now ≡ [] → IfErr result (λ error.
-            (groups : List Opened) (trees : Forest) → Prints self groups trees → IsOpenFault groups error) }
-    {
-        if !rest.is_empty() {
-            return Err(fault_at(at));
-        }
-        let Printer {
-            mut groups,
-            draft,
-            gap: _,
-        } = self;
-        if let Some(group) = groups.pop() {
-            return Err(fault_at(group.lo));
-        }
-        Ok(draft.into_string())
     }
 }
 

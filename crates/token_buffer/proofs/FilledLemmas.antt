@@ -30,7 +30,8 @@ use Rattle.pm_stream.proofs.DocLemmas.{doc_trees, doc_trees-events}
 use Rattle.pm_stream.proofs.EventLemmas.{unclosed-append, unclosed-joined}
 use Rattle.pm_stream.proofs.LawLemmas.{parsed_faultless, refused_only}
 use Rattle.pm_stream.proofs.ParseLemmas.{reads_on, fault_stray, ends_ok, ends_refused}
-use Rattle.pm_stream.proofs.ParserLemmas.{Reads, reads_none}
+use Rattle.pm_stream.specs.Reading.{Reads}
+use Rattle.pm_stream.proofs.ParserLemmas.{reads_none}
 use Rattle.token_buffer.specs.Entries.{event_of, end_of, count_of, IsWithin}
 use Rattle.token_buffer.specs.Filled.{AreEntries, Fills, FillsMore, FillsEvents, IsFilling}
 use Rattle.token_buffer.specs.Held.{Holds}

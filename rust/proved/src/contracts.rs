@@ -71,11 +71,13 @@
 //! - <a id="std.is_ascii_digit"></a>**is_ascii_digit**: whether the character is one of `0` to `9`
 //! - <a id="std.length"></a>**length**: the number of elements
 //! - <a id="std.list_all"></a>**list_all**: whether each element of the list passes the test
+//! - <a id="std.map"></a>**map**: the list of what the function gives for each element, in order
 //! - <a id="std.nat_eq"></a>**nat_eq**: whether the numbers are equal
 //! - <a id="std.not"></a>**not**: the other of `true` and `false`
 //! - <a id="std.option_copied"></a>**option_copied**: the value behind the reference, if there is one
 //! - <a id="std.pointwise"></a>**pointwise**: whether the lists have as many elements, each equal to the one at its
 //!   place in the other
+//! - <a id="std.reverse"></a>**reverse**: the list from its last element to its first
 //! - <a id="std.signed_decimal"></a>**signed_decimal**: what `{}` prints of a signed number, as code points
 //! - <a id="std.string_bytes"></a>**string_bytes**: the bytes of a `String`
 //! - <a id="std.take"></a>**take**: so many elements at the front of the list
@@ -493,10 +495,12 @@
 //!   depth
 //! - <a id="pm_stream.HeldSpans.HoldsEach"></a>**HoldsEach**: the map holds the span of each tree of the list, at any
 //!   depth
+//! - <a id="pm_stream.Taken.IsAt"></a>**IsAt**: it is read up to the position, from which on the source has this text
 //! - <a id="pm_stream.Forest.IsBuilt"></a>**IsBuilt**: `built`: each token is one of the grammar's, and no span ends
 //!   before it begins. Every stream is built
 //! - <a id="pm_stream.DocGroup.IsDocOf"></a>**IsDocOf**: the group is printed as `[doc = `, the text of a literal, and
 //!   `]`
+//! - <a id="pm_stream.Fault.IsFault"></a>**IsFault**: the one fault of a source, by an empty span, or want of memory
 //! - <a id="pm_stream.Fault.IsFaultFor"></a>**IsFaultFor**: a fault at the position, for this reason, or want of memory
 //!   where there is no such reason
 //! - <a id="pm_stream.Parsing.IsOnlyFault"></a>**IsOnlyFault**: the source doesn't parse, and no other position is a
@@ -505,20 +509,33 @@
 //!   want of memory where none is open
 //! - <a id="pm_stream.Fault.IsStray"></a>**IsStray**: the piece is a closer that doesn't close the innermost of the
 //!   groups
+//! - <a id="pm_stream.Taken.IsTakenTo"></a>**IsTakenTo**: the sink has taken what stands before the position, from
+//!   which on the source has this text
 //! - <a id="pm_stream.WellSpaced.IsWellSpaced"></a>**IsWellSpaced**: `well-spaced`: spacings fit what follows and each
 //!   group has delimiters, so that the printed text reads back
 //! - <a id="pm_stream.Steps.Leave"></a>**Leave**: out of this group; the other trees are those that follow it
 //! - <a id="pm_stream.OpenGroups.Opened"></a>**Opened**: a group that isn't closed: the trees before it, how it is
 //!   delimited, and where it begins
+//! - <a id="pm_stream.Events.Opens"></a>**Opens**: a group's opener, with the position where the group begins
 //! - <a id="pm_stream.Parsing.ParsesTo"></a>**ParsesTo**: `parses-to`: the stream's flattening is the expansion of a
 //!   cover of the source
 //! - <a id="pm_stream.PrintsText.PrintsText"></a>**PrintsText**: the bytes are the printed text of the stream that the
 //!   source parses to
 //! - <a id="pm_stream.Building.PutsIn"></a>**PutsIn**: the trees of each item were put after those of the stream
+//! - <a id="pm_stream.Reading.ReadsAll"></a>**ReadsAll**: the sink took the events of the stream that the source parses
+//!   to
+//! - <a id="pm_stream.Reading.ReadsTo"></a>**ReadsTo**: what was read up to the rest of the source, and what the sink
+//!   took of it
 //! - <a id="pm_stream.Building.RefusesAnItem"></a>**RefusesAnItem**: some items were put in, and the one that came
 //!   after them was refused
 //! - <a id="pm_stream.Same.Same"></a>**Same**: `same`: the streams are equal but for their spans
+//! - <a id="pm_stream.Taken.Taken"></a>**Taken**: the position where the source begins, the source, its characters
+//!   before the place up to which it is read, the groups that are open, the innermost first, and the events of all
+//!   tokens
+//! - <a id="pm_stream.Taken.TakesPiece"></a>**TakesPiece**: the step took the piece at the front of the text, which
+//!   stands at the position
 //! - <a id="pm_stream.Trees.alone"></a>**alone**: the stream of this tree alone
+//! - <a id="pm_stream.Delimited.closing"></a>**closing**: what a group ends with
 //! - <a id="pm_stream.DelimSpan.closing_span"></a>**closing_span**: `close-span`: the last character of a group, or
 //!   nothing where the group has none
 //! - <a id="pm_stream.Delimited.delimiter_of"></a>**delimiter_of**: the delimiter that the character opens or closes
@@ -540,8 +557,13 @@
 //! - <a id="pm_stream.Forest.joined"></a>**joined**: the trees of one and then those of the other
 //! - <a id="pm_stream.WellSpaced.next_token"></a>**next_token**: the first tree, where it is a token
 //! - <a id="pm_stream.Forest.nil"></a>**nil**: no trees
+//! - <a id="pm_stream.Taken.nothing"></a>**nothing**: nothing yet, of a source that begins at this position
+//! - <a id="pm_stream.Reading.openers_of"></a>**openers_of**: the openers of groups
+//! - <a id="pm_stream.Delimited.opening"></a>**opening**: what a group begins with
 //! - <a id="pm_stream.DelimSpan.opening_span"></a>**opening_span**: `open-span`: the first character of a group, or
 //!   nothing where the group has none
+//! - <a id="pm_stream.Taken.past"></a>**past**: past a front, with these groups open and these events more
+//! - <a id="pm_stream.Taken.position"></a>**position**: up to where it is read
 //! - <a id="pm_stream.Printed.printed"></a>**printed**: `printed`: the text of a stream
 //! - <a id="pm_stream.Rule.ruled"></a>**ruled**: what the trees print, one after another
 //! - <a id="pm_stream.Building.split"></a>**split**: `split`: the trees that stand in a stream for one that is put in.

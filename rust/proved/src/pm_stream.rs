@@ -13,6 +13,7 @@ pub mod laws;
 mod parse;
 pub mod parts;
 pub mod placing;
+pub mod reading;
 pub mod reprinting;
 mod same;
 mod steps;

@@ -4,11 +4,12 @@
 use crate::shim::prelude::{Grow, GrowList};
 
 use crate::pm_stream::doc::doc_group;
+use crate::pm_stream::reading::{TokenSink, read};
 use crate::pm_stream::stream::{Group, TokenStream, TokenTree};
-use crate::lexical::{Piece, PieceKind, past_white, piece_at};
+use crate::lexical::Piece;
 use crate::pm_span::parts::{add_file, fits, fits_new, span_of};
 use crate::pm_span::{SourceMap, Span};
-use crate::pm_token::parts::{fault, ident, literal, punct};
+use crate::pm_token::parts::{ident, literal, punct};
 use crate::pm_token::{Delimiter, ParseError, Spacing};
 use crate::shim::alloc::AllocError;
 
@@ -126,29 +127,17 @@ impl TokenStream {
 /// The trees of a text that begins at the position `base`.
 pub(crate) fn parse(base: u32, text: &str) -> Result<TokenStream, ParseError>
 {
-    let mut parser = Parser::new();
-    let mut rest = text;
-    let mut at = base;
-    let mut first = true;
-    while let Some(piece) = piece_at(rest, first) {
-        parser.take(piece, rest, at)?;
-        let tail = &rest[piece.bytes..];
-        // White characters are gaps, which say nothing, and are passed over all at once.
-        let (after, white) = past_white(tail);
-        rest = after;
-        at += (piece.chars + white) as u32;
-        first = false;
-    }
-    parser.end(rest, at)
+    let mut parser = Parser {
+        trees: Vec::new(),
+    };
+    read(base, text, &mut parser)?;
+    Ok(parser.finish()?)
 }
 
 /// What was read so far.
 struct Parser {
-    /// The groups that are open, the innermost last.
-    frames: Vec<Frame>,
-    /// The trees of all of them and those outside every group, the innermost group's last.
+    /// The trees of all open groups and those outside every group, the innermost group's last.
     trees: Vec<TokenTree>,
-    // Each group's trees come after those before it.
 }
 
 /// A group whose closer is still to come.
@@ -161,36 +150,91 @@ struct Frame {
     lo: u32,
 }
 
-impl Parser {
-    /// Nothing was read.
-    fn new() -> Parser
-    {
-        Parser {
-            frames: Vec::new(),
-            trees: Vec::new(),
-        }
+impl TokenSink for Parser {
+    type Opened = Frame;
+
+    #[cfg_attr(not(debug_assertions), inline(always))]
+    fn opener(frame: &Frame) -> (Delimiter, u32) {
+        (frame.delimiter, frame.lo)
     }
 
-    /// Takes the piece at the front of the text, which begins at `lo`. A closer that doesn't close
-    /// the innermost open group is a fault.
-    fn take(&mut self, piece: Piece, text: &str, lo: u32) -> Result<(), ParseError>
-    {
-        let hi = lo + piece.chars as u32;
-        match piece.kind {
-            PieceKind::Opener(c) => self.open(delimiter(c), lo)?,
-            PieceKind::Closer(c) => self.close(delimiter(c), lo, hi)?,
-            PieceKind::Doc { inner, text } => self.push_doc(inner, text, span_of(lo, hi))?,
-            PieceKind::Mark { joint, mark } => self.push_mark(mark, joint, span_of(lo, hi))?,
-            PieceKind::Name { raw, name } => {
-                let name = ident(name, raw, span_of(lo, hi))?;
-                self.push(TokenTree::Ident(name))?;
-            }
-            PieceKind::Literal => self.push_literal(&text[..piece.bytes], span_of(lo, hi))?,
-            PieceKind::FrontMark | PieceKind::Gap => {}
-        }
+    #[cfg_attr(not(debug_assertions), inline(always))]
+    fn mark(
+        &mut self,
+        mark: char,
+        joint: bool,
+        piece: Piece<'_>,
+        _text: &str,
+        at: u32,
+    ) -> Result<(), AllocError> {
+        self.push_mark(mark, joint, span_of(at, at + piece.chars as u32))
+    }
+
+    #[cfg_attr(not(debug_assertions), inline(always))]
+    fn name(
+        &mut self,
+        raw: bool,
+        name: &str,
+        piece: Piece<'_>,
+        text: &str,
+        at: u32,
+    ) -> Result<(), AllocError> {
+        // Proofs learn by it that the text is UTF-8.
+        let _ = text;
+        let name = ident(name, raw, span_of(at, at + piece.chars as u32))?;
+        self.push(TokenTree::Ident(name))
+    }
+
+    #[cfg_attr(not(debug_assertions), inline(always))]
+    fn literal(&mut self, piece: Piece<'_>, text: &str, at: u32) -> Result<(), AllocError> {
+        self.push_literal(&text[..piece.bytes], span_of(at, at + piece.chars as u32))
+    }
+
+    #[cfg_attr(not(debug_assertions), inline(always))]
+    fn doc(
+        &mut self,
+        inner: bool,
+        said: &str,
+        piece: Piece<'_>,
+        _text: &str,
+        at: u32,
+    ) -> Result<(), AllocError> {
+        self.push_doc(inner, said, span_of(at, at + piece.chars as u32))
+    }
+
+    #[cfg_attr(not(debug_assertions), inline(always))]
+    fn gap(&mut self, _piece: Piece<'_>, _text: &str, _at: u32) {}
+
+    #[cfg_attr(not(debug_assertions), inline(always))]
+    fn white(&mut self, _text: &str, _size: usize) {}
+
+    #[cfg_attr(not(debug_assertions), inline(always))]
+    fn open(&mut self, delimiter: Delimiter, _text: &str, at: u32) -> Result<Frame, AllocError> {
+        let before = self.trees.len();
+        Ok(Frame {
+            before,
+            delimiter,
+            lo: at,
+        })
+    }
+
+    #[inline(never)]
+    fn close(
+        &mut self,
+        frame: Frame,
+        delimiter: Delimiter,
+        _text: &str,
+        at: u32,
+    ) -> Result<(), AllocError> {
+        let trees = self.trees.split_off_fallibly(frame.before)?;
+        let stream = TokenStream::from_vec(trees)?;
+        let group = Group::from_parts(delimiter, stream, span_of(frame.lo, at + 1));
+        self.trees.push_fallibly(TokenTree::Group(group))?;
         Ok(())
     }
+}
 
+impl Parser {
     /// Takes a tree that may be put into a stream.
     // Inlined so that the tree is made in the list itself.
     #[cfg_attr(not(debug_assertions), inline(always))]
@@ -229,72 +273,16 @@ impl Parser {
         self.push(TokenTree::Group(group))
     }
 
-    /// Takes an opener that begins at `lo`.
-    fn open(&mut self, delimiter: Delimiter, lo: u32) -> Result<(), AllocError>
+    /// The stream of what was read, where no group is open.
+    fn finish(self) -> Result<TokenStream, AllocError>
     {
-        let before = self.trees.len();
-        self.frames.push_fallibly(Frame {
-            before,
-            delimiter,
-            lo,
-        })?;
-        Ok(())
-    }
-
-    /// Takes a closer from `lo` to `hi`. It is a fault unless it closes the innermost open group.
-    #[inline(never)]
-    fn close(&mut self, delimiter: Delimiter, lo: u32, hi: u32) -> Result<(), ParseError>
-    {
-        let Some(frame) = self.frames.pop() else {
-            return Err(fault_at(lo));
-        };
-        if frame.delimiter != delimiter {
-            return Err(fault_at(lo));
-        }
-        let trees = self.trees.split_off_fallibly(frame.before)?;
-        let stream = TokenStream::from_vec(trees)?;
-        let group = Group::from_parts(delimiter, stream, span_of(frame.lo, hi));
-        self.trees.push_fallibly(TokenTree::Group(group))?;
-        Ok(())
-    }
-
-    /// The stream of what was read, where nothing is left of the text. What is left at the position
-    /// is a fault there, as no piece stands at its front.
-    fn end(self, rest: &str, at: u32) -> Result<TokenStream, ParseError>
-    {
-        if !rest.is_empty() {
-            return Err(fault_at(at));
-        }
-        self.finish()
-    }
-
-    /// The stream of what was read. A group that is still open is a fault: where the innermost
-    /// begins.
-    fn finish(self) -> Result<TokenStream, ParseError>
-    {
-        let Parser {
-            mut frames,
-            mut trees,
-        } = self;
-        if let Some(frame) = frames.pop() {
-            return Err(fault_at(frame.lo));
-        }
+        let Parser { mut trees } = self;
         // The list also held the trees of all open groups. If the smaller allocation is refused,
         // the list stays as it is.
         if trees.capacity().saturating_sub(trees.len()) > FEW_TREES {
             trees.shrink_to_fit();
         }
-        Ok(TokenStream::from_vec(trees)?)
-    }
-}
-
-/// The delimiter of which `c` is the opener or the closer.
-pub(crate) fn delimiter(c: char) -> Delimiter
-{
-    match c {
-        '(' | ')' => Delimiter::Parenthesis,
-        '{' | '}' => Delimiter::Brace,
-        _ => Delimiter::Bracket,
+        TokenStream::from_vec(trees)
     }
 }
 
@@ -306,10 +294,4 @@ fn spacing(joint: bool) -> Spacing
     } else {
         Spacing::Alone
     }
-}
-
-/// The fault at a position.
-pub(crate) fn fault_at(position: u32) -> ParseError
-{
-    ParseError::Lex(fault(span_of(position, position)))
 }

@@ -3,8 +3,8 @@
 
 use crate::shim::prelude::Grow;
 
-use crate::pm_stream::parse::{delimiter, fault_at};
-use crate::lexical::{Piece, PieceKind, past_white, piece_at};
+use crate::pm_stream::reading::{TokenSink, read};
+use crate::lexical::Piece;
 use crate::pm_span::parts::fits_new;
 use crate::pm_token::{Delimiter, ParseError};
 use crate::shim::alloc::AllocError;
@@ -92,50 +92,30 @@ pub fn place_trees(text: &str) -> Result<Vec<PlacedTree>, ParseError>
 /// Where each tree of a text that begins at the position `base` stands.
 fn place_trees_at(base: u32, text: &str) -> Result<Vec<PlacedTree>, ParseError>
 {
-    let mut placer = Placer::with_room(text.len())?;
-    let mut rest = text;
-    let mut at = base;
-    let mut start = Place { line: 1, column: 0 };
-    let mut first = true;
-    while let Some(piece) = piece_at(rest, first) {
-        let end = end_of(piece, rest, start);
-        placer.take(piece, at, start, end)?;
-        let tail = &rest[piece.bytes..];
-        // White characters are gaps, which are no trees, and are passed over all at once.
-        let (after, white) = past_white(tail);
-        start = past(end, &tail[..white]);
-        rest = after;
-        at += (piece.chars + white) as u32;
-        first = false;
-    }
-    placer.end(rest, at)
+    let mut placer = Placer {
+        here: Place { line: 1, column: 0 },
+        // A tree of code has some five bytes, with the white characters after it.
+        trees: Vec::with_capacity_fallibly(text.len() / 4)?,
+    };
+    read(base, text, &mut placer)?;
+    Ok(placer.trees)
 }
 
-/// Where the piece at the front of the text ends, if it begins at this place.
+/// The place so many characters further on in its line.
 #[cfg_attr(not(debug_assertions), inline(always))]
-fn end_of(piece: Piece, text: &str, start: Place) -> Place
+fn along(start: Place, chars: u32) -> Place
 {
-    // Most pieces are short and on one line, and aren't looked through again.
-    if has_one_line(piece.kind) {
-        return Place {
-            line: start.line,
-            column: start.column + piece.chars as u32,
-        };
+    Place {
+        line: start.line,
+        column: start.column + chars,
     }
+}
+
+/// The place after the piece at the front of the text, which begins at this one.
+#[cfg_attr(not(debug_assertions), inline(always))]
+fn end_of(start: Place, piece: Piece, text: &str) -> Place
+{
     past(start, &text[..piece.bytes])
-}
-
-/// Whether no piece of this kind has a line feed.
-#[cfg_attr(not(debug_assertions), inline(always))]
-fn has_one_line(kind: PieceKind) -> bool
-{
-    match kind {
-        PieceKind::Opener(_)
-        | PieceKind::Closer(_)
-        | PieceKind::Mark { .. }
-        | PieceKind::Name { .. } => true,
-        PieceKind::FrontMark | PieceKind::Gap | PieceKind::Doc { .. } | PieceKind::Literal => false,
-    }
 }
 
 /// The place after a text that begins at this one.
@@ -167,8 +147,8 @@ fn past_char(place: Place, c: char) -> Place
 
 /// What was placed so far.
 struct Placer {
-    /// The groups that are open, the innermost last.
-    groups: Vec<OpenGroup>,
+    /// The place up to which it was read.
+    here: Place,
     /// The trees in reading order. An open group ends where it begins.
     trees: Vec<PlacedTree>,
 }
@@ -185,109 +165,137 @@ struct OpenGroup {
     index: usize,
 }
 
-impl Placer {
-    /// Nothing was placed. There is room for most texts of so many bytes.
-    fn with_room(bytes: usize) -> Result<Placer, AllocError>
-    {
-        Ok(Placer {
-            groups: Vec::new(),
-            // A tree of code has some five bytes, with the white characters after it.
-            trees: Vec::with_capacity_fallibly(bytes / 4)?,
+impl TokenSink for Placer {
+    type Opened = OpenGroup;
+
+    #[cfg_attr(not(debug_assertions), inline(always))]
+    fn opener(group: &OpenGroup) -> (Delimiter, u32) {
+        (group.delimiter, group.lo)
+    }
+
+    #[cfg_attr(not(debug_assertions), inline(always))]
+    fn mark(
+        &mut self,
+        _mark: char,
+        _joint: bool,
+        piece: Piece<'_>,
+        _text: &str,
+        _at: u32,
+    ) -> Result<(), AllocError> {
+        self.push(along(self.here, piece.chars as u32), TreeKind::Punct)
+    }
+
+    #[cfg_attr(not(debug_assertions), inline(always))]
+    fn name(
+        &mut self,
+        _raw: bool,
+        _name: &str,
+        piece: Piece<'_>,
+        _text: &str,
+        _at: u32,
+    ) -> Result<(), AllocError> {
+        self.push(along(self.here, piece.chars as u32), TreeKind::Ident)
+    }
+
+    #[cfg_attr(not(debug_assertions), inline(always))]
+    fn literal(&mut self, piece: Piece<'_>, text: &str, _at: u32) -> Result<(), AllocError> {
+        self.push(end_of(self.here, piece, text), TreeKind::Literal)
+    }
+
+    #[cfg_attr(not(debug_assertions), inline(always))]
+    fn doc(
+        &mut self,
+        inner: bool,
+        _said: &str,
+        piece: Piece<'_>,
+        text: &str,
+        _at: u32,
+    ) -> Result<(), AllocError> {
+        self.push_doc(inner, end_of(self.here, piece, text))
+    }
+
+    #[cfg_attr(not(debug_assertions), inline(always))]
+    fn gap(&mut self, piece: Piece<'_>, text: &str, _at: u32) {
+        self.here = end_of(self.here, piece, text);
+    }
+
+    #[cfg_attr(not(debug_assertions), inline(always))]
+    fn white(&mut self, text: &str, size: usize) {
+        self.here = past(self.here, &text[..size]);
+    }
+
+    #[cfg_attr(not(debug_assertions), inline(always))]
+    fn open(
+        &mut self,
+        delimiter: Delimiter,
+        _text: &str,
+        at: u32,
+    ) -> Result<OpenGroup, AllocError> {
+        let start = self.here;
+        let index = self.trees.len();
+        self.trees.push_fallibly(PlacedTree {
+            start,
+            end: start,
+            kind: TreeKind::Group,
+        })?;
+        self.here = along(start, 1);
+        Ok(OpenGroup {
+            delimiter,
+            lo: at,
+            start,
+            index,
         })
     }
 
-    /// Takes a piece that begins at the position `lo` and the place `start`, and ends at `end`. A closer that doesn't
-    /// close the innermost open group is a fault.
-    fn take(&mut self, piece: Piece, lo: u32, start: Place, end: Place) -> Result<(), ParseError>
-    {
-        match piece.kind {
-            PieceKind::Opener(c) => self.open(delimiter(c), lo, start)?,
-            PieceKind::Closer(c) => self.close(delimiter(c), lo, end)?,
-            PieceKind::Doc { inner, text } => {
-                let _ = text;
-                self.push_doc(inner, start, end)?;
-            }
-            PieceKind::Mark { joint, mark } => {
-                let _ = joint;
-                let _ = mark;
-                self.push(start, end, TreeKind::Punct)?;
-            }
-            PieceKind::Name { raw, name } => {
-                let _ = raw;
-                let _ = name;
-                self.push(start, end, TreeKind::Ident)?;
-            }
-            PieceKind::Literal => self.push(start, end, TreeKind::Literal)?,
-            PieceKind::FrontMark | PieceKind::Gap => {}
-        }
-        Ok(())
-    }
-
-    /// Adds a tree of this kind.
     #[cfg_attr(not(debug_assertions), inline(always))]
-    fn push(&mut self, start: Place, end: Place, kind: TreeKind) -> Result<(), AllocError>
-    {
-        self.trees.push_fallibly(PlacedTree { start, end, kind })?;
-        Ok(())
-    }
-
-    /// Adds the trees of a doc comment: the mark `#`, the mark `!` if it is inner, and the group of its text.
-    #[inline(never)]
-    fn push_doc(&mut self, inner: bool, start: Place, end: Place) -> Result<(), AllocError>
-    {
-        self.push(start, end, TreeKind::Punct)?;
-        if inner {
-            self.push(start, end, TreeKind::Punct)?;
-        }
-        self.push(start, end, TreeKind::Group)?;
-        self.push(start, end, TreeKind::Ident)?;
-        self.push(start, end, TreeKind::Punct)?;
-        self.push(start, end, TreeKind::Literal)?;
-        Ok(())
-    }
-
-    /// Opens a group that begins at the position `lo` and the place `start`.
-    fn open(&mut self, delimiter: Delimiter, lo: u32, start: Place) -> Result<(), AllocError>
-    {
-        let index = self.trees.len();
-        self.groups.push_fallibly(OpenGroup {
-            delimiter,
-            lo,
-            start,
-            index,
-        })?;
-        self.push(start, start, TreeKind::Group)?;
-        Ok(())
-    }
-
-    /// Closes a group by a closer at the position `lo`, which ends at the place `end`. It is a fault unless it closes
-    /// the innermost open group.
-    fn close(&mut self, delimiter: Delimiter, lo: u32, end: Place) -> Result<(), ParseError>
-    {
-        let Some(group) = self.groups.pop() else {
-            return Err(fault_at(lo));
-        };
-        if group.delimiter != delimiter {
-            return Err(fault_at(lo));
-        }
+    fn close(
+        &mut self,
+        group: OpenGroup,
+        _delimiter: Delimiter,
+        _text: &str,
+        _at: u32,
+    ) -> Result<(), AllocError> {
+        let end = along(self.here, 1);
         self.trees[group.index] = PlacedTree {
             start: group.start,
             end,
             kind: TreeKind::Group,
         };
+        self.here = end;
+        Ok(())
+    }
+}
+
+impl Placer {
+    /// Adds a tree of this kind, from where it was read to `end`.
+    #[cfg_attr(not(debug_assertions), inline(always))]
+    fn push(&mut self, end: Place, kind: TreeKind) -> Result<(), AllocError>
+    {
+        self.add(end, kind)?;
+        self.here = end;
         Ok(())
     }
 
-    /// The trees, where nothing is left of the text and no group is open.
-    fn end(self, rest: &str, at: u32) -> Result<Vec<PlacedTree>, ParseError>
+    /// Adds the trees of a doc comment: the mark `#`, the mark `!` if it is inner, and the group of its text.
+    #[inline(never)]
+    fn push_doc(&mut self, inner: bool, end: Place) -> Result<(), AllocError>
     {
-        if !rest.is_empty() {
-            return Err(fault_at(at));
+        self.add(end, TreeKind::Punct)?;
+        if inner {
+            self.add(end, TreeKind::Punct)?;
         }
-        let Placer { mut groups, trees } = self;
-        if let Some(group) = groups.pop() {
-            return Err(fault_at(group.lo));
-        }
-        Ok(trees)
+        self.add(end, TreeKind::Group)?;
+        self.add(end, TreeKind::Ident)?;
+        self.add(end, TreeKind::Punct)?;
+        self.push(end, TreeKind::Literal)
+    }
+
+    /// Adds a tree of this kind, but more begin where it does.
+    #[cfg_attr(not(debug_assertions), inline(always))]
+    fn add(&mut self, end: Place, kind: TreeKind) -> Result<(), AllocError>
+    {
+        let start = self.here;
+        self.trees.push_fallibly(PlacedTree { start, end, kind })?;
+        Ok(())
     }
 }

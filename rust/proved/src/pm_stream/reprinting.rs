@@ -1,11 +1,9 @@
 // Made from crates/pm_stream/src/reprinting.rt by rust/erase: change that file, not this one.
 //! From a text to its printed text, with no trees in between.
 
-use crate::shim::prelude::Grow;
-
 use crate::pm_stream::display::is_brace;
-use crate::pm_stream::parse::{delimiter, fault_at};
-use crate::lexical::{Piece, PieceKind, past_white, piece_at};
+use crate::pm_stream::reading::{TokenSink, read};
+use crate::lexical::Piece;
 use crate::pm_span::parts::fits_new;
 use crate::pm_token::parts::TextBuilder;
 use crate::pm_token::{Delimiter, ParseError};
@@ -58,26 +56,16 @@ pub fn reprint(text: &str) -> Result<String, ParseError>
 /// The printed text of a text that begins at the position `base`.
 fn reprint_at(base: u32, text: &str) -> Result<String, ParseError>
 {
-    let mut printer = Printer::with_room(text.len())?;
-    let mut rest = text;
-    let mut at = base;
-    let mut first = true;
-    while let Some(piece) = piece_at(rest, first) {
-        printer.take(piece, rest, at)?;
-        let tail = &rest[piece.bytes..];
-        // White characters are gaps, of which nothing is printed, and are passed over all at once.
-        let (after, white) = past_white(tail);
-        rest = after;
-        at += (piece.chars + white) as u32;
-        first = false;
-    }
-    printer.end(rest, at)
+    let mut printer = Printer {
+        draft: TextBuilder::with_room(text.len())?,
+        gap: false,
+    };
+    read(base, text, &mut printer)?;
+    Ok(printer.draft.into_string())
 }
 
 /// What was printed so far.
 struct Printer {
-    /// The groups that are open, the innermost last.
-    groups: Vec<OpenGroup>,
     /// What is printed of what was read.
     draft: TextBuilder,
     /// Whether a space goes before what is printed next.
@@ -92,37 +80,89 @@ struct OpenGroup {
     lo: u32,
 }
 
-impl Printer {
-    /// Nothing was printed, and there is room for so many bytes.
-    fn with_room(bytes: usize) -> Result<Printer, AllocError>
-    {
-        Ok(Printer {
-            groups: Vec::new(),
-            draft: TextBuilder::with_room(bytes)?,
-            gap: false,
-        })
+impl TokenSink for Printer {
+    type Opened = OpenGroup;
+
+    #[cfg_attr(not(debug_assertions), inline(always))]
+    fn opener(group: &OpenGroup) -> (Delimiter, u32) {
+        (group.delimiter, group.lo)
     }
 
-    /// Takes the piece at the front of the text, which begins at `lo`. A closer that doesn't close
-    /// the innermost open group is a fault.
-    fn take(&mut self, piece: Piece, text: &str, lo: u32) -> Result<(), ParseError>
-    {
-        match piece.kind {
-            PieceKind::Opener(c) => self.open(delimiter(c), lo)?,
-            PieceKind::Closer(c) => self.close(delimiter(c), lo)?,
-            PieceKind::Doc { inner, text } => self.push_doc(inner, text)?,
-            PieceKind::Mark { joint, mark } => self.push_mark(mark, joint)?,
-            PieceKind::Name { raw, name } => {
-                let _ = raw;
-                let _ = name;
-                self.push_token(&text[..piece.bytes], true)?;
-            }
-            PieceKind::Literal => self.push_token(&text[..piece.bytes], true)?,
-            PieceKind::FrontMark | PieceKind::Gap => {}
-        }
+    #[cfg_attr(not(debug_assertions), inline(always))]
+    fn mark(
+        &mut self,
+        mark: char,
+        joint: bool,
+        _piece: Piece<'_>,
+        _text: &str,
+        _at: u32,
+    ) -> Result<(), AllocError> {
+        self.push_mark(mark, joint)
+    }
+
+    #[cfg_attr(not(debug_assertions), inline(always))]
+    fn name(
+        &mut self,
+        _raw: bool,
+        _name: &str,
+        piece: Piece<'_>,
+        text: &str,
+        _at: u32,
+    ) -> Result<(), AllocError> {
+        self.push_token(&text[..piece.bytes], true)
+    }
+
+    #[cfg_attr(not(debug_assertions), inline(always))]
+    fn literal(&mut self, piece: Piece<'_>, text: &str, _at: u32) -> Result<(), AllocError> {
+        self.push_token(&text[..piece.bytes], true)
+    }
+
+    #[cfg_attr(not(debug_assertions), inline(always))]
+    fn doc(
+        &mut self,
+        inner: bool,
+        said: &str,
+        _piece: Piece<'_>,
+        _text: &str,
+        _at: u32,
+    ) -> Result<(), AllocError> {
+        self.push_doc(inner, said)
+    }
+
+    #[cfg_attr(not(debug_assertions), inline(always))]
+    fn gap(&mut self, _piece: Piece<'_>, _text: &str, _at: u32) {}
+
+    #[cfg_attr(not(debug_assertions), inline(always))]
+    fn white(&mut self, _text: &str, _size: usize) {}
+
+    #[cfg_attr(not(debug_assertions), inline(always))]
+    fn open(
+        &mut self,
+        delimiter: Delimiter,
+        _text: &str,
+        at: u32,
+    ) -> Result<OpenGroup, AllocError> {
+        self.write_opening(delimiter)?;
+        self.gap = is_brace(delimiter);
+        Ok(OpenGroup { delimiter, lo: at })
+    }
+
+    // Out of line, so that less is kept in registers for the pieces that come more often.
+    #[inline(never)]
+    fn close(
+        &mut self,
+        _group: OpenGroup,
+        delimiter: Delimiter,
+        _text: &str,
+        _at: u32,
+    ) -> Result<(), AllocError> {
+        push_ending(&mut self.draft, delimiter)?;
+        self.gap = true;
         Ok(())
     }
+}
 
+impl Printer {
     /// Prints the text, after a space if one goes before it.
     fn write(&mut self, text: &str) -> Result<(), AllocError>
     {
@@ -169,6 +209,7 @@ impl Printer {
     }
 
     /// Prints what a group begins with, after a space if one goes before it.
+    #[cfg_attr(not(debug_assertions), inline(always))]
     fn write_opening(&mut self, delimiter: Delimiter) -> Result<(), AllocError>
     {
         match delimiter {
@@ -177,46 +218,6 @@ impl Printer {
             Delimiter::Bracket => self.write_char('['),
             Delimiter::None => self.write(""),
         }
-    }
-
-    /// Prints an opener that begins at `lo`.
-    fn open(&mut self, delimiter: Delimiter, lo: u32) -> Result<(), AllocError>
-    {
-        self.write_opening(delimiter)?;
-        self.gap = is_brace(delimiter);
-        self.groups.push_fallibly(OpenGroup { delimiter, lo })?;
-        Ok(())
-    }
-
-    /// Prints a closer at `lo`. It is a fault unless it closes the innermost open group.
-    fn close(&mut self, delimiter: Delimiter, lo: u32) -> Result<(), ParseError>
-    {
-        let Some(group) = self.groups.pop() else {
-            return Err(fault_at(lo));
-        };
-        if group.delimiter != delimiter {
-            return Err(fault_at(lo));
-        }
-        push_ending(&mut self.draft, delimiter)?;
-        self.gap = true;
-        Ok(())
-    }
-
-    /// What was printed, where nothing is left of the text and no group is open.
-    fn end(self, rest: &str, at: u32) -> Result<String, ParseError>
-    {
-        if !rest.is_empty() {
-            return Err(fault_at(at));
-        }
-        let Printer {
-            mut groups,
-            draft,
-            gap: _,
-        } = self;
-        if let Some(group) = groups.pop() {
-            return Err(fault_at(group.lo));
-        }
-        Ok(draft.into_string())
     }
 }
 

@@ -1,14 +1,9 @@
-use Rattle.std.proofs.Common.{◌≡◌, ◌-◌, length, take, ap, sym, ◌∙◌, arith}
+use Rattle.std.proofs.Common.{◌≡◌, ◌-◌, length, take, ap, ◌∙◌, arith}
 use Rattle.std.specs.Str.{chars}
 use Rattle.lexical.proofs.PieceFacts.{piece_boundary, piece_front}
 use Rattle.pm_stream.specs.Places.{moved_past}
-use Rattle.pm_stream.proofs.PlaceLemmas.{one_line_end}
+use Rattle.pm_stream.proofs.PieceLemmas.{front_is}
 use Rattle.pm_stream.proofs.placing.end_of.Goals as goal
-
-pub returns-then-has_one_line : goal.returns-then-has_one_line
-returns-then-has_one_line c = λ first found.
-    one_line_end first (chars c.args.text.now) c.args.start c.args.piece found
-    (sym c.has_one_line.ensures ∙ c.if-has_one_line.true)
 
 pub range-requires-clause-end_boundary : goal.range-requires-clause-end_boundary
 range-requires-clause-end_boundary c =
@@ -31,8 +26,7 @@ past-requires-clause-columns c =
     omega (arith, c.requires.columns, ap length front, found.chars)
 
 pub returns : goal.returns
-returns c = λ first found.
-    let all : c.args.piece.bytes - 0 ≡ c.args.piece.bytes = omega arith in
-    let front = ap chars (c.range.ensures.value ∙ ap (λ n. take n c.args.text.now) all)
-    ∙ piece_front first c.args.text.now c.args.piece c.utf8.text found in
-    c.past.ensures ∙ ap (moved_past c.args.start) front
+returns c = λ front rest whole size.
+    c.past.ensures ∙ ap (moved_past c.args.start)
+    (front_is _ c.args.text.now c.range.result.now front rest c.args.piece c.utf8.text c.requires.stands.1
+    c.range.ensures.value whole size)

@@ -3,7 +3,8 @@ use Rattle.std.specs.Str.{chars}
 use Rattle.pm_token.specs.Escaped.{string_text}
 use Rattle.pm_stream.specs.Printed.{space}
 use Rattle.pm_stream.specs.PrinterState.{doc_front}
-use Rattle.pm_stream.proofs.ReprintLemmas.{prints_doc, chars_doc_front}
+use Rattle.pm_stream.proofs.ReprintLemmas.{chars_doc_front}
+use Rattle.pm_stream.proofs.ReprintLemmas.{prints_doc}
 use Rattle.pm_stream.proofs.reprinting.Printer.push_doc.Goals as goal
 
 pub returns : goal.returns
@@ -14,9 +15,8 @@ returns c =
     (ap chars c.doc_front.ensures ∙ chars_doc_front c.args.inner) in
     record {
       ok = λ lo hi.
-          prints_doc old (record { groups = c.write.new.self.groups; draft = c.push.new.self; gap = true }) lo hi
+          prints_doc old (record { draft = c.push.new.self; gap = true }) lo hi
           c.args.inner (chars c.args.text.now)
-          c.write.ensures.kept
           (c.in_ok-push.ensures.ok ∙ ap (λ d. d ++ codes "]")
           (c.in_ok-push_string.ensures.ok ∙ ap (λ d. d ++ string_text (chars c.args.text.now)) front))
           refl;

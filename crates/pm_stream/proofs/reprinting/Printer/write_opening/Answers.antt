@@ -4,8 +4,9 @@ use Rattle.pm_stream.specs.Delimited.{opening}
 use Rattle.pm_stream.specs.Printed.{space}
 use Rattle.pm_stream.proofs.reprinting.Printer.write_opening.Goals as goal
 
-pub returns-in-None-clause-ok : goal.returns-in-None-clause-ok
-returns-in-None-clause-ok c =
-    subst (λ x. OnOk c.write.result (c.write.new.self.draft
-    ≡ c.args.self.now.draft ++ (space c.args.self.now.gap ++ x)))
-    (chars-nil ∙ sym (ap opening c.in-None.is)) c.write.ensures.ok
+pub returns-in-None : goal.returns-in-None
+returns-in-None c = record {
+  ok = subst (λ x. OnOk c.write.result (c.write.new.self.draft
+      ≡ c.args.self.now.draft ++ (space c.args.self.now.gap ++ x)))
+      (chars-nil ∙ sym (ap opening c.in-None.is)) c.write.ensures.ok;
+}

@@ -1,0 +1,163 @@
+-- What the parser has read, with one step more.
+use Rattle.std.proofs.Common.{◌≡◌, ℕ, ◌+◌, ◌≤◌, true, false, List, [], ◌∷◌, ◌++◌, length, take, drop, sym, ap, ap₂, ◌∙◌}
+use Rattle.std.proofs.Common.{subst, append_assoc, append-nil, length-append, arith}
+use Rattle.std.proofs.lemmas.List.{length-take-le}
+use Rattle.std.proofs.Math.Seq.{take-length, drop-length}
+use Rattle.lexical.specs.Found.{kind_of}
+use Rattle.lexical.specs.declared.piece.PieceKind.{PieceKind}
+use Rattle.pm_token.specs.declared.delimiters.Delimiter.{Delimiter}
+use Rattle.pm_stream.specs.Events.{Event, One, Opens, Closes, bang, doc_onto, doc_group_onto, events_onto, hash}
+use Rattle.pm_stream.specs.Forest.{flat_onto, IsBuilt}
+use Rattle.pm_stream.specs.OpenGroups.{unclosed_onto}
+use Rattle.pm_stream.specs.Trees.{alone, forest}
+use Rattle.pm_stream.specs.declared.stream.TokenTree.{TokenTree}
+use Rattle.pm_stream.proofs.EventLemmas.{unclosed-append}
+use Rattle.pm_stream.specs.Nesting.{innermost, opened, IsNested}
+use Rattle.pm_stream.specs.ParserState.{Adds, Parses}
+use Rattle.pm_stream.specs.Taken.{Taken, past, position}
+use Rattle.pm_stream.specs.declared.parse.Frame.{Frame}
+use Rattle.pm_stream.specs.declared.parse.Parser.{Parser}
+use Rattle.pm_stream.proofs.OpenGroupLemmas.{unclosed_in, unclosed-push, unclosed-close, with_closed, closed, nested_more}
+use Rattle.pm_stream.proofs.OpenGroupLemmas.{nested_before, built_later, built_push, IsBuiltIn}
+
+abbrev with_events : Taken Frame → List Event → Taken Frame
+with_events taken events = record {
+  base = taken.base;
+  source = taken.source;
+  passed = taken.passed;
+  opened = taken.opened;
+  events = events;
+}
+
+-- a tree more
+pub adds_tree : (old new : Parser) (tree : TokenTree) → new.trees.items ≡ old.trees.items ++ tree ∷ []
+    → IsBuilt (alone tree) → Adds old new (flat_onto (alone tree) [])
+adds_tree old new tree more is = λ taken h.
+    let frames = taken.opened in
+    let trees = old.trees.items in
+    record {
+      nested = nested_more frames (length trees) (length new.trees.items)
+          (omega (arith, ap length more, length-append trees (tree ∷ []))) h.nested;
+      events = ap (λ ts. unclosed_in frames ts []) more
+          ∙ (unclosed-push frames trees tree [] h.nested
+          ∙ (unclosed-append (opened frames trees) (forest (innermost frames trees)) [] (flat_onto (alone tree) [])
+          ∙ ap (λ es. es ++ flat_onto (alone tree) []) h.events));
+      built = subst (IsBuiltIn (position taken) frames) (sym more)
+          (built_push (position taken) frames trees tree h.nested h.built is);
+    }
+
+pub adds_then : (a b c : Parser) (es fs : List Event) → Adds a b es → Adds b c fs → Adds a c (es ++ fs)
+adds_then a b c es fs h k = λ taken now.
+    subst (λ xs. Parses c (with_events taken xs))
+    (append_assoc taken.events es fs) (k _ (h taken now))
+
+-- past the piece
+pub adds_past : (old new : Parser) (es : List Event) → Adds old new es
+    → (taken : Taken Frame) (front : List ℕ) → Parses old taken → Parses new (past taken front taken.opened es)
+adds_past old new es step taken front h =
+    let now = step taken h in
+    record {
+      nested = now.nested;
+      events = now.events;
+      built = built_later (opened taken.opened new.trees.items) (forest (innermost taken.opened new.trees.items))
+          (position taken) (taken.base + length (taken.passed ++ front))
+          (omega (arith, length-append taken.passed front)) now.built;
+    }
+
+-- the trees of a piece of this kind were put in
+pub adds_by : (old made new : Parser) (es : List Event) (kind is : PieceKind) (lo : ℕ) (front : List ℕ)
+    → new ≡ made → Adds old made es → kind ≡ is → es ≡ events_onto lo (kind_of is front) front []
+    → (taken : Taken Frame) → Parses old taken
+    → Parses new (past taken front taken.opened (events_onto lo (kind_of kind front) front []))
+adds_by old made new es kind is lo front same h e gives = λ taken parsed.
+    adds_past old new (events_onto lo (kind_of kind front) front [])
+    (subst (λ p. Adds old p (events_onto lo (kind_of kind front) front [])) (sym same)
+    (subst (Adds old made) (gives ∙ ap (λ k. events_onto lo (kind_of k front) front []) (sym e)) h)) taken front parsed
+
+pub adds_nothing : (old : Parser) → Adds old old []
+adds_nothing old = λ taken h.
+    subst (λ xs. Parses old (with_events taken xs))
+    (sym (append-nil taken.events)) h
+
+-- passing changes no tree
+pub parses_past : (parser : Parser) (taken : Taken Frame) (front : List ℕ) → Parses parser taken
+    → Parses parser (past taken front taken.opened [])
+parses_past parser taken front h = adds_past parser parser [] (adds_nothing parser) taken front h
+
+pub adds_doc : (a b c : Parser) (lo hi : ℕ) (text : List ℕ) (es : List Event)
+    → Adds a b (One hash lo hi ∷ []) → Adds b c es → es ≡ doc_group_onto lo hi text []
+    → Adds a c (doc_onto lo hi false text [])
+adds_doc a b c lo hi text es h k is =
+    adds_then a b c (One hash lo hi ∷ []) (doc_group_onto lo hi text []) h (subst (Adds b c) is k)
+
+pub adds_inner_doc : (a b c d : Parser) (lo hi : ℕ) (text : List ℕ) (es : List Event)
+    → Adds a b (One hash lo hi ∷ []) → Adds b c (One bang lo hi ∷ []) → Adds c d es
+    → es ≡ doc_group_onto lo hi text []
+    → Adds a d (doc_onto lo hi true text [])
+adds_inner_doc a b c d lo hi text es h i k is =
+    adds_then a b d (One hash lo hi ∷ []) (One bang lo hi ∷ doc_group_onto lo hi text []) h
+    (adds_then b c d (One bang lo hi ∷ []) (doc_group_onto lo hi text []) i (subst (Adds c d) is k))
+
+-- an opener
+pub parses_open : (parser : Parser) (frame : Frame) (taken : Taken Frame) (front : List ℕ) (d : Delimiter) (at : ℕ)
+    → frame ≡ record { before = length parser.trees.items; delimiter = d; lo = at }
+    → at ≡ position taken → Parses parser taken
+    → Parses parser (past taken front (frame ∷ taken.opened) (Opens d at ∷ []))
+parses_open parser frame taken front d at is e h =
+    let trees = parser.trees.items in
+    let frames = taken.opened in
+    let all : take frame.before trees ≡ trees = ap (λ f. take f.before trees) is ∙ take-length trees in
+    let none : drop frame.before trees ≡ [] = ap (λ f. drop f.before trees) is ∙ drop-length trees in
+    let here : frame.lo ≡ position taken = ap (λ f. f.lo) is ∙ e in
+    record {
+      nested = (omega (arith, ap (λ f. f.before) is), subst (IsNested frames) (sym (ap (λ f. f.before) is)) h.nested);
+      events =
+          ap₂ (λ ts us. unclosed_onto (opened frames ts) (forest (innermost frames ts))
+          (Opens frame.delimiter frame.lo ∷ flat_onto (forest us) [])) all none
+          ∙ (ap (λ f. unclosed_in frames trees (Opens f.delimiter f.lo ∷ [])) is
+          ∙ (unclosed-append (opened frames trees) (forest (innermost frames trees)) [] (Opens d at ∷ [])
+          ∙ ap (λ es. es ++ (Opens d at ∷ [])) h.events));
+      built = (
+        subst (λ us. IsBuilt (forest us)) (sym none) tt,
+        omega (arith, here, length-append taken.passed front),
+        subst (λ ts. IsBuiltIn frame.lo frames ts) (sym all)
+            (subst (λ n. IsBuiltIn n frames trees) (sym here) h.built),
+      );
+    }
+
+-- a closer
+pub parses_close : (old new : Parser) (frame : Frame) (outer : List Frame) (taken : Taken Frame) (front : List ℕ)
+    (d : Delimiter) (at : ℕ)
+    → new.trees.items ≡ with_closed d frame old.trees.items (at + 1) → frame.delimiter ≡ d
+    → at ≡ position taken → taken.opened ≡ frame ∷ outer → Parses old taken
+    → Parses new (past taken front outer (Closes d (at + 1) ∷ []))
+parses_close old new frame outer taken front d at more same e was h =
+    let trees = old.trees.items in
+    let hi = at + 1 in
+    let nested : IsNested (frame ∷ outer) (length trees) = subst (λ fs. IsNested fs (length trees)) was h.nested in
+    let built : IsBuiltIn at (frame ∷ outer) trees =
+    subst (λ n. IsBuiltIn n (frame ∷ outer) trees) (sym e) (subst (λ fs. IsBuiltIn (position taken) fs trees) was h.built) in
+    let events : unclosed_in (frame ∷ outer) trees [] ≡ taken.events =
+    subst (λ fs. unclosed_in fs trees [] ≡ taken.events) was h.events in
+    let before = take frame.before trees in
+    let after : ℕ = taken.base + length (taken.passed ++ front) in
+    let within : frame.lo ≤ after = omega (arith, built.1, e, length-append taken.passed front) in
+    let within-hi : frame.lo ≤ hi = omega (arith, built.1) in
+    record {
+      nested = nested_more outer frame.before (length new.trees.items)
+          (omega (
+            arith,
+            ap length more,
+            length-append before (closed d frame trees hi ∷ []),
+            length-take-le frame.before trees nested.0,
+          )) nested.1;
+      events = ap (λ ts. unclosed_in outer ts []) more
+          ∙ (unclosed-close outer frame trees d hi [] nested same
+          ∙ (unclosed-append (opened (frame ∷ outer) trees) (forest (innermost (frame ∷ outer) trees)) []
+          (Closes d hi ∷ [])
+          ∙ ap (λ es. es ++ (Closes d hi ∷ [])) events));
+      built = subst (IsBuiltIn after outer) (sym more)
+          (built_push after outer before (closed d frame trees hi) (nested_before frame outer trees nested)
+          (built_later (opened outer before) (forest (innermost outer before)) frame.lo after within built.2)
+          (within-hi, built.0, tt));
+    }

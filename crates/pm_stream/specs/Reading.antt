@@ -1,0 +1,72 @@
+-- What the loop over pieces has read so far, and all that it reads.
+use Rattle.std.specs.Prelude.{ℕ, Bool, ◌≡◌, ◌+◌, List, [], ◌∷◌, ◌++◌, length, reverse, map}
+use Rattle.lexical.specs.Cover.{CoversUpTo, width}
+use Rattle.lexical.specs.Piece.{Piece}
+use Rattle.pm_stream.specs.Events.{Event, expansion}
+use Rattle.pm_stream.specs.Forest.{Forest, flattening}
+use Rattle.pm_stream.specs.OpenGroups.{Opened, unclosed_onto}
+use Rattle.pm_stream.specs.Parsing.{ParsesTo, is_first}
+use Rattle.pm_stream.specs.Taken.{Taken, Waiting}
+
+-- what was read has the expansion of pieces up to the rest of the source; `first` says that there are none
+pub record Reads (base : ℕ) (source rest : List ℕ) (at : ℕ) (first : Bool) (groups : List Opened)
+    (trees : Forest) : Type 0 where
+  pub pieces : List Piece
+  pub covers : CoversUpTo pieces source rest
+  pub begins : is_first pieces ≡ first
+  pub position : at ≡ base + width pieces
+  pub expands : unclosed_onto groups trees [] ≡ expansion base pieces
+
+-- the openers of groups
+abbrev pub openers_of : List Opened → List Waiting
+openers_of [] = []
+openers_of (x ∷ groups) = (x.delimiter, x.lo) ∷ openers_of groups
+
+-- the sink took the events of these open groups and trees, which need not be there
+pub record Reading {S T : Type 0} (opens : T → Waiting) (took : S → Taken T → Type 0) (base : ℕ) (source passed : List ℕ)
+    (sink : S) (stack : List T) (groups : List Opened) (trees : Forest) : Type 0 where
+  pub around : map opens (reverse stack) ≡ openers_of groups
+  pub takes : took sink (record {
+    base = base;
+    source = source;
+    passed = passed;
+    opened = reverse stack;
+    events = unclosed_onto groups trees [];
+  })
+
+-- of these and then more
+pub record ReadsMore {S T : Type 0} (opens : T → Waiting) (took : S → Taken T → Type 0) (base : ℕ)
+    (source passed : List ℕ) (sink : S) (stack : List T) (groups : List Opened) (trees : Forest)
+    (events : List Event) : Type 0 where
+  pub groups_now : List Opened
+  pub trees_now : Forest
+  pub reads : Reading opens took base source passed sink stack groups_now trees_now
+  pub grows : unclosed_onto groups_now trees_now [] ≡ unclosed_onto groups trees events
+
+-- the step past the front of the text read these events more
+abbrev pub ReadsEvents : {S T : Type 0} → (T → Waiting) → (S → Taken T → Type 0) → ℕ → List ℕ → List ℕ → S → S
+    → List T → List T → List Event → Type 0
+ReadsEvents opens took at text front old new stack stack' events =
+    (base : ℕ) (source passed : List ℕ) (groups : List Opened) (trees : Forest)
+    → Reading opens took base source passed old stack groups trees
+    → (at ≡ base + length passed) × (source ≡ passed ++ text)
+    → ReadsMore opens took base source (passed ++ front) new stack' groups trees events
+
+-- what was read up to the rest of the source, and what the sink took of it
+pub record ReadsTo {S T : Type 0} (opens : T → Waiting) (took : S → Taken T → Type 0) (base : ℕ)
+    (source rest : List ℕ) (at : ℕ) (first : Bool) (sink : S) (stack : List T) : Type 0 where
+  pub groups : List Opened
+  pub trees : Forest
+  pub passed : List ℕ
+  pub whole : source ≡ passed ++ rest
+  pub position : at ≡ base + length passed
+  pub takes : Reading opens took base source passed sink stack groups trees
+  pub reads : Reads base source rest at first groups trees
+
+-- the sink took the events of the stream that the source parses to
+pub record ReadsAll {S : Type 0} {T : Type 0} (took : S → Taken T → Type 0) (base : ℕ) (source : List ℕ)
+    (sink : S) : Type 0 where
+  pub stream : Forest
+  pub parses : ParsesTo base source stream
+  pub takes : took sink
+      (record { base = base; source = source; passed = source; opened = []; events = flattening stream })
