@@ -243,7 +243,7 @@ reads_hollow form trees part rest reads =
           (subst (form (classes_of reads.piece)) rest_classes reads.stands);
     }
 
--- what is told of hollow trees is told of the trees
+-- what the grammar reads of hollow trees, it reads of the trees
 pub real_tells : (form : List Class → List Class → Type 0) (trees part rest : List TokenTree) (kind : ItemKind)
     (name : Option Name) → Reads form trees part rest → Tells (map hollow trees) (map hollow rest) kind name
     → Tells trees rest kind name

@@ -35,7 +35,7 @@ pub fn into_trees(stream: TokenStream) -> Result<Vec<TokenTree>, AllocError>
     stream.into_list()
 }
 
-/// The trees of the group, which keeps none.
+/// Takes the trees out of the group, which is empty afterwards.
 #[inline(always)]
 pub fn take_stream(group: &mut Group) -> TokenStream
     ensures value { result ≡ group.old.stream }

@@ -374,7 +374,7 @@ impl Group {
         self.span = span;
     }
 
-    /// Its trees, of which it keeps none.
+    /// Takes the trees out of the group, which is empty afterwards.
     #[inline(always)]
     pub(crate) fn take_stream(&mut self) -> TokenStream
         ensures value { result ≡ self.old.stream }

@@ -374,7 +374,7 @@ impl Group {
         self.span = span;
     }
 
-    /// Its trees, of which it keeps none.
+    /// Takes the trees out of the group, which is empty afterwards.
     #[cfg_attr(not(debug_assertions), inline(always))]
     pub(crate) fn take_stream(&mut self) -> TokenStream
     {
