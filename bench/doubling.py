@@ -11,9 +11,9 @@ calls of these names. BYTES is 50,000 if left out. All take about two hours of o
 
 valgrind counts: of a program, by cachegrind with no caches, all that it runs less what it runs on an empty text; of a
 call, by callgrind, what is within it, on a heap on which no count depends on what was freed before. libc is set so that
-it copies and frees in one way whatever the size. A row is over the limit if twice the text takes more than 2.1 times the
-instructions; one that takes fewer than one a byte grows by nothing that can be told. Rows over the limit are printed,
-and the last line is `N passed, M failed`. The status is 1 if any failed.
+it copies and frees in one way whatever the size. A row is over the limit if twice the text takes more than 2.1 times
+the instructions; one that takes fewer than one a byte grows by nothing that can be told. Rows over the limit are
+printed, and the last line is `N passed, M failed`. The status is 1 if any failed.
 """
 import argparse
 import concurrent.futures
@@ -30,9 +30,9 @@ sys.path.insert(0, str(HERE / "doubling"))
 from shapes import shapes, text_of  # noqa: E402
 
 LIMIT = 2.1
-# libc copies and frees in another way from some size on, and counts would take a step there that is no growth. Set so it
-# keeps to one way: no lists of small blocks that are joined later, and no copies by one instruction, of which valgrind
-# counts each byte.
+# libc copies and frees in another way from some size on, and counts would take a step there that is no growth. Set so
+# it keeps to one way: no lists of small blocks that are joined later, and no copies by one instruction, of which
+# valgrind counts each byte.
 LIBC = {"GLIBC_TUNABLES": "glibc.malloc.mxfast=0:glibc.cpu.x86_rep_movsb_threshold=0x10000000"
                           ":glibc.cpu.x86_rep_stosb_threshold=0x10000000"}
 # The words after `tokens`; `-` is the text's path, and with none the text is standard input.

@@ -288,7 +288,8 @@ neat() {
     local example
     cargo clippy --version > /dev/null 2>&1 || return
     for example in "$@"; do
-        try "clippy on example/$example" in_copy "example/$example" clippy --offline --quiet --all-targets -- -D warnings
+        try "clippy on example/$example" \
+            in_copy "example/$example" clippy --offline --quiet --all-targets -- -D warnings
     done
 }
 

@@ -146,8 +146,8 @@ def unescaped(found: re.Match) -> str:
 
 
 def text_of(shape: tuple[str, ...], size: int) -> str:
-    """A text of the shape, of about so many bytes. The number of parts is odd: where a quote opens in one part and closes
-    in the next, the last stays open in texts of each size."""
+    """A text of the shape, of about so many bytes. The number of parts is odd: where a quote opens in one part and
+    closes in the next, the last stays open in texts of each size."""
     _, first, part, inside, closing, last = (*shape, *[""] * (6 - len(shape)))
     length = lambda text: len(text.encode())
     count = max(1, (size - length(first + inside + last)) // length(part + closing)) | 1

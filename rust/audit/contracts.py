@@ -141,8 +141,9 @@ pub trait T {
 PAGE = '<a id="std.IsTrue"></a> <a id="std.A"></a> <a id="lexical.Size.is_small"></a>'
 PLANTED = [('≢', '≡'), (' ok', ''), ('ensures ok', 'requires ok'), ('[IsTrue] (', '('), ('std.IsTrue', 'std.IsFalse'),
            ('Size.is', 'Sizes.is'), ('/// # Contract\n', ''), ('"', "'"), ('pub fn add', 'pub fn added'),
-           ('/// - `requires`: <code>[IsTrue] ([is_small] a.now) × (s ≢ \\[\\])</code>\n', ''), ('fn own', 'fn own_\n'
-            '/// # Contract\n///\n/// - `requires`: <code>x</code>\nfn own'), ('<code>[A](crate::contracts#std.A)', 'A'),
+           ('/// - `requires`: <code>[IsTrue] ([is_small] a.now) × (s ≢ \\[\\])</code>\n', ''),
+           ('fn own', 'fn own_\n/// # Contract\n///\n/// - `requires`: <code>x</code>\nfn own'),
+           ('<code>[A](crate::contracts#std.A)', 'A'),
            ('(crate::contracts#std.A)', '(crate::contracts#std.B)')]
 
 

@@ -27,7 +27,9 @@ KEYWORDS = {'as', 'else', 'if', 'in', 'let', 'record', 'result', 'self', 'Self',
 # What clauses name without an import: of Rattle's own library, and of Rust its traits, and types named by one letter.
 GIVEN = {name: ('Rattle.std.specs.Prelude', name) for name in ('Err', 'None', 'Ok', 'Some')}
 RUST = {'Hash', 'Ord', 'Ordering', 'PartialEq', 'PartialOrd', *'ABCDEFGHIJKLMNOPQRSTUVWXYZ'}
-WIDTH = 120
+# A line of an item may have so many columns: those of methods are indented by four more, and a mark such as `++`, which
+# must not begin a line, may follow.
+WIDTH = 112
 
 
 class Words:

@@ -372,7 +372,7 @@ def drop_derives(file):
 
 @rule
 def drop_bounds(file):
-    """Leaves out the bound `Drop`, which every type of Rust meets, of a type parameter and of a trait's associated type.
+    """Leaves out the bound `Drop` of type parameters and of associated types, since every type of Rust meets it.
 
         trait Sink { type Opened: Drop; type Made: Copy + Drop; } fn pass<R: BufRead + Drop, T: Drop>(r: R, t: T) {}
         => trait Sink { type Opened; type Made: Copy; } fn pass<R: BufRead, T>(r: R, t: T) {}

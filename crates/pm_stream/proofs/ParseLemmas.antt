@@ -75,8 +75,8 @@ fault_is base source at reason (Lex extent) fault h =
 fault_is base source at reason MapFull fault h = absurd h
 fault_is base source at reason (Memory error) fault h = tt
 
-pub stray_at : (base : ℕ) (source mid front rest : List ℕ) (at : ℕ) (first : Bool) (groups : List Opened) (trees : Forest)
-    (kind : PieceKind)
+pub stray_at : (base : ℕ) (source mid front rest : List ℕ) (at : ℕ) (first : Bool) (groups : List Opened)
+    (trees : Forest) (kind : PieceKind)
     → Reads base source mid at first groups trees → mid ≡ front ++ rest
     → IsPiece first (kind_of kind front) front rest → IsStray kind groups → FaultAt base source at
 stray_at base source mid front rest at first groups trees FrontMark reads whole stands stray = absurd stray

@@ -17,7 +17,8 @@ use Rattle.pm_stream.specs.ParserState.{Adds, Parses}
 use Rattle.pm_stream.specs.Taken.{Taken, past, position}
 use Rattle.pm_stream.specs.declared.parse.Frame.{Frame}
 use Rattle.pm_stream.specs.declared.parse.Parser.{Parser}
-use Rattle.pm_stream.proofs.OpenGroupLemmas.{unclosed_in, unclosed-push, unclosed-close, with_closed, closed, nested_more}
+use Rattle.pm_stream.proofs.OpenGroupLemmas.{unclosed_in, unclosed-push, unclosed-close, with_closed}
+use Rattle.pm_stream.proofs.OpenGroupLemmas.{closed, nested_more}
 use Rattle.pm_stream.proofs.OpenGroupLemmas.{nested_before, built_later, built_push, IsBuiltIn}
 
 abbrev with_events : Taken Frame → List Event → Taken Frame
@@ -136,7 +137,8 @@ parses_close old new frame outer taken front d at more same e was h =
     let hi = at + 1 in
     let nested : IsNested (frame ∷ outer) (length trees) = subst (λ fs. IsNested fs (length trees)) was h.nested in
     let built : IsBuiltIn at (frame ∷ outer) trees =
-    subst (λ n. IsBuiltIn n (frame ∷ outer) trees) (sym e) (subst (λ fs. IsBuiltIn (position taken) fs trees) was h.built) in
+    subst (λ n. IsBuiltIn n (frame ∷ outer) trees) (sym e) (subst (λ fs. IsBuiltIn (position taken) fs trees) was
+    h.built) in
     let events : unclosed_in (frame ∷ outer) trees [] ≡ taken.events =
     subst (λ fs. unclosed_in fs trees [] ≡ taken.events) was h.events in
     let before = take frame.before trees in

@@ -1,5 +1,6 @@
 -- What the loop over pieces has read, with one step more, and how it ends.
-use Rattle.std.proofs.Common.{◌≡◌, ◌≢◌, ◌⊎◌, inl, inr, ℕ, ◌+◌, ◌||◌, ◌==◌, Bool, true, false, List, [], ◌∷◌, ◌++◌, length}
+use Rattle.std.proofs.Common.{◌≡◌, ◌≢◌, ◌⊎◌, inl, inr, ℕ, ◌+◌, ◌||◌, ◌==◌}
+use Rattle.std.proofs.Common.{Bool, true, false, List, [], ◌∷◌, ◌++◌, length}
 use Rattle.std.proofs.Common.{◌<◌, reverse, map, refl, sym, ap, ap₂, ◌∙◌, subst, append_assoc, append-nil, eqb-true}
 use Rattle.std.proofs.Common.{Result, Ok, Err, Option, Some, None, MatchOption, IfSome, OnOk, IfErr, arith}
 use Rattle.std.proofs.lemmas.List.{reverse-append}
@@ -375,7 +376,8 @@ module _ {S T : Type 0} (opens : T → Waiting) (took : S → Taken T → Type 0
         (sym (whole ∙ (ap (λ r. passed ++ r) done ∙ append-nil passed))) h.takes);
   }
   all_of base source rest passed at first sink stack (x ∷ groups) trees none done whole h reads =
-      let clash : [] ≡ (x.delimiter, x.lo) ∷ openers_of groups = sym (ap (λ s. map opens (reverse s)) none) ∙ h.around in
+      let clash : [] ≡ (x.delimiter, x.lo) ∷ openers_of groups = sym (ap (λ s. map opens (reverse s)) none)
+      ∙ h.around in
       cc
 
   pub reads_ok : {E : Type 0} (base : ℕ) (source rest : List ℕ) (at : ℕ) (first : Bool) (sink : S) (stack : List T)

@@ -23,8 +23,8 @@ openers_of [] = []
 openers_of (x ∷ groups) = (x.delimiter, x.lo) ∷ openers_of groups
 
 -- the sink took the events of these open groups and trees, which need not be there
-pub record Reading {S T : Type 0} (opens : T → Waiting) (took : S → Taken T → Type 0) (base : ℕ) (source passed : List ℕ)
-    (sink : S) (stack : List T) (groups : List Opened) (trees : Forest) : Type 0 where
+pub record Reading {S T : Type 0} (opens : T → Waiting) (took : S → Taken T → Type 0) (base : ℕ)
+    (source passed : List ℕ) (sink : S) (stack : List T) (groups : List Opened) (trees : Forest) : Type 0 where
   pub around : map opens (reverse stack) ≡ openers_of groups
   pub takes : took sink (record {
     base = base;

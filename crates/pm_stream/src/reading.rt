@@ -1,7 +1,8 @@
 //! The one loop over the pieces of a text. Delimiters are matched here, and nowhere else.
 //!
 //! What makes something of a text's tokens is a [`TokenSink`], and [`read`] gives it the tokens in order.
-ghost use Rattle.std.specs.Prelude.{◌≡◌, ◌≢◌, ◌≤◌, ◌+◌, ◌<◌, ◌^◌, ◌⊎◌, ◌++◌, ℕ, Bool, List, [], ◌∷◌, length, reverse, map};
+ghost use Rattle.std.specs.Prelude.{◌≡◌, ◌≢◌, ◌≤◌, ◌+◌, ◌<◌, ◌^◌, ◌⊎◌, ◌++◌, ℕ};
+ghost use Rattle.std.specs.Prelude.{Bool, List, [], ◌∷◌, length, reverse, map};
 ghost use Rattle.std.specs.Prelude.{IfErr, IfNone, IfOk, IfSome, MatchOption, OnOk, false, true};
 ghost use Rattle.std.specs.Str.{chars};
 ghost use Rattle.lexical.specs.Found.{IsPieceAt, kind_of};
@@ -110,8 +111,8 @@ pub trait TokenSink {
     /// the text behind that piece.
     fn white(&mut self, text: &str, size: usize)
         requires stands { (rest : List ℕ) × IsPastWhite (chars text.now) rest size }
-        requires took { (before : Taken Self.Opened) × took self.old before × (before.source ≡ before.passed ++ chars text.now)
-            × (position before + size < 2 ^ 32) }
+        requires took { (before : Taken Self.Opened) × took self.old before
+            × (before.source ≡ before.passed ++ chars text.now) × (position before + size < 2 ^ 32) }
         ensures { (before : Taken Self.Opened) (front rest : List ℕ) → took self.old before
             → before.source ≡ before.passed ++ chars text.now → chars text.now ≡ front ++ rest → size ≡ length front
             → took self.new (past before front before.opened []) };
@@ -180,8 +181,8 @@ pub fn walk<'t, S: TokenSink>(
 ) -> Result<Ending<'t, S::Opened>, AllocError>
     requires room { base + length (chars text.now) < 2 ^ 32 }
     requires starts { S.took sink.old (nothing base (chars text.now)) }
-    ensures reads { IfOk result (λ ending. ReadsTo S.opens S.took base (chars text.now) (chars ending.rest.now) ending.at
-        ending.first sink.new ending.opened.items) }
+    ensures reads { IfOk result (λ ending. ReadsTo S.opens S.took base (chars text.now) (chars ending.rest.now)
+        ending.at ending.first sink.new ending.opened.items) }
     ensures stops { IfOk result (λ ending. MatchOption ending.stray
         (HasNoPiece ending.first (chars ending.rest.now))
         (λ piece. IsPieceAt ending.first (chars ending.rest.now) piece × ((waiting : List Opened)
@@ -253,7 +254,8 @@ fn take<S: TokenSink>(
     requires reads { (base : ℕ) × (source passed : List ℕ) × (waiting : List Opened) × (trees : Forest)
         × Reading S.opens S.took base source passed sink.old opened.old.items waiting trees
         × (at ≡ base + length passed) × (source ≡ passed ++ chars text.now) }
-    ensures ok { IfOk result (λ taken. taken ≡ true → (first : Bool) (front rest : List ℕ) → chars text.now ≡ front ++ rest
+    ensures ok { IfOk result (λ taken. taken ≡ true → (first : Bool) (front rest : List ℕ)
+        → chars text.now ≡ front ++ rest
         → piece.entry.chars ≡ length front → IsPiece first (kind_of piece.entry.kind front) front rest
         → ReadsEvents S.opens S.took at (chars text.now) front sink.old sink.new opened.old.items opened.new.items
         (events_onto at (kind_of piece.entry.kind front) front [])) }

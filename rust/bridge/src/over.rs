@@ -22,8 +22,8 @@ struct Open {
 ///
 /// # Errors
 ///
-/// The first token that isn't one of the grammar of `proved-tokens`, as a literal that only the caller's crate reads: of
-/// the public crate `'''`. The table then keeps the spans of the trees before it.
+/// The first token that isn't one of the grammar of `proved-tokens`, as a literal that only the caller's crate reads:
+/// of the public crate `'''`. The table then keeps the spans of the trees before it.
 pub fn to_proved(stream: &proc_macro2::TokenStream, spans: &mut Spans) -> Result<TokenStream, NoToken> {
     let mut open: Vec<Open> = Vec::new();
     let mut trees = TokenStream::new();

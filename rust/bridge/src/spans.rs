@@ -5,8 +5,8 @@ use proved_tokens::pm_span::Span as Place;
 use std::error::Error;
 use std::fmt::{self, Display};
 
-/// The first number. The positions of texts that are read into a map of `proved-tokens` are below it, so that the spans of
-/// a template's tokens stand for no token of the caller.
+/// The first number. The positions of texts that are read into a map of `proved-tokens` are below it, so that the spans
+/// of a template's tokens stand for no token of the caller.
 const FIRST: u32 = 1 << 31;
 
 /// The caller's spans, each of which a span of a proved token stands for.

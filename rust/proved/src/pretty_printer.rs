@@ -49,8 +49,8 @@ impl<'a> Chooser for Printer<'a> {
 ///   text)))</code>
 /// - `ensures back`: <code>[IfOk] result (λ text. [ReadsBack] ([respaced] stream.now) ([chars] ([string_bytes]
 ///   text)))</code>
-/// - `ensures unchanged`: <code>[IfOk] result (λ text. [IsWellSpaced] stream.now → [IsLayout] stream.now ([chars]
-///   ([string_bytes] text)) × [ReadsBack] stream.now ([chars] ([string_bytes] text)))</code>
+/// - `ensures unchanged`: <code>[IfOk] result (λ text. [IsWellSpaced] stream.now → [IsLayout] stream.now
+///   ([chars] ([string_bytes] text)) × [ReadsBack] stream.now ([chars] ([string_bytes] text)))</code>
 /// - `ensures fault`: <code>[IfErr] result ([IsFaultOf] stream.now)</code>
 /// - `ensures hopeless`: <code>[IfErr] result ([HopelessIfNamed] stream.now)</code>
 ///

@@ -1,7 +1,7 @@
 //! The jobs that `bench/run` times, for scripts that count their instructions or look at all of their answers.
 //!
-//! The modules are those of `crates/workloads`, made into plain Rust by `rust/erase` as those of [`proved_tokens`] are. By
-//! hand are `fails.rs`, whose Rattle source has derives of the toolchain, `shim.rs` and each `main`.
+//! The modules are those of `crates/workloads`, made into plain Rust by `rust/erase` as those of [`proved_tokens`] are.
+//! By hand are `fails.rs`, whose Rattle source has derives of the toolchain, `shim.rs` and each `main`.
 #![forbid(unsafe_code)]
 
 pub mod fails;

@@ -66,8 +66,10 @@ pub struct AnyItem<'a> {
 ///
 /// # Contract
 ///
-/// - `ensures ok`: <code>[IfOk] result (λ found. [Reads] [IsAnyItem] trees.now found.0.trees.now found.1.now)</code>
-/// - `ensures only`: <code>[IfOk] result (λ found. [IsOnly] [IsAnyItem] trees.now found.0.trees.now found.1.now)</code>
+/// - `ensures ok`: <code>[IfOk] result (λ found. [Reads] [IsAnyItem] trees.now found.0.trees.now
+///   found.1.now)</code>
+/// - `ensures only`: <code>[IfOk] result (λ found. [IsOnly] [IsAnyItem] trees.now found.0.trees.now
+///   found.1.now)</code>
 /// - `ensures fewer`: <code>[IfOk] result (λ found. [length] found.1.now &lt; [length] trees.now)</code>
 /// - `ensures told`: <code>[IfOk] result (λ found. (name : [Option] [Name]) × [Tells] trees.now found.1.now
 ///   found.0.kind name × [MatchOption] found.0.name (name ≡ [None]) (λ ident. name ≡ [Some] ident.now))</code>

@@ -72,8 +72,8 @@ impl<'a> Iterator for Attributes<'a> {
 ///
 /// # Contract
 ///
-/// - `ensures found`: <code>[MatchOption] result ([attributes_in] trees.now ≡ \[\]) (λ found. [attributes_in] trees.now
-///   ≡ [parts_of] found.0 ∷ [attributes_in] found.1.now)</code>
+/// - `ensures found`: <code>[MatchOption] result ([attributes_in] trees.now ≡ \[\]) (λ found. [attributes_in]
+///   trees.now ≡ [parts_of] found.0 ∷ [attributes_in] found.1.now)</code>
 /// - `ensures parts`: <code>[IfSome] result (λ found. [IsAttributeAt] trees.now found.0 found.1.now)</code>
 ///
 /// [MatchOption]: crate::contracts#std.MatchOption

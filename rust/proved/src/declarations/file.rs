@@ -41,8 +41,8 @@ pub struct Items<'a> {
 /// - `ensures ok`: <code>[IfOk] result (λ file. [IsFile] trees.now file.inner.now file.items.left.now)</code>
 /// - `ensures fault`: <code>[IfErr] result (λ fault. [FileFaultAt] trees.now fault.at)</code>
 /// - `ensures span`: <code>[IfErr] result (λ fault. fault.span ≡ [extent_at] trees.now fault.at)</code>
-/// - `ensures none`: <code>[IfErr] result (λ fault. (inner : [List] Tree) → (items : [List] Tree) → [IsFile] trees.now
-///   inner items → ⊥)</code>
+/// - `ensures none`: <code>[IfErr] result (λ fault. (inner : [List] Tree) → (items : [List] Tree) → [IsFile]
+///   trees.now inner items → ⊥)</code>
 ///
 /// [IfOk]: crate::contracts#std.IfOk
 /// [IsFile]: crate::contracts#declarations.File.IsFile
@@ -80,10 +80,12 @@ pub fn parse_file(trees: &[TokenTree]) -> Result<File<'_>, Fault>
 ///
 /// # Contract
 ///
-/// - `ensures ok`: <code>[IfOk] result (λ item. [ReadsAll] [IsAnyItem] trees.now × (item.trees.now ≡ trees.now))</code>
-/// - `ensures told`: <code>[IfOk] result (λ item. (name : [Option] [Name]) × [Tells] trees.now \[\] item.kind name ×
-///   [MatchOption] item.name (name ≡ [None]) (λ ident. name ≡ [Some] ident.now))</code>
-/// - `ensures fault`: <code>[IfErr] result (λ fault. [FaultAt] ([IsWhole] [IsAnyItem]) trees.now fault.at)</code>
+/// - `ensures ok`: <code>[IfOk] result (λ item. [ReadsAll] [IsAnyItem] trees.now × (item.trees.now ≡
+///   trees.now))</code>
+/// - `ensures told`: <code>[IfOk] result (λ item. (name : [Option] [Name]) × [Tells] trees.now \[\] item.kind
+///   name × [MatchOption] item.name (name ≡ [None]) (λ ident. name ≡ [Some] ident.now))</code>
+/// - `ensures fault`: <code>[IfErr] result (λ fault. [FaultAt] ([IsWhole] [IsAnyItem]) trees.now
+///   fault.at)</code>
 /// - `ensures span`: <code>[IfErr] result (λ fault. fault.span ≡ [extent_at] trees.now fault.at)</code>
 ///
 /// [IfOk]: crate::contracts#std.IfOk
@@ -142,8 +144,8 @@ impl<'a> AnyItem<'a> {
     ///
     /// # Contract
     ///
-    /// - `ensures`: <code>[MatchOption] result ([body_of] self.now.kind self.now.trees.now ≡ [None]) (λ group. [body_of]
-    ///   self.now.kind self.now.trees.now ≡ [Some] group.now)</code>
+    /// - `ensures`: <code>[MatchOption] result ([body_of] self.now.kind self.now.trees.now ≡ [None]) (λ group.
+    ///   [body_of] self.now.kind self.now.trees.now ≡ [Some] group.now)</code>
     ///
     /// [MatchOption]: crate::contracts#std.MatchOption
     /// [body_of]: crate::contracts#declarations.File.body_of

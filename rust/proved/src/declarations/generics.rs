@@ -78,8 +78,8 @@ pub fn within_generics(generics: &[TokenTree]) -> Result<&[TokenTree], Fault>
 /// # Contract
 ///
 /// - `ensures ok`: <code>[IfOk] result (λ inside. [IsAfterWhere] where_clause.now inside.now)</code>
-/// - `ensures fault`: <code>[IfErr] result (λ fault. (inside : [List] Tree) → [IsAfterWhere] where_clause.now inside →
-///   ⊥)</code>
+/// - `ensures fault`: <code>[IfErr] result (λ fault. (inside : [List] Tree) → [IsAfterWhere] where_clause.now
+///   inside → ⊥)</code>
 /// - `ensures span`: <code>[IfErr] result (λ fault. fault.span ≡ [extent_at] where_clause.now fault.at)</code>
 ///
 /// [IfOk]: crate::contracts#std.IfOk
@@ -109,11 +109,13 @@ pub fn after_where(where_clause: &[TokenTree]) -> Result<&[TokenTree], Fault>
 ///
 /// # Contract
 ///
-/// - `ensures ok`: <code>[IfOk] result (λ found. [IsParamAt] trees.now ([param_trees] found.0) found.1.now)</code>
-/// - `ensures only`: <code>[IfOk] result (λ found. [IsOnlyParam] trees.now ([param_trees] found.0) found.1.now)</code>
+/// - `ensures ok`: <code>[IfOk] result (λ found. [IsParamAt] trees.now ([param_trees] found.0)
+///   found.1.now)</code>
+/// - `ensures only`: <code>[IfOk] result (λ found. [IsOnlyParam] trees.now ([param_trees] found.0)
+///   found.1.now)</code>
 /// - `ensures fewer`: <code>[IfOk] result (λ found. [length] found.1.now &lt; [length] trees.now)</code>
-/// - `ensures fault`: <code>[IfErr] result (λ fault. (param : [ParamTrees]) → (rest : [List] Tree) → [IsParamAt]
-///   trees.now param rest → ⊥)</code>
+/// - `ensures fault`: <code>[IfErr] result (λ fault. (param : [ParamTrees]) → (rest : [List] Tree) →
+///   [IsParamAt] trees.now param rest → ⊥)</code>
 /// - `ensures within`: <code>[IfErr] result (λ fault. fault.at ≤ [length] trees.now)</code>
 /// - `ensures span`: <code>[IfErr] result (λ fault. fault.span ≡ [extent_at] trees.now fault.at)</code>
 ///

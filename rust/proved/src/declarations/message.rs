@@ -39,7 +39,8 @@ impl Fault {
 ///
 /// # Contract
 ///
-/// - `ensures`: <code>[IfOk] result (λ stream. stream ≡ [forest] ([compile_error] ([chars] text.now) span))</code>
+/// - `ensures`: <code>[IfOk] result (λ stream. stream ≡ [forest] ([compile_error] ([chars] text.now)
+///   span))</code>
 ///
 /// [IfOk]: crate::contracts#std.IfOk
 /// [forest]: crate::contracts#pm_stream.Trees.forest

@@ -63,7 +63,8 @@ pub fn split_type(trees: &[TokenTree]) -> Result<(&[TokenTree], &[TokenTree]), F
 /// # Contract
 ///
 /// - `ensures ok`: <code>[IfOk] result (λ found. [Reads] [AreBounds] trees.now found.0.now found.1.now)</code>
-/// - `ensures only`: <code>[IfOk] result (λ found. [IsOnly] [AreBounds] trees.now found.0.now found.1.now)</code>
+/// - `ensures only`: <code>[IfOk] result (λ found. [IsOnly] [AreBounds] trees.now found.0.now
+///   found.1.now)</code>
 /// - `ensures fault`: <code>[IfErr] result (λ fault. [FaultAt] [AreBounds] trees.now fault.at)</code>
 /// - `ensures span`: <code>[IfErr] result (λ fault. fault.span ≡ [extent_at] trees.now fault.at)</code>
 ///
@@ -85,8 +86,10 @@ pub fn split_bounds(trees: &[TokenTree]) -> Result<(&[TokenTree], &[TokenTree]),
 ///
 /// # Contract
 ///
-/// - `ensures ok`: <code>[IfOk] result (λ found. [Reads] [AreAttributes] trees.now found.0.now found.1.now)</code>
-/// - `ensures only`: <code>[IfOk] result (λ found. [IsOnly] [AreAttributes] trees.now found.0.now found.1.now)</code>
+/// - `ensures ok`: <code>[IfOk] result (λ found. [Reads] [AreAttributes] trees.now found.0.now
+///   found.1.now)</code>
+/// - `ensures only`: <code>[IfOk] result (λ found. [IsOnly] [AreAttributes] trees.now found.0.now
+///   found.1.now)</code>
 /// - `ensures fault`: <code>[IfErr] result (λ fault. [FaultAt] [AreAttributes] trees.now fault.at)</code>
 /// - `ensures span`: <code>[IfErr] result (λ fault. fault.span ≡ [extent_at] trees.now fault.at)</code>
 ///
@@ -113,8 +116,10 @@ pub fn split_attributes(trees: &[TokenTree]) -> Result<(&[TokenTree], &[TokenTre
 ///
 /// # Contract
 ///
-/// - `ensures ok`: <code>[IfOk] result (λ found. [Reads] [IsVisibility] trees.now found.0.now found.1.now)</code>
-/// - `ensures only`: <code>[IfOk] result (λ found. [IsOnly] [IsVisibility] trees.now found.0.now found.1.now)</code>
+/// - `ensures ok`: <code>[IfOk] result (λ found. [Reads] [IsVisibility] trees.now found.0.now
+///   found.1.now)</code>
+/// - `ensures only`: <code>[IfOk] result (λ found. [IsOnly] [IsVisibility] trees.now found.0.now
+///   found.1.now)</code>
 /// - `ensures fault`: <code>[IfErr] result (λ fault. [FaultAt] [IsVisibility] trees.now fault.at)</code>
 /// - `ensures span`: <code>[IfErr] result (λ fault. fault.span ≡ [extent_at] trees.now fault.at)</code>
 ///
@@ -163,8 +168,10 @@ pub fn split_field(trees: &[TokenTree]) -> Result<(&[TokenTree], &[TokenTree]), 
 ///
 /// # Contract
 ///
-/// - `ensures ok`: <code>[IfOk] result (λ found. [Reads] [IsTupleField] trees.now found.0.now found.1.now)</code>
-/// - `ensures only`: <code>[IfOk] result (λ found. [IsOnly] [IsTupleField] trees.now found.0.now found.1.now)</code>
+/// - `ensures ok`: <code>[IfOk] result (λ found. [Reads] [IsTupleField] trees.now found.0.now
+///   found.1.now)</code>
+/// - `ensures only`: <code>[IfOk] result (λ found. [IsOnly] [IsTupleField] trees.now found.0.now
+///   found.1.now)</code>
 /// - `ensures fault`: <code>[IfErr] result (λ fault. [FaultAt] [IsTupleField] trees.now fault.at)</code>
 /// - `ensures span`: <code>[IfErr] result (λ fault. fault.span ≡ [extent_at] trees.now fault.at)</code>
 ///
@@ -192,7 +199,8 @@ pub fn split_tuple_field(trees: &[TokenTree]) -> Result<(&[TokenTree], &[TokenTr
 /// # Contract
 ///
 /// - `ensures ok`: <code>[IfOk] result (λ found. [Reads] [AreFields] trees.now found.0.now found.1.now)</code>
-/// - `ensures only`: <code>[IfOk] result (λ found. [IsOnly] [AreFields] trees.now found.0.now found.1.now)</code>
+/// - `ensures only`: <code>[IfOk] result (λ found. [IsOnly] [AreFields] trees.now found.0.now
+///   found.1.now)</code>
 /// - `ensures fault`: <code>[IfErr] result (λ fault. [FaultAt] [AreFields] trees.now fault.at)</code>
 /// - `ensures span`: <code>[IfErr] result (λ fault. fault.span ≡ [extent_at] trees.now fault.at)</code>
 ///
@@ -213,8 +221,10 @@ pub fn split_fields(trees: &[TokenTree]) -> Result<(&[TokenTree], &[TokenTree]),
 ///
 /// # Contract
 ///
-/// - `ensures ok`: <code>[IfOk] result (λ found. [Reads] [AreTupleFields] trees.now found.0.now found.1.now)</code>
-/// - `ensures only`: <code>[IfOk] result (λ found. [IsOnly] [AreTupleFields] trees.now found.0.now found.1.now)</code>
+/// - `ensures ok`: <code>[IfOk] result (λ found. [Reads] [AreTupleFields] trees.now found.0.now
+///   found.1.now)</code>
+/// - `ensures only`: <code>[IfOk] result (λ found. [IsOnly] [AreTupleFields] trees.now found.0.now
+///   found.1.now)</code>
 /// - `ensures fault`: <code>[IfErr] result (λ fault. [FaultAt] [AreTupleFields] trees.now fault.at)</code>
 /// - `ensures span`: <code>[IfErr] result (λ fault. fault.span ≡ [extent_at] trees.now fault.at)</code>
 ///
@@ -242,7 +252,8 @@ pub fn split_tuple_fields(trees: &[TokenTree]) -> Result<(&[TokenTree], &[TokenT
 /// # Contract
 ///
 /// - `ensures ok`: <code>[IfOk] result (λ found. [Reads] [IsVariant] trees.now found.0.now found.1.now)</code>
-/// - `ensures only`: <code>[IfOk] result (λ found. [IsOnly] [IsVariant] trees.now found.0.now found.1.now)</code>
+/// - `ensures only`: <code>[IfOk] result (λ found. [IsOnly] [IsVariant] trees.now found.0.now
+///   found.1.now)</code>
 /// - `ensures fault`: <code>[IfErr] result (λ fault. [FaultAt] [IsVariant] trees.now fault.at)</code>
 /// - `ensures span`: <code>[IfErr] result (λ fault. fault.span ≡ [extent_at] trees.now fault.at)</code>
 ///
@@ -264,8 +275,10 @@ pub fn split_variant(trees: &[TokenTree]) -> Result<(&[TokenTree], &[TokenTree])
 ///
 /// # Contract
 ///
-/// - `ensures ok`: <code>[IfOk] result (λ found. [Reads] [AreVariants] trees.now found.0.now found.1.now)</code>
-/// - `ensures only`: <code>[IfOk] result (λ found. [IsOnly] [AreVariants] trees.now found.0.now found.1.now)</code>
+/// - `ensures ok`: <code>[IfOk] result (λ found. [Reads] [AreVariants] trees.now found.0.now
+///   found.1.now)</code>
+/// - `ensures only`: <code>[IfOk] result (λ found. [IsOnly] [AreVariants] trees.now found.0.now
+///   found.1.now)</code>
 /// - `ensures fault`: <code>[IfErr] result (λ fault. [FaultAt] [AreVariants] trees.now fault.at)</code>
 /// - `ensures span`: <code>[IfErr] result (λ fault. fault.span ≡ [extent_at] trees.now fault.at)</code>
 ///
@@ -293,8 +306,10 @@ pub fn split_variants(trees: &[TokenTree]) -> Result<(&[TokenTree], &[TokenTree]
 ///
 /// # Contract
 ///
-/// - `ensures ok`: <code>[IfOk] result (λ found. [Reads] [IsExpression] trees.now found.0.now found.1.now)</code>
-/// - `ensures only`: <code>[IfOk] result (λ found. [IsOnly] [IsExpression] trees.now found.0.now found.1.now)</code>
+/// - `ensures ok`: <code>[IfOk] result (λ found. [Reads] [IsExpression] trees.now found.0.now
+///   found.1.now)</code>
+/// - `ensures only`: <code>[IfOk] result (λ found. [IsOnly] [IsExpression] trees.now found.0.now
+///   found.1.now)</code>
 /// - `ensures fault`: <code>[IfErr] result (λ fault. [FaultAt] [IsExpression] trees.now fault.at)</code>
 /// - `ensures span`: <code>[IfErr] result (λ fault. fault.span ≡ [extent_at] trees.now fault.at)</code>
 ///
@@ -317,8 +332,10 @@ pub fn split_expression(trees: &[TokenTree]) -> Result<(&[TokenTree], &[TokenTre
 ///
 /// # Contract
 ///
-/// - `ensures ok`: <code>[IfOk] result (λ found. [Reads] [AreGenerics] trees.now found.0.now found.1.now)</code>
-/// - `ensures only`: <code>[IfOk] result (λ found. [IsOnly] [AreGenerics] trees.now found.0.now found.1.now)</code>
+/// - `ensures ok`: <code>[IfOk] result (λ found. [Reads] [AreGenerics] trees.now found.0.now
+///   found.1.now)</code>
+/// - `ensures only`: <code>[IfOk] result (λ found. [IsOnly] [AreGenerics] trees.now found.0.now
+///   found.1.now)</code>
 /// - `ensures fault`: <code>[IfErr] result (λ fault. [FaultAt] [AreGenerics] trees.now fault.at)</code>
 /// - `ensures span`: <code>[IfErr] result (λ fault. fault.span ≡ [extent_at] trees.now fault.at)</code>
 ///
@@ -387,7 +404,8 @@ pub fn split_item(trees: &[TokenTree]) -> Result<(&[TokenTree], &[TokenTree]), F
 ///
 /// # Contract
 ///
-/// - `ensures ok`: <code>[IfOk] result (λ found. [Reads] [AreInnerAttributes] trees.now found.0.now found.1.now)</code>
+/// - `ensures ok`: <code>[IfOk] result (λ found. [Reads] [AreInnerAttributes] trees.now found.0.now
+///   found.1.now)</code>
 /// - `ensures only`: <code>[IfOk] result (λ found. [IsOnly] [AreInnerAttributes] trees.now found.0.now
 ///   found.1.now)</code>
 /// - `ensures fault`: <code>[IfErr] result (λ fault. [FaultAt] [AreInnerAttributes] trees.now fault.at)</code>

@@ -12,7 +12,8 @@ use crate::pm_token::{Delimiter, Ident, Spacing};
 ///
 /// # Contract
 ///
-/// - `ensures`: <code>[MatchOption] result (trees.now ≡ \[\]) (λ sign. [BeginsWith] trees.now sign.0 sign.1.now)</code>
+/// - `ensures`: <code>[MatchOption] result (trees.now ≡ \[\]) (λ sign. [BeginsWith] trees.now sign.0
+///   sign.1.now)</code>
 ///
 /// [MatchOption]: crate::contracts#std.MatchOption
 /// [BeginsWith]: crate::contracts#declarations.Signs.BeginsWith

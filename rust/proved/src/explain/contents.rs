@@ -30,8 +30,8 @@ pub enum Step<'a> {
 /// # Contract
 ///
 /// - `requires`: <code>(quote : ℕ) × (quote &lt; 128) × [IsInside] quote at end</code>
-/// - `ensures`: <code>(quote : ℕ) (left : [List] ℕ) → quote &lt; 128 → [IsLeft] quote left at.entry end.entry → [chars]
-///   result.now ≡ left</code>
+/// - `ensures`: <code>(quote : ℕ) (left : [List] ℕ) → quote &lt; 128 → [IsLeft] quote left at.entry end.entry →
+///   [chars] result.now ≡ left</code>
 ///
 /// [IsInside]: crate::contracts#explain.Walk.IsInside
 /// [List]: crate::contracts#std.List

@@ -21,10 +21,10 @@ use crate::shim::alloc::AllocError;
 ///
 /// # Contract
 ///
-/// - `ensures answer`: <code>[IfOk] result (λ answer. [MatchOption] answer ([Parses] ([next_lo] [new_map]) ([chars]
-///   text.now)) ([IsExplained] ([next_lo] [new_map]) ([chars] text.now)))</code>
-/// - `ensures map_full`: <code>(result ≡ [Err] ExplainError.MapFull) ↔ ([Fits] [new_map] ([length] ([chars] text.now))
-///   → ⊥)</code>
+/// - `ensures answer`: <code>[IfOk] result (λ answer. [MatchOption] answer ([Parses] ([next_lo] [new_map])
+///   ([chars] text.now)) ([IsExplained] ([next_lo] [new_map]) ([chars] text.now)))</code>
+/// - `ensures map_full`: <code>(result ≡ [Err] ExplainError.MapFull) ↔ ([Fits] [new_map] ([length] ([chars]
+///   text.now)) → ⊥)</code>
 /// - `ensures fits`: <code>[IfOk] result (λ answer. [Fits] [new_map] ([length] ([chars] text.now)))</code>
 ///
 /// [IfOk]: crate::contracts#std.IfOk
@@ -103,9 +103,9 @@ fn refused(refusal: Refusal, before: Stretch, at: Stretch, outer: Vec<Opener>) -
 /// - `requires from`: <code>(front : [List] ℕ) × ([chars] text.now ≡ front ++ [chars] from.now)</code>
 /// - `requires to`: <code>(part : [List] ℕ) × ([chars] from.now ≡ part ++ [chars] to.now)</code>
 /// - `requires ordered`: <code>lo ≤ hi</code>
-/// - `ensures`: <code>(base : ℕ) (front part : [List] ℕ) → [chars] text.now ≡ front ++ [chars] from.now → [chars]
-///   from.now ≡ part ++ [chars] to.now → lo ≡ base + [length] front → hi ≡ lo + [length] part → [IsStretch] base front
-///   part result</code>
+/// - `ensures`: <code>(base : ℕ) (front part : [List] ℕ) → [chars] text.now ≡ front ++ [chars] from.now →
+///   [chars] from.now ≡ part ++ [chars] to.now → lo ≡ base + [length] front → hi ≡ lo + [length] part →
+///   [IsStretch] base front part result</code>
 ///
 /// [List]: crate::contracts#std.List
 /// [chars]: crate::contracts#std.chars

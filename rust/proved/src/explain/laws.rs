@@ -8,8 +8,8 @@ use crate::explain::reason::Reason;
 ///
 /// # Contract
 ///
-/// - `ensures`: <code>(x y : Reason) (f p r g q s : [List] ℕ) → [Holds] x f p r → [Holds] y g q s → f ++ (p ++ r) ≡ g ++
-///   (q ++ s) → x ≡ y</code>
+/// - `ensures`: <code>(x y : Reason) (f p r g q s : [List] ℕ) → [Holds] x f p r → [Holds] y g q s → f ++ (p ++
+///   r) ≡ g ++ (q ++ s) → x ≡ y</code>
 ///
 /// [List]: crate::contracts#std.List
 /// [Holds]: crate::contracts#explain.Reason.Holds
@@ -20,8 +20,8 @@ pub fn one_reason()
 ///
 /// # Contract
 ///
-/// - `ensures`: <code>(x : Reason) (f p r g q s : [List] ℕ) → [Holds] x f p r → [Holds] x g q s → f ++ (p ++ r) ≡ g ++
-///   (q ++ s) → (f ≡ g) × (p ≡ q)</code>
+/// - `ensures`: <code>(x : Reason) (f p r g q s : [List] ℕ) → [Holds] x f p r → [Holds] x g q s → f ++ (p ++ r)
+///   ≡ g ++ (q ++ s) → (f ≡ g) × (p ≡ q)</code>
 ///
 /// [List]: crate::contracts#std.List
 /// [Holds]: crate::contracts#explain.Reason.Holds
@@ -50,8 +50,8 @@ pub fn no_piece()
 ///
 /// # Contract
 ///
-/// - `ensures`: <code>(base : ℕ) (source : [List] ℕ) (x y : Explained) → [IsExplained] base source x → [IsExplained]
-///   base source y → (x.reason ≡ y.reason) × (x.before ≡ y.before) × (x.at ≡ y.at)</code>
+/// - `ensures`: <code>(base : ℕ) (source : [List] ℕ) (x y : Explained) → [IsExplained] base source x →
+///   [IsExplained] base source y → (x.reason ≡ y.reason) × (x.before ≡ y.before) × (x.at ≡ y.at)</code>
 ///
 /// [List]: crate::contracts#std.List
 /// [IsExplained]: crate::contracts#explain.Explained.IsExplained

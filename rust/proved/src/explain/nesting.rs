@@ -17,11 +17,11 @@ pub struct Refusal {
 ///
 /// # Contract
 ///
-/// - `ensures steps`: <code>[MatchOption] result ((hi : ℕ) → [Steps] openers.old.items openers.new.items ([Closes]
-///   delimiter hi ∷ \[\])) (λ x. [Refuses] delimiter x × [WaitsAs] ([waiting] openers.old.items) x.innermost
-///   openers.new.items)</code>
-/// - `ensures kept`: <code>[MatchOption] result ((x : Opener) × (openers.old.items ≡ openers.new.items ++ x ∷ \[\])) (λ
-///   x. [Loses] openers.old.items x.innermost openers.new.items)</code>
+/// - `ensures steps`: <code>[MatchOption] result ((hi : ℕ) → [Steps] openers.old.items openers.new.items
+///   ([Closes] delimiter hi ∷ \[\])) (λ x. [Refuses] delimiter x × [WaitsAs] ([waiting] openers.old.items)
+///   x.innermost openers.new.items)</code>
+/// - `ensures kept`: <code>[MatchOption] result ((x : Opener) × (openers.old.items ≡ openers.new.items ++ x ∷
+///   \[\])) (λ x. [Loses] openers.old.items x.innermost openers.new.items)</code>
 ///
 /// [MatchOption]: crate::contracts#std.MatchOption
 /// [Steps]: crate::contracts#explain.Open.Steps

@@ -88,8 +88,8 @@ pub fn where_clause_with(
 /// # Contract
 ///
 /// - `ensures ok`: <code>[IfOk] result (λ stream. (predicates : [List] [PredicateTrees]) × (params : [List]
-///   [ParamTrees]) × [HasPredicates] item.now.where_clause.now predicates × [HasParams] item.now.generics.now params ×
-///   (stream ≡ [respaced] ([where_with] predicates ([bounds_on_types] bound.now params))))</code>
+///   [ParamTrees]) × [HasPredicates] item.now.where_clause.now predicates × [HasParams] item.now.generics.now
+///   params × (stream ≡ [respaced] ([where_with] predicates ([bounds_on_types] bound.now params))))</code>
 /// - `ensures fault`: <code>[IfErr] result (λ error. [IfFault] error ([HasNotBoth] item.now.generics.now
 ///   item.now.where_clause.now))</code>
 /// - `ensures spaced`: <code>[IfOk] result [IsWellSpaced]</code>

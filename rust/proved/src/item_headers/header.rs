@@ -21,8 +21,8 @@ use crate::quoting::Quote;
 ///
 /// - `ensures ok`: <code>[IfOk] result (λ stream. (params : [List] [ParamTrees]) × (predicates : [List]
 ///   [PredicateTrees]) × [HasParams] item.now.generics.now params × [HasPredicates] item.now.where_clause.now
-///   predicates × (stream ≡ [respaced] ([header] params item.now.name.now trait_path.now ([where_with] predicates
-///   \[\]))))</code>
+///   predicates × (stream ≡ [respaced] ([header] params item.now.name.now trait_path.now ([where_with]
+///   predicates \[\]))))</code>
 /// - `ensures fault`: <code>[IfErr] result (λ error. [IfFault] error ([HasNotBoth] item.now.generics.now
 ///   item.now.where_clause.now))</code>
 /// - `ensures spaced`: <code>[IfOk] result [IsWellSpaced]</code>
@@ -58,9 +58,11 @@ pub fn impl_header(
 ///
 /// # Contract
 ///
-/// - `ensures ok`: <code>[IfOk] result (λ stream. (params : [List] [ParamTrees]) × [HasParams] item.now.generics.now
-///   params × (stream ≡ [respaced] ([header] params item.now.name.now trait_path.now where_clause.now)))</code>
-/// - `ensures fault`: <code>[IfErr] result (λ error. [IfFault] error ([HasNoParams] item.now.generics.now))</code>
+/// - `ensures ok`: <code>[IfOk] result (λ stream. (params : [List] [ParamTrees]) × [HasParams]
+///   item.now.generics.now params × (stream ≡ [respaced] ([header] params item.now.name.now trait_path.now
+///   where_clause.now)))</code>
+/// - `ensures fault`: <code>[IfErr] result (λ error. [IfFault] error ([HasNoParams]
+///   item.now.generics.now))</code>
 /// - `ensures spaced`: <code>[IfOk] result [IsWellSpaced]</code>
 ///
 /// [IfOk]: crate::contracts#std.IfOk

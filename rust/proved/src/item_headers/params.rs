@@ -24,9 +24,10 @@ pub(crate) enum Form {
 ///
 /// # Contract
 ///
-/// - `ensures ok`: <code>[IfOk] result (λ stream. (params : [List] [ParamTrees]) × [HasParams] item.now.generics.now
-///   params × (stream ≡ [respaced] ([impl_generics] params)))</code>
-/// - `ensures fault`: <code>[IfErr] result (λ error. [IfFault] error ([HasNoParams] item.now.generics.now))</code>
+/// - `ensures ok`: <code>[IfOk] result (λ stream. (params : [List] [ParamTrees]) × [HasParams]
+///   item.now.generics.now params × (stream ≡ [respaced] ([impl_generics] params)))</code>
+/// - `ensures fault`: <code>[IfErr] result (λ error. [IfFault] error ([HasNoParams]
+///   item.now.generics.now))</code>
 /// - `ensures spaced`: <code>[IfOk] result [IsWellSpaced]</code>
 ///
 /// [IfOk]: crate::contracts#std.IfOk
@@ -57,9 +58,10 @@ pub fn impl_generics(item: &TypeItem<'_>) -> Result<TokenStream, HeaderError>
 ///
 /// # Contract
 ///
-/// - `ensures ok`: <code>[IfOk] result (λ stream. (params : [List] [ParamTrees]) × [HasParams] item.now.generics.now
-///   params × (stream ≡ [respaced] ([type_generics] params)))</code>
-/// - `ensures fault`: <code>[IfErr] result (λ error. [IfFault] error ([HasNoParams] item.now.generics.now))</code>
+/// - `ensures ok`: <code>[IfOk] result (λ stream. (params : [List] [ParamTrees]) × [HasParams]
+///   item.now.generics.now params × (stream ≡ [respaced] ([type_generics] params)))</code>
+/// - `ensures fault`: <code>[IfErr] result (λ error. [IfFault] error ([HasNoParams]
+///   item.now.generics.now))</code>
 /// - `ensures spaced`: <code>[IfOk] result [IsWellSpaced]</code>
 ///
 /// [IfOk]: crate::contracts#std.IfOk
@@ -84,9 +86,10 @@ pub fn type_generics(item: &TypeItem<'_>) -> Result<TokenStream, HeaderError>
 ///
 /// # Contract
 ///
-/// - `ensures ok`: <code>[IfOk] result (λ stream. (params : [List] [ParamTrees]) × [HasParams] item.now.generics.now
-///   params × (stream ≡ [respaced] ([turbofish] params)))</code>
-/// - `ensures fault`: <code>[IfErr] result (λ error. [IfFault] error ([HasNoParams] item.now.generics.now))</code>
+/// - `ensures ok`: <code>[IfOk] result (λ stream. (params : [List] [ParamTrees]) × [HasParams]
+///   item.now.generics.now params × (stream ≡ [respaced] ([turbofish] params)))</code>
+/// - `ensures fault`: <code>[IfErr] result (λ error. [IfFault] error ([HasNoParams]
+///   item.now.generics.now))</code>
 /// - `ensures spaced`: <code>[IfOk] result [IsWellSpaced]</code>
 ///
 /// [IfOk]: crate::contracts#std.IfOk

@@ -22,8 +22,10 @@ use crate::shim::io::Write;
 ///
 /// - `ensures written`: <code>[IfOk] result (λ text. [IsWritten] C.gap_gives chooser.old chooser.new stream.now
 ///   ([chars] ([string_bytes] text)))</code>
-/// - `ensures layout`: <code>[IfOk] result (λ text. [IsLayout] stream.now ([chars] ([string_bytes] text)))</code>
-/// - `ensures back`: <code>[IfOk] result (λ text. [ReadsBack] stream.now ([chars] ([string_bytes] text)))</code>
+/// - `ensures layout`: <code>[IfOk] result (λ text. [IsLayout] stream.now ([chars] ([string_bytes]
+///   text)))</code>
+/// - `ensures back`: <code>[IfOk] result (λ text. [ReadsBack] stream.now ([chars] ([string_bytes]
+///   text)))</code>
 /// - `ensures refused`: <code>(result ≡ [Err] NotWellSpaced) ↔ ([IsWellSpaced] stream.now → ⊥)</code>
 /// - `ensures unwritten`: <code>[IfErr] result [IsNoWrite]</code>
 ///
@@ -176,8 +178,8 @@ pub(crate) fn closer(delimiter: Delimiter) -> Option<char>
 /// - `ensures ok`: <code>[OnOk] result ([Writes] ([IsWritten] C.gap_gives chooser.old chooser.new stream.now)
 ///   stream.now (W.contents writer.old) (W.contents writer.new))</code>
 /// - `ensures refused`: <code>(result ≡ [Err] NotWellSpaced) ↔ ([IsWellSpaced] stream.now → ⊥)</code>
-/// - `ensures untouched`: <code>[IfErr] result (λ error. error ≡ NotWellSpaced → W.contents writer.new ≡ W.contents
-///   writer.old)</code>
+/// - `ensures untouched`: <code>[IfErr] result (λ error. error ≡ NotWellSpaced → W.contents writer.new ≡
+///   W.contents writer.old)</code>
 ///
 /// [OnOk]: crate::contracts#std.OnOk
 /// [Writes]: crate::contracts#layout.Written.Writes

@@ -35,8 +35,9 @@ impl<'a> Cursor<'a> {
     ///
     /// # Contract
     ///
-    /// - `ensures`: <code>[MatchOption] result ([chars] self.entry.rest.now ≡ \[\]) (λ x. ([chars] self.entry.rest.now ≡
-    ///   x.0 ∷ [chars] x.1.rest.now) × (x.1.chars_before ≡ self.entry.chars_before + 1))</code>
+    /// - `ensures`: <code>[MatchOption] result ([chars] self.entry.rest.now ≡ \[\]) (λ x. ([chars]
+    ///   self.entry.rest.now ≡ x.0 ∷ [chars] x.1.rest.now) × (x.1.chars_before ≡ self.entry.chars_before +
+    ///   1))</code>
     ///
     /// [MatchOption]: crate::contracts#std.MatchOption
     /// [chars]: crate::contracts#std.chars
@@ -100,8 +101,8 @@ impl<'a> Cursor<'a> {
     /// # Contract
     ///
     /// - `requires`: <code>(front : [List] ℕ) × ([chars] text.now ≡ front ++ [chars] self.rest.now)</code>
-    /// - `ensures`: <code>(front : [List] ℕ) → [chars] text.now ≡ front ++ [chars] self.entry.rest.now → result ≡ [length]
-    ///   ([encode_utf8_all] front)</code>
+    /// - `ensures`: <code>(front : [List] ℕ) → [chars] text.now ≡ front ++ [chars] self.entry.rest.now → result ≡
+    ///   [length] ([encode_utf8_all] front)</code>
     ///
     /// [List]: crate::contracts#std.List
     /// [chars]: crate::contracts#std.chars

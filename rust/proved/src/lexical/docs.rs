@@ -51,8 +51,8 @@ fn has_bare_return(text: &str) -> bool
 /// # Contract
 ///
 /// - `requires`: <code>[Comment] ([chars] comment.now) ([chars] rest.now)</code>
-/// - `ensures`: <code>[Tells] ([kind_of_comment] ([chars] comment.now) ([chars] rest.now)) ([chars] comment.now)
-///   result</code>
+/// - `ensures`: <code>[Tells] ([kind_of_comment] ([chars] comment.now) ([chars] rest.now)) ([chars]
+///   comment.now) result</code>
 ///
 /// [Comment]: crate::contracts#lexical.Comment.Comment
 /// [chars]: crate::contracts#std.chars

@@ -5,8 +5,8 @@
 ///
 /// # Contract
 ///
-/// - `ensures`: <code>(first : [Bool]) (k l : [Kind]) (p q r s : [List] ℕ) → [IsPiece] first k p r → [IsPiece] first l
-///   q s → p ++ r ≡ q ++ s → (k ≡ l) × (p ≡ q) × (r ≡ s)</code>
+/// - `ensures`: <code>(first : [Bool]) (k l : [Kind]) (p q r s : [List] ℕ) → [IsPiece] first k p r → [IsPiece]
+///   first l q s → p ++ r ≡ q ++ s → (k ≡ l) × (p ≡ q) × (r ≡ s)</code>
 ///
 /// [Bool]: crate::contracts#std.Bool
 /// [Kind]: crate::contracts#lexical.Piece.Kind

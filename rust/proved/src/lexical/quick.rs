@@ -91,7 +91,8 @@ fn line_size(text: &str) -> Option<usize>
 ///
 /// # Contract
 ///
-/// - `ensures`: <code>(first : [Bool]) → [IfSome] result (λ piece. [IsPieceAt] first ([chars] text.now) piece)</code>
+/// - `ensures`: <code>(first : [Bool]) → [IfSome] result (λ piece. [IsPieceAt] first ([chars] text.now)
+///   piece)</code>
 ///
 /// [Bool]: crate::contracts#std.Bool
 /// [IfSome]: crate::contracts#std.IfSome
@@ -183,7 +184,8 @@ pub fn byte_literal(text: &str) -> Option<Extent>
 ///
 /// # Contract
 ///
-/// - `ensures`: <code>(first : [Bool]) → [IfSome] result (λ piece. [IsPieceAt] first ([chars] text.now) piece)</code>
+/// - `ensures`: <code>(first : [Bool]) → [IfSome] result (λ piece. [IsPieceAt] first ([chars] text.now)
+///   piece)</code>
 ///
 /// [Bool]: crate::contracts#std.Bool
 /// [IfSome]: crate::contracts#std.IfSome
@@ -251,7 +253,8 @@ pub fn long_number(text: &str) -> Option<Extent>
 ///
 /// # Contract
 ///
-/// - `ensures`: <code>(first : [Bool]) → [IfSome] result (λ piece. [IsPieceAt] first ([chars] text.now) piece)</code>
+/// - `ensures`: <code>(first : [Bool]) → [IfSome] result (λ piece. [IsPieceAt] first ([chars] text.now)
+///   piece)</code>
 ///
 /// [Bool]: crate::contracts#std.Bool
 /// [IfSome]: crate::contracts#std.IfSome

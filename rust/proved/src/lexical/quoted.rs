@@ -89,8 +89,8 @@ fn unit(at: Cursor<'_>, kind: StringKind) -> Option<Cursor<'_>>
 /// # Contract
 ///
 /// - `requires ascii`: <code>[IsTrue] ([all_ascii] front.now)</code>
-/// - `ensures`: <code>[Reads] ([Then] ([Exactly] front.now) (rule.[body] (rule.[unit] kind) ([codes] \"\\\"\")))
-///   at.entry result</code>
+/// - `ensures`: <code>[Reads] ([Then] ([Exactly] front.now) (rule.[body] (rule.[unit] kind) ([codes]
+///   \"\\\"\"))) at.entry result</code>
 ///
 /// [IsTrue]: crate::contracts#std.IsTrue
 /// [all_ascii]: crate::contracts#lexical.Ascii.all_ascii

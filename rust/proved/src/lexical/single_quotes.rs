@@ -42,7 +42,8 @@ fn unit(at: Cursor<'_>, kind: StringKind) -> Option<Cursor<'_>>
 /// # Contract
 ///
 /// - `requires ascii`: <code>[IsTrue] ([all_ascii] front.now)</code>
-/// - `ensures`: <code>[Reads] (rule.[single] front.now ([is_plain] kind) ([escape] kind)) at.entry result</code>
+/// - `ensures`: <code>[Reads] (rule.[single] front.now ([is_plain] kind) ([escape] kind)) at.entry
+///   result</code>
 ///
 /// [IsTrue]: crate::contracts#std.IsTrue
 /// [all_ascii]: crate::contracts#lexical.Ascii.all_ascii

@@ -8,8 +8,8 @@ use crate::lexical::cursor::Cursor;
 /// # Contract
 ///
 /// - `requires`: <code>F.IsAlwaysCallable passes</code>
-/// - `ensures`: <code>(test : ℕ → [Bool]) → ((c : ℕ) (b : [Bool]) → F.post passes c b → b ≡ test c) → [Reads] ([One]
-///   test) at.entry result</code>
+/// - `ensures`: <code>(test : ℕ → [Bool]) → ((c : ℕ) (b : [Bool]) → F.post passes c b → b ≡ test c) → [Reads]
+///   ([One] test) at.entry result</code>
 ///
 /// [Bool]: crate::contracts#std.Bool
 /// [Reads]: crate::contracts#lexical.Step.Reads

@@ -5,8 +5,8 @@
 ///
 /// # Contract
 ///
-/// - `ensures split`: <code>[MatchOption] result ([chars] text.now ≡ \[\]) (λ x. [chars] text.now ≡ x.0 ∷ [chars]
-///   x.1.now)</code>
+/// - `ensures split`: <code>[MatchOption] result ([chars] text.now ≡ \[\]) (λ x. [chars] text.now ≡ x.0 ∷
+///   [chars] x.1.now)</code>
 /// - `ensures utf8`: <code>[IfSome] result (λ x. [IsUtf8] x.1.now)</code>
 ///
 /// [MatchOption]: crate::contracts#std.MatchOption
@@ -116,8 +116,8 @@ pub fn before<'a>(text: &'a str, rest: &str) -> &'a str
 /// # Contract
 ///
 /// - `requires`: <code>[IsTrue] ([all_ascii] front.now)</code>
-/// - `ensures split`: <code>[MatchOption] result ([begins_with] front.now ([chars] text.now) ≡ [false]) (λ rest.
-///   [chars] text.now ≡ front.now ++ [chars] rest.now)</code>
+/// - `ensures split`: <code>[MatchOption] result ([begins_with] front.now ([chars] text.now) ≡ [false]) (λ
+///   rest. [chars] text.now ≡ front.now ++ [chars] rest.now)</code>
 /// - `ensures utf8`: <code>[IfSome] result (λ rest. [IsUtf8] rest.now)</code>
 ///
 /// [IsTrue]: crate::contracts#std.IsTrue
@@ -138,8 +138,8 @@ pub fn strip<'a>(text: &'a str, front: &str) -> Option<&'a str>
 ///
 /// # Contract
 ///
-/// - `ensures`: <code>[chars] text.now ≡ [chars] result.now ++ (if [ends_with] [carriage_return] ([chars] text.now)
-///   then [carriage_return] ∷ \[\] else \[\])</code>
+/// - `ensures`: <code>[chars] text.now ≡ [chars] result.now ++ (if [ends_with] [carriage_return] ([chars]
+///   text.now) then [carriage_return] ∷ \[\] else \[\])</code>
 ///
 /// [chars]: crate::contracts#std.chars
 /// [ends_with]: crate::contracts#lexical.Text.ends_with

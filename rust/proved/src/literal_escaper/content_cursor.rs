@@ -46,8 +46,8 @@ impl<'a> ContentCursor<'a> {
     ///
     /// # Contract
     ///
-    /// - `ensures`: <code>[MatchOption] result ([chars] self.entry.rest.now ≡ \[\]) (λ x. ([chars] self.entry.rest.now ≡
-    ///   x.0 ∷ [chars] x.1.rest.now) × (x.1.end ≡ self.entry.end))</code>
+    /// - `ensures`: <code>[MatchOption] result ([chars] self.entry.rest.now ≡ \[\]) (λ x. ([chars]
+    ///   self.entry.rest.now ≡ x.0 ∷ [chars] x.1.rest.now) × (x.1.end ≡ self.entry.end))</code>
     ///
     /// [MatchOption]: crate::contracts#std.MatchOption
     /// [chars]: crate::contracts#std.chars

@@ -136,7 +136,8 @@ pub fn read_front<K: Unescape>(at: ContentCursor<'_>) -> Option<Front<'_, K::Uni
 ///
 /// - `ensures left`: <code>[items_from] K.kind at.entry.end ([text_at] at.entry) ≡ [front_items] result.item
 ///   result.warning ++ [items_from] K.kind result.after.end ([text_at] result.after)</code>
-/// - `ensures none`: <code>[IfNone] result.item ((result.warning ≡ [None]) × ([text_at] result.after ≡ \[\]))</code>
+/// - `ensures none`: <code>[IfNone] result.item ((result.warning ≡ [None]) × ([text_at] result.after ≡
+///   \[\]))</code>
 ///
 /// [items_from]: crate::contracts#literal_escaper.Items.items_from
 /// [text_at]: crate::contracts#literal_escaper.Unescaping.text_at

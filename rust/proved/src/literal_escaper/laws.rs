@@ -16,10 +16,12 @@ use crate::literal_escaper::num::{NonZeroChar, NonZeroU8};
 /// - `ensures errors`: <code>(a b : EscapeError) → [IsTrue] (⟦&lt;EscapeError as PartialEq&gt;⟧.eq a b) ↔ (a ≡
 ///   b)</code>
 /// - `ensures modes`: <code>(a b : Mode) → [IsTrue] (⟦&lt;Mode as PartialEq&gt;⟧.eq a b) ↔ (a ≡ b)</code>
-/// - `ensures units`: <code>(a b : MixedUnit) → [IsTrue] (⟦&lt;MixedUnit as PartialEq&gt;⟧.eq a b) ↔ (a ≡ b)</code>
-/// - `ensures characters`: <code>(a b : NonZeroChar) → [IsTrue] (⟦&lt;NonZeroChar as PartialEq&gt;⟧.eq a b) ↔ (a ≡
+/// - `ensures units`: <code>(a b : MixedUnit) → [IsTrue] (⟦&lt;MixedUnit as PartialEq&gt;⟧.eq a b) ↔ (a ≡
 ///   b)</code>
-/// - `ensures bytes`: <code>(a b : NonZeroU8) → [IsTrue] (⟦&lt;NonZeroU8 as PartialEq&gt;⟧.eq a b) ↔ (a ≡ b)</code>
+/// - `ensures characters`: <code>(a b : NonZeroChar) → [IsTrue] (⟦&lt;NonZeroChar as PartialEq&gt;⟧.eq a b) ↔
+///   (a ≡ b)</code>
+/// - `ensures bytes`: <code>(a b : NonZeroU8) → [IsTrue] (⟦&lt;NonZeroU8 as PartialEq&gt;⟧.eq a b) ↔ (a ≡
+///   b)</code>
 ///
 /// [IsTrue]: crate::contracts#std.IsTrue
 pub fn equal_errors_modes_and_units()

@@ -12,14 +12,14 @@ use crate::shim::hash::Hash;
 ///
 /// # Contract
 ///
-/// - `ensures equal`: <code>(a b : LineColumn) → [IsTrue] (⟦&lt;LineColumn as PartialEq&gt;⟧.eq a b) ↔ ((a.line ≡
-///   b.line) × (a.column ≡ b.column))</code>
-/// - `ensures less`: <code>(a b : LineColumn) → (⟦&lt;LineColumn as Ord&gt;⟧.cmp a b ≡ Ordering.Less) ↔ [IsBefore] a
-///   b</code>
+/// - `ensures equal`: <code>(a b : LineColumn) → [IsTrue] (⟦&lt;LineColumn as PartialEq&gt;⟧.eq a b) ↔ ((a.line
+///   ≡ b.line) × (a.column ≡ b.column))</code>
+/// - `ensures less`: <code>(a b : LineColumn) → (⟦&lt;LineColumn as Ord&gt;⟧.cmp a b ≡ Ordering.Less) ↔
+///   [IsBefore] a b</code>
 /// - `ensures greater`: <code>(a b : LineColumn) → (⟦&lt;LineColumn as Ord&gt;⟧.cmp a b ≡ Ordering.Greater) ↔
 ///   [IsBefore] b a</code>
-/// - `ensures same`: <code>(a b : LineColumn) → (⟦&lt;LineColumn as Ord&gt;⟧.cmp a b ≡ Ordering.Equal) ↔ ((a.line ≡
-///   b.line) × (a.column ≡ b.column))</code>
+/// - `ensures same`: <code>(a b : LineColumn) → (⟦&lt;LineColumn as Ord&gt;⟧.cmp a b ≡ Ordering.Equal) ↔
+///   ((a.line ≡ b.line) × (a.column ≡ b.column))</code>
 /// - `ensures partial`: <code>(a b : LineColumn) → ⟦&lt;LineColumn as PartialOrd&gt;⟧.partial_cmp a b ≡ [Some]
 ///   (⟦&lt;LineColumn as Ord&gt;⟧.cmp a b)</code>
 /// - `ensures hash`: <code>(a : LineColumn) → ⟦&lt;LineColumn as Hash&gt;⟧.hash_input a ≡ fed.[usize] a.line ++

@@ -37,7 +37,8 @@ pub fn bounds(span: Span) -> (u32, u32)
 ///
 /// # Contract
 ///
-/// - `ensures found`: <code>[SomeIff] result ([Fits] map.now ([length] ([chars] text.now))) ([next_lo] map.now)</code>
+/// - `ensures found`: <code>[SomeIff] result ([Fits] map.now ([length] ([chars] text.now))) ([next_lo]
+///   map.now)</code>
 /// - `ensures within`: <code>[IfSome] result (λ lo. lo + [length] ([chars] text.now) &lt; 2 ^ 32)</code>
 ///
 /// [SomeIff]: crate::contracts#std.SomeIff

@@ -31,10 +31,12 @@ impl TokenStream {
     ///
     /// # Contract
     ///
-    /// - `requires`: <code>[IsFiniteIterable] I.into_iter_gives I.IntoIter.can_next I.IntoIter.remaining trees</code>
-    /// - `ensures ok`: <code>[IfOk] result (λ stream. [GivesAll] I.into_iter_gives I.IntoIter.next_gives trees (λ trees.
-    ///   stream ≡ [gathered] [split] trees))</code>
-    /// - `ensures memory`: <code>[IfErr] result (λ \_. [GivesAnItem] I.into_iter_gives I.IntoIter.next_gives trees)</code>
+    /// - `requires`: <code>[IsFiniteIterable] I.into_iter_gives I.IntoIter.can_next I.IntoIter.remaining
+    ///   trees</code>
+    /// - `ensures ok`: <code>[IfOk] result (λ stream. [GivesAll] I.into_iter_gives I.IntoIter.next_gives trees (λ
+    ///   trees. stream ≡ [gathered] [split] trees))</code>
+    /// - `ensures memory`: <code>[IfErr] result (λ \_. [GivesAnItem] I.into_iter_gives I.IntoIter.next_gives
+    ///   trees)</code>
     ///
     /// [IsFiniteIterable]: crate::contracts#std.IsFiniteIterable
     /// [IfOk]: crate::contracts#std.IfOk
@@ -59,7 +61,8 @@ impl TokenStream {
     ///
     /// # Contract
     ///
-    /// - `requires`: <code>[IsFiniteIterable] I.into_iter_gives I.IntoIter.can_next I.IntoIter.remaining streams</code>
+    /// - `requires`: <code>[IsFiniteIterable] I.into_iter_gives I.IntoIter.can_next I.IntoIter.remaining
+    ///   streams</code>
     /// - `ensures ok`: <code>[IfOk] result (λ stream. [GivesAll] I.into_iter_gives I.IntoIter.next_gives streams (λ
     ///   streams. stream ≡ [gathered] (λ stream. stream) streams))</code>
     /// - `ensures memory`: <code>[IfErr] result (λ \_. [GivesAnItem] I.into_iter_gives I.IntoIter.next_gives
@@ -88,10 +91,12 @@ impl TokenStream {
     ///
     /// # Contract
     ///
-    /// - `requires`: <code>[IsFiniteIterable] I.into_iter_gives I.IntoIter.can_next I.IntoIter.remaining trees</code>
-    /// - `ensures ran`: <code>[ExtendsWithItems] I.into_iter_gives I.IntoIter.next_gives ([PutsIn] [split]) trees self.old
-    ///   self.new result</code>
-    /// - `ensures memory`: <code>[OnErr] result ([GivesAnItem] I.into_iter_gives I.IntoIter.next_gives trees)</code>
+    /// - `requires`: <code>[IsFiniteIterable] I.into_iter_gives I.IntoIter.can_next I.IntoIter.remaining
+    ///   trees</code>
+    /// - `ensures ran`: <code>[ExtendsWithItems] I.into_iter_gives I.IntoIter.next_gives ([PutsIn] [split]) trees
+    ///   self.old self.new result</code>
+    /// - `ensures memory`: <code>[OnErr] result ([GivesAnItem] I.into_iter_gives I.IntoIter.next_gives
+    ///   trees)</code>
     /// - `ensures refused`: <code>[OnErr] result ([RefusesAnItem] I.into_iter_gives I.IntoIter.next_gives ([PutsIn]
     ///   [split]) trees self.old self.new)</code>
     ///
@@ -120,12 +125,14 @@ impl TokenStream {
     ///
     /// # Contract
     ///
-    /// - `requires`: <code>[IsFiniteIterable] I.into_iter_gives I.IntoIter.can_next I.IntoIter.remaining streams</code>
-    /// - `ensures ran`: <code>[ExtendsWithItems] I.into_iter_gives I.IntoIter.next_gives ([PutsIn] (λ stream. stream))
-    ///   streams self.old self.new result</code>
-    /// - `ensures memory`: <code>[OnErr] result ([GivesAnItem] I.into_iter_gives I.IntoIter.next_gives streams)</code>
-    /// - `ensures refused`: <code>[OnErr] result ([RefusesAnItem] I.into_iter_gives I.IntoIter.next_gives ([PutsIn] (λ
-    ///   stream. stream)) streams self.old self.new)</code>
+    /// - `requires`: <code>[IsFiniteIterable] I.into_iter_gives I.IntoIter.can_next I.IntoIter.remaining
+    ///   streams</code>
+    /// - `ensures ran`: <code>[ExtendsWithItems] I.into_iter_gives I.IntoIter.next_gives ([PutsIn] (λ stream.
+    ///   stream)) streams self.old self.new result</code>
+    /// - `ensures memory`: <code>[OnErr] result ([GivesAnItem] I.into_iter_gives I.IntoIter.next_gives
+    ///   streams)</code>
+    /// - `ensures refused`: <code>[OnErr] result ([RefusesAnItem] I.into_iter_gives I.IntoIter.next_gives ([PutsIn]
+    ///   (λ stream. stream)) streams self.old self.new)</code>
     ///
     /// [IsFiniteIterable]: crate::contracts#std.IsFiniteIterable
     /// [ExtendsWithItems]: crate::contracts#std.ExtendsWithItems
@@ -148,12 +155,14 @@ impl TokenStream {
     ///
     /// # Contract
     ///
-    /// - `requires`: <code>[IsFiniteIterable] I.into_iter_gives I.IntoIter.can_next I.IntoIter.remaining groups</code>
-    /// - `ensures ran`: <code>[ExtendsWithItems] I.into_iter_gives I.IntoIter.next_gives ([PutsIn] (λ group. [split]
-    ///   (GroupTree group))) groups self.old self.new result</code>
-    /// - `ensures memory`: <code>[OnErr] result ([GivesAnItem] I.into_iter_gives I.IntoIter.next_gives groups)</code>
-    /// - `ensures refused`: <code>[OnErr] result ([RefusesAnItem] I.into_iter_gives I.IntoIter.next_gives ([PutsIn] (λ
-    ///   group. [split] (GroupTree group))) groups self.old self.new)</code>
+    /// - `requires`: <code>[IsFiniteIterable] I.into_iter_gives I.IntoIter.can_next I.IntoIter.remaining
+    ///   groups</code>
+    /// - `ensures ran`: <code>[ExtendsWithItems] I.into_iter_gives I.IntoIter.next_gives ([PutsIn] (λ group.
+    ///   [split] (GroupTree group))) groups self.old self.new result</code>
+    /// - `ensures memory`: <code>[OnErr] result ([GivesAnItem] I.into_iter_gives I.IntoIter.next_gives
+    ///   groups)</code>
+    /// - `ensures refused`: <code>[OnErr] result ([RefusesAnItem] I.into_iter_gives I.IntoIter.next_gives ([PutsIn]
+    ///   (λ group. [split] (GroupTree group))) groups self.old self.new)</code>
     ///
     /// [IsFiniteIterable]: crate::contracts#std.IsFiniteIterable
     /// [ExtendsWithItems]: crate::contracts#std.ExtendsWithItems
@@ -177,12 +186,14 @@ impl TokenStream {
     ///
     /// # Contract
     ///
-    /// - `requires`: <code>[IsFiniteIterable] I.into_iter_gives I.IntoIter.can_next I.IntoIter.remaining idents</code>
-    /// - `ensures ran`: <code>[ExtendsWithItems] I.into_iter_gives I.IntoIter.next_gives ([PutsIn] (λ ident. [split]
-    ///   (IdentTree ident))) idents self.old self.new result</code>
-    /// - `ensures memory`: <code>[OnErr] result ([GivesAnItem] I.into_iter_gives I.IntoIter.next_gives idents)</code>
-    /// - `ensures refused`: <code>[OnErr] result ([RefusesAnItem] I.into_iter_gives I.IntoIter.next_gives ([PutsIn] (λ
-    ///   ident. [split] (IdentTree ident))) idents self.old self.new)</code>
+    /// - `requires`: <code>[IsFiniteIterable] I.into_iter_gives I.IntoIter.can_next I.IntoIter.remaining
+    ///   idents</code>
+    /// - `ensures ran`: <code>[ExtendsWithItems] I.into_iter_gives I.IntoIter.next_gives ([PutsIn] (λ ident.
+    ///   [split] (IdentTree ident))) idents self.old self.new result</code>
+    /// - `ensures memory`: <code>[OnErr] result ([GivesAnItem] I.into_iter_gives I.IntoIter.next_gives
+    ///   idents)</code>
+    /// - `ensures refused`: <code>[OnErr] result ([RefusesAnItem] I.into_iter_gives I.IntoIter.next_gives ([PutsIn]
+    ///   (λ ident. [split] (IdentTree ident))) idents self.old self.new)</code>
     ///
     /// [IsFiniteIterable]: crate::contracts#std.IsFiniteIterable
     /// [ExtendsWithItems]: crate::contracts#std.ExtendsWithItems
@@ -206,12 +217,14 @@ impl TokenStream {
     ///
     /// # Contract
     ///
-    /// - `requires`: <code>[IsFiniteIterable] I.into_iter_gives I.IntoIter.can_next I.IntoIter.remaining puncts</code>
-    /// - `ensures ran`: <code>[ExtendsWithItems] I.into_iter_gives I.IntoIter.next_gives ([PutsIn] (λ punct. [split]
-    ///   (PunctTree punct))) puncts self.old self.new result</code>
-    /// - `ensures memory`: <code>[OnErr] result ([GivesAnItem] I.into_iter_gives I.IntoIter.next_gives puncts)</code>
-    /// - `ensures refused`: <code>[OnErr] result ([RefusesAnItem] I.into_iter_gives I.IntoIter.next_gives ([PutsIn] (λ
-    ///   punct. [split] (PunctTree punct))) puncts self.old self.new)</code>
+    /// - `requires`: <code>[IsFiniteIterable] I.into_iter_gives I.IntoIter.can_next I.IntoIter.remaining
+    ///   puncts</code>
+    /// - `ensures ran`: <code>[ExtendsWithItems] I.into_iter_gives I.IntoIter.next_gives ([PutsIn] (λ punct.
+    ///   [split] (PunctTree punct))) puncts self.old self.new result</code>
+    /// - `ensures memory`: <code>[OnErr] result ([GivesAnItem] I.into_iter_gives I.IntoIter.next_gives
+    ///   puncts)</code>
+    /// - `ensures refused`: <code>[OnErr] result ([RefusesAnItem] I.into_iter_gives I.IntoIter.next_gives ([PutsIn]
+    ///   (λ punct. [split] (PunctTree punct))) puncts self.old self.new)</code>
     ///
     /// [IsFiniteIterable]: crate::contracts#std.IsFiniteIterable
     /// [ExtendsWithItems]: crate::contracts#std.ExtendsWithItems
@@ -236,12 +249,14 @@ impl TokenStream {
     ///
     /// # Contract
     ///
-    /// - `requires`: <code>[IsFiniteIterable] I.into_iter_gives I.IntoIter.can_next I.IntoIter.remaining literals</code>
-    /// - `ensures ran`: <code>[ExtendsWithItems] I.into_iter_gives I.IntoIter.next_gives ([PutsIn] (λ literal. [split]
-    ///   (LiteralTree literal))) literals self.old self.new result</code>
-    /// - `ensures memory`: <code>[OnErr] result ([GivesAnItem] I.into_iter_gives I.IntoIter.next_gives literals)</code>
-    /// - `ensures refused`: <code>[OnErr] result ([RefusesAnItem] I.into_iter_gives I.IntoIter.next_gives ([PutsIn] (λ
-    ///   literal. [split] (LiteralTree literal))) literals self.old self.new)</code>
+    /// - `requires`: <code>[IsFiniteIterable] I.into_iter_gives I.IntoIter.can_next I.IntoIter.remaining
+    ///   literals</code>
+    /// - `ensures ran`: <code>[ExtendsWithItems] I.into_iter_gives I.IntoIter.next_gives ([PutsIn] (λ literal.
+    ///   [split] (LiteralTree literal))) literals self.old self.new result</code>
+    /// - `ensures memory`: <code>[OnErr] result ([GivesAnItem] I.into_iter_gives I.IntoIter.next_gives
+    ///   literals)</code>
+    /// - `ensures refused`: <code>[OnErr] result ([RefusesAnItem] I.into_iter_gives I.IntoIter.next_gives ([PutsIn]
+    ///   (λ literal. [split] (LiteralTree literal))) literals self.old self.new)</code>
     ///
     /// [IsFiniteIterable]: crate::contracts#std.IsFiniteIterable
     /// [ExtendsWithItems]: crate::contracts#std.ExtendsWithItems

@@ -33,8 +33,8 @@ impl Group {
     /// # Contract
     ///
     /// - `ensures value`: <code>[option_copied] result ≡ [doc_of] self.now</code>
-    /// - `ensures trees`: <code>[IfSome] result (λ text. (name : [Name]) × (mark : [Mark]) × (self.now.stream ≡ [forest]
-    ///   (IdentTree name ∷ PunctTree mark ∷ LiteralTree text.now ∷ \[\])))</code>
+    /// - `ensures trees`: <code>[IfSome] result (λ text. (name : [Name]) × (mark : [Mark]) × (self.now.stream ≡
+    ///   [forest] (IdentTree name ∷ PunctTree mark ∷ LiteralTree text.now ∷ \[\])))</code>
     /// - `ensures printed`: <code>[IfSome] result (λ text. [IsDocOf] self.now text.now.text)</code>
     ///
     /// [option_copied]: crate::contracts#std.option_copied

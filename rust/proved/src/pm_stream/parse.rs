@@ -32,18 +32,19 @@ impl TokenStream {
     ///
     /// # Contract
     ///
-    /// - `ensures ok`: <code>[IfOk] result (λ stream. [ParsesTo] ([next_lo] map.old) ([chars] text.now) stream)</code>
+    /// - `ensures ok`: <code>[IfOk] result (λ stream. [ParsesTo] ([next_lo] map.old) ([chars] text.now)
+    ///   stream)</code>
     /// - `ensures built`: <code>[IfOk] result [IsBuilt]</code>
     /// - `ensures apart`: <code>[IfOk] result (λ \_. [HasNoFault] ([next_lo] map.old) ([chars] text.now))</code>
     /// - `ensures spans`: <code>[IfOk] result ([HoldsAll] map.new)</code>
     /// - `ensures within`: <code>[IsTrue] ([was_read] result) → [Fits] map.old ([length] ([chars] text.now))</code>
-    /// - `ensures lex`: <code>[IfErr] result (λ error. [IfLex] error (λ fault. (fault.lo ≡ fault.hi) × [FaultAt] ([next_lo]
-    ///   map.old) ([chars] text.now) fault.lo))</code>
-    /// - `ensures only`: <code>[IfErr] result (λ error. [IfLex] error (λ fault. [IsOnlyFault] ([next_lo] map.old) ([chars]
-    ///   text.now) fault.lo))</code>
+    /// - `ensures lex`: <code>[IfErr] result (λ error. [IfLex] error (λ fault. (fault.lo ≡ fault.hi) × [FaultAt]
+    ///   ([next_lo] map.old) ([chars] text.now) fault.lo))</code>
+    /// - `ensures only`: <code>[IfErr] result (λ error. [IfLex] error (λ fault. [IsOnlyFault] ([next_lo] map.old)
+    ///   ([chars] text.now) fault.lo))</code>
     /// - `ensures held`: <code>[IfErr] result (λ error. [IfLex] error ([Holds] map.new))</code>
-    /// - `ensures map_full`: <code>(result ≡ [Err] ParseError.MapFull) ↔ ([Fits] map.old ([length] ([chars] text.now)) →
-    ///   ⊥)</code>
+    /// - `ensures map_full`: <code>(result ≡ [Err] ParseError.MapFull) ↔ ([Fits] map.old ([length] ([chars]
+    ///   text.now)) → ⊥)</code>
     /// - `ensures kept`: <code>map.new ≡ (if [was_read] result then [with_file] map.old ([chars] text.now) else
     ///   map.old)</code>
     ///
@@ -91,15 +92,16 @@ impl TokenStream {
     ///
     /// # Contract
     ///
-    /// - `ensures ok`: <code>[IfOk] result (λ stream. [ParsesTo] ([next_lo] [new_map]) ([chars] text.now) stream)</code>
+    /// - `ensures ok`: <code>[IfOk] result (λ stream. [ParsesTo] ([next_lo] [new_map]) ([chars] text.now)
+    ///   stream)</code>
     /// - `ensures built`: <code>[IfOk] result [IsBuilt]</code>
     /// - `ensures apart`: <code>[IfOk] result (λ \_. [HasNoFault] ([next_lo] [new_map]) ([chars] text.now))</code>
-    /// - `ensures lex`: <code>[IfErr] result (λ error. [IfLex] error (λ fault. (fault.lo ≡ fault.hi) × [FaultAt] ([next_lo]
-    ///   [new_map]) ([chars] text.now) fault.lo))</code>
+    /// - `ensures lex`: <code>[IfErr] result (λ error. [IfLex] error (λ fault. (fault.lo ≡ fault.hi) × [FaultAt]
+    ///   ([next_lo] [new_map]) ([chars] text.now) fault.lo))</code>
     /// - `ensures only`: <code>[IfErr] result (λ error. [IfLex] error (λ fault. [IsOnlyFault] ([next_lo] [new_map])
     ///   ([chars] text.now) fault.lo))</code>
-    /// - `ensures map_full`: <code>(result ≡ [Err] ParseError.MapFull) ↔ ([Fits] [new_map] ([length] ([chars] text.now)) →
-    ///   ⊥)</code>
+    /// - `ensures map_full`: <code>(result ≡ [Err] ParseError.MapFull) ↔ ([Fits] [new_map] ([length] ([chars]
+    ///   text.now)) → ⊥)</code>
     ///
     /// [IfOk]: crate::contracts#std.IfOk
     /// [ParsesTo]: crate::contracts#pm_stream.Parsing.ParsesTo

@@ -128,7 +128,8 @@ pub fn put_punct(stream: &mut TokenStream, punct: Punct) -> Result<(), AllocErro
 ///
 /// # Contract
 ///
-/// - `ensures ok`: <code>[OnOk] result (stream.new ≡ [joined] stream.old ([split] (LiteralTree literal)))</code>
+/// - `ensures ok`: <code>[OnOk] result (stream.new ≡ [joined] stream.old ([split] (LiteralTree
+///   literal)))</code>
 /// - `ensures err`: <code>[OnErr] result (stream.new ≡ stream.old)</code>
 ///
 /// [OnOk]: crate::contracts#std.OnOk

@@ -61,12 +61,12 @@ pub struct PlacedTree {
 /// - `ensures ok`: <code>[IfOk] result (λ trees. [ArePlaced] ([next_lo] [new_map]) ([chars] text.now)
 ///   trees.items)</code>
 /// - `ensures apart`: <code>[IfOk] result (λ \_. [HasNoFault] ([next_lo] [new_map]) ([chars] text.now))</code>
-/// - `ensures lex`: <code>[IfErr] result (λ error. [IfLex] error (λ fault. (fault.lo ≡ fault.hi) × [FaultAt] ([next_lo]
-///   [new_map]) ([chars] text.now) fault.lo))</code>
+/// - `ensures lex`: <code>[IfErr] result (λ error. [IfLex] error (λ fault. (fault.lo ≡ fault.hi) × [FaultAt]
+///   ([next_lo] [new_map]) ([chars] text.now) fault.lo))</code>
 /// - `ensures only`: <code>[IfErr] result (λ error. [IfLex] error (λ fault. [IsOnlyFault] ([next_lo] [new_map])
 ///   ([chars] text.now) fault.lo))</code>
-/// - `ensures map_full`: <code>(result ≡ [Err] ParseError.MapFull) ↔ ([Fits] [new_map] ([length] ([chars] text.now)) →
-///   ⊥)</code>
+/// - `ensures map_full`: <code>(result ≡ [Err] ParseError.MapFull) ↔ ([Fits] [new_map] ([length] ([chars]
+///   text.now)) → ⊥)</code>
 ///
 /// [IfOk]: crate::contracts#std.IfOk
 /// [ArePlaced]: crate::contracts#pm_stream.Places.ArePlaced

@@ -42,7 +42,8 @@ pub trait TokenSink {
     /// - `requires kind`: <code>piece.kind ≡ kinds.Mark joint mark</code>
     /// - `requires room`: <code>at + piece.chars &lt; 2 ^ 32</code>
     /// - `requires took`: <code>[IsTakenTo] took self.old at ([chars] text.now)</code>
-    /// - `ensures`: <code>[OnOk] result ([TakesPiece] took self.old self.new piece.entry ([chars] text.now) at)</code>
+    /// - `ensures`: <code>[OnOk] result ([TakesPiece] took self.old self.new piece.entry ([chars] text.now)
+    ///   at)</code>
     ///
     /// [Bool]: crate::contracts#std.Bool
     /// [IsPieceAt]: crate::contracts#lexical.Found.IsPieceAt
@@ -67,7 +68,8 @@ pub trait TokenSink {
     /// - `requires kind`: <code>piece.kind ≡ kinds.Name raw name</code>
     /// - `requires room`: <code>at + piece.chars &lt; 2 ^ 32</code>
     /// - `requires took`: <code>[IsTakenTo] took self.old at ([chars] text.now)</code>
-    /// - `ensures`: <code>[OnOk] result ([TakesPiece] took self.old self.new piece.entry ([chars] text.now) at)</code>
+    /// - `ensures`: <code>[OnOk] result ([TakesPiece] took self.old self.new piece.entry ([chars] text.now)
+    ///   at)</code>
     ///
     /// [Bool]: crate::contracts#std.Bool
     /// [IsPieceAt]: crate::contracts#lexical.Found.IsPieceAt
@@ -92,7 +94,8 @@ pub trait TokenSink {
     /// - `requires kind`: <code>piece.kind ≡ kinds.Literal</code>
     /// - `requires room`: <code>at + piece.chars &lt; 2 ^ 32</code>
     /// - `requires took`: <code>[IsTakenTo] took self.old at ([chars] text.now)</code>
-    /// - `ensures`: <code>[OnOk] result ([TakesPiece] took self.old self.new piece.entry ([chars] text.now) at)</code>
+    /// - `ensures`: <code>[OnOk] result ([TakesPiece] took self.old self.new piece.entry ([chars] text.now)
+    ///   at)</code>
     ///
     /// [Bool]: crate::contracts#std.Bool
     /// [IsPieceAt]: crate::contracts#lexical.Found.IsPieceAt
@@ -110,7 +113,8 @@ pub trait TokenSink {
     /// - `requires kind`: <code>piece.kind ≡ kinds.Doc inner said</code>
     /// - `requires room`: <code>at + piece.chars &lt; 2 ^ 32</code>
     /// - `requires took`: <code>[IsTakenTo] took self.old at ([chars] text.now)</code>
-    /// - `ensures`: <code>[OnOk] result ([TakesPiece] took self.old self.new piece.entry ([chars] text.now) at)</code>
+    /// - `ensures`: <code>[OnOk] result ([TakesPiece] took self.old self.new piece.entry ([chars] text.now)
+    ///   at)</code>
     ///
     /// [Bool]: crate::contracts#std.Bool
     /// [IsPieceAt]: crate::contracts#lexical.Found.IsPieceAt
@@ -151,11 +155,11 @@ pub trait TokenSink {
     /// # Contract
     ///
     /// - `requires stands`: <code>(rest : [List] ℕ) × [IsPastWhite] ([chars] text.now) rest size</code>
-    /// - `requires took`: <code>(before : [Taken] Self.Opened) × took self.old before × (before.source ≡ before.passed ++
-    ///   [chars] text.now) × ([position] before + size &lt; 2 ^ 32)</code>
-    /// - `ensures`: <code>(before : [Taken] Self.Opened) (front rest : [List] ℕ) → took self.old before → before.source ≡
-    ///   before.passed ++ [chars] text.now → [chars] text.now ≡ front ++ rest → size ≡ [length] front → took self.new
-    ///   ([past] before front before.opened \[\])</code>
+    /// - `requires took`: <code>(before : [Taken] Self.Opened) × took self.old before × (before.source ≡
+    ///   before.passed ++ [chars] text.now) × ([position] before + size &lt; 2 ^ 32)</code>
+    /// - `ensures`: <code>(before : [Taken] Self.Opened) (front rest : [List] ℕ) → took self.old before →
+    ///   before.source ≡ before.passed ++ [chars] text.now → [chars] text.now ≡ front ++ rest → size ≡ [length]
+    ///   front → took self.new ([past] before front before.opened \[\])</code>
     ///
     /// [List]: crate::contracts#std.List
     /// [IsPastWhite]: crate::contracts#lexical.WhiteRun.IsPastWhite
@@ -175,9 +179,9 @@ pub trait TokenSink {
     /// - `requires one`: <code>[length] ([opening] delimiter) ≡ 1</code>
     /// - `requires room`: <code>at + 1 &lt; 2 ^ 32</code>
     /// - `requires took`: <code>[IsTakenTo] took self.old at ([chars] text.now)</code>
-    /// - `ensures`: <code>[IfOk] result (λ group. (opens group ≡ (delimiter, at)) × ((before : [Taken] Self.Opened) → took
-    ///   self.old before → [IsAt] before at ([chars] text.now) → took self.new ([past] before ([opening] delimiter) (group
-    ///   ∷ before.opened) ([Opens] delimiter at ∷ \[\]))))</code>
+    /// - `ensures`: <code>[IfOk] result (λ group. (opens group ≡ (delimiter, at)) × ((before : [Taken] Self.Opened)
+    ///   → took self.old before → [IsAt] before at ([chars] text.now) → took self.new ([past] before ([opening]
+    ///   delimiter) (group ∷ before.opened) ([Opens] delimiter at ∷ \[\]))))</code>
     ///
     /// [List]: crate::contracts#std.List
     /// [chars]: crate::contracts#std.chars
@@ -205,11 +209,11 @@ pub trait TokenSink {
     /// - `requires one`: <code>[length] ([closing] delimiter) ≡ 1</code>
     /// - `requires room`: <code>at + 1 &lt; 2 ^ 32</code>
     /// - `requires fits`: <code>(opens group).0 ≡ delimiter</code>
-    /// - `requires took`: <code>(before : [Taken] Self.Opened) × (outer : [List] Self.Opened) × took self.old before ×
-    ///   [IsAt] before at ([chars] text.now) × (before.opened ≡ group ∷ outer)</code>
-    /// - `ensures`: <code>[OnOk] result ((before : [Taken] Self.Opened) (outer : [List] Self.Opened) → took self.old before
-    ///   → [IsAt] before at ([chars] text.now) → before.opened ≡ group ∷ outer → took self.new ([past] before ([closing]
-    ///   delimiter) outer ([Closes] delimiter (at + 1) ∷ \[\])))</code>
+    /// - `requires took`: <code>(before : [Taken] Self.Opened) × (outer : [List] Self.Opened) × took self.old
+    ///   before × [IsAt] before at ([chars] text.now) × (before.opened ≡ group ∷ outer)</code>
+    /// - `ensures`: <code>[OnOk] result ((before : [Taken] Self.Opened) (outer : [List] Self.Opened) → took
+    ///   self.old before → [IsAt] before at ([chars] text.now) → before.opened ≡ group ∷ outer → took self.new
+    ///   ([past] before ([closing] delimiter) outer ([Closes] delimiter (at + 1) ∷ \[\])))</code>
     ///
     /// [List]: crate::contracts#std.List
     /// [chars]: crate::contracts#std.chars
@@ -254,12 +258,12 @@ pub struct Ending<'t, T> {
 /// - `requires starts`: <code>S.took sink.old ([nothing] base ([chars] text.now))</code>
 /// - `ensures reads`: <code>[IfOk] result (λ ending. [ReadsTo] S.opens S.took base ([chars] text.now) ([chars]
 ///   ending.rest.now) ending.at ending.first sink.new ending.opened.items)</code>
-/// - `ensures stops`: <code>[IfOk] result (λ ending. [MatchOption] ending.stray ([HasNoPiece] ending.first ([chars]
-///   ending.rest.now)) (λ piece. [IsPieceAt] ending.first ([chars] ending.rest.now) piece × ((waiting : [List]
-///   [Opened]) → [map] S.opens ([reverse] ending.opened.items) ≡ [openers_of] waiting → [IsStray] piece.kind
-///   waiting)))</code>
-/// - `ensures left`: <code>[IfOk] result (λ ending. ending.at + [length] ([chars] ending.rest.now) ≡ base + [length]
-///   ([chars] text.now))</code>
+/// - `ensures stops`: <code>[IfOk] result (λ ending. [MatchOption] ending.stray ([HasNoPiece] ending.first
+///   ([chars] ending.rest.now)) (λ piece. [IsPieceAt] ending.first ([chars] ending.rest.now) piece × ((waiting
+///   : [List] [Opened]) → [map] S.opens ([reverse] ending.opened.items) ≡ [openers_of] waiting → [IsStray]
+///   piece.kind waiting)))</code>
+/// - `ensures left`: <code>[IfOk] result (λ ending. ending.at + [length] ([chars] ending.rest.now) ≡ base +
+///   [length] ([chars] text.now))</code>
 ///
 /// [length]: crate::contracts#std.length
 /// [chars]: crate::contracts#std.chars

@@ -21,15 +21,15 @@ use crate::shim::alloc::AllocError;
 ///
 /// # Contract
 ///
-/// - `ensures ok`: <code>[IfOk] result (λ out. [PrintsText] ([next_lo] [new_map]) ([chars] text.now) ([string_bytes]
-///   out))</code>
+/// - `ensures ok`: <code>[IfOk] result (λ out. [PrintsText] ([next_lo] [new_map]) ([chars] text.now)
+///   ([string_bytes] out))</code>
 /// - `ensures apart`: <code>[IfOk] result (λ \_. [HasNoFault] ([next_lo] [new_map]) ([chars] text.now))</code>
-/// - `ensures lex`: <code>[IfErr] result (λ error. [IfLex] error (λ fault. (fault.lo ≡ fault.hi) × [FaultAt] ([next_lo]
-///   [new_map]) ([chars] text.now) fault.lo))</code>
+/// - `ensures lex`: <code>[IfErr] result (λ error. [IfLex] error (λ fault. (fault.lo ≡ fault.hi) × [FaultAt]
+///   ([next_lo] [new_map]) ([chars] text.now) fault.lo))</code>
 /// - `ensures only`: <code>[IfErr] result (λ error. [IfLex] error (λ fault. [IsOnlyFault] ([next_lo] [new_map])
 ///   ([chars] text.now) fault.lo))</code>
-/// - `ensures map_full`: <code>(result ≡ [Err] ParseError.MapFull) ↔ ([Fits] [new_map] ([length] ([chars] text.now)) →
-///   ⊥)</code>
+/// - `ensures map_full`: <code>(result ≡ [Err] ParseError.MapFull) ↔ ([Fits] [new_map] ([length] ([chars]
+///   text.now)) → ⊥)</code>
 ///
 /// [IfOk]: crate::contracts#std.IfOk
 /// [PrintsText]: crate::contracts#pm_stream.PrintsText.PrintsText

@@ -74,8 +74,8 @@ impl<'a> Steps<'a> {
     ///
     /// # Contract
     ///
-    /// - `ensures ok`: <code>[IfOk] result (λ next. [MatchOption] next ((self.old ≡ \[\]) × (self.new ≡ \[\])) (λ step.
-    ///   self.old ≡ [step_of] step ∷ self.new))</code>
+    /// - `ensures ok`: <code>[IfOk] result (λ next. [MatchOption] next ((self.old ≡ \[\]) × (self.new ≡ \[\])) (λ
+    ///   step. self.old ≡ [step_of] step ∷ self.new))</code>
     /// - `ensures siblings`: <code>[IfOk] result (λ next. [IfSome] next (λ step. [FollowedBy] ([step_of] step)
     ///   self.new))</code>
     /// - `ensures memory`: <code>[OnErr] result ([EntersNext] self.old)</code>
@@ -112,9 +112,9 @@ impl<'a> Steps<'a> {
     ///
     /// # Contract
     ///
-    /// - `ensures`: <code>[MatchOption] result (([EntersNext] self.old → ⊥) × (self.new ≡ self.old)) (λ next. self.old ≡
-    ///   [Enter] next.0.now ([forest] next.1.now) ∷ [steps_onto] next.0.now.stream ([Leave] next.0.now ([forest]
-    ///   next.1.now) ∷ self.new))</code>
+    /// - `ensures`: <code>[MatchOption] result (([EntersNext] self.old → ⊥) × (self.new ≡ self.old)) (λ next.
+    ///   self.old ≡ [Enter] next.0.now ([forest] next.1.now) ∷ [steps_onto] next.0.now.stream ([Leave] next.0.now
+    ///   ([forest] next.1.now) ∷ self.new))</code>
     ///
     /// [MatchOption]: crate::contracts#std.MatchOption
     /// [EntersNext]: crate::contracts#pm_stream.Steps.EntersNext

@@ -37,10 +37,10 @@ impl<'a> Walk<'a> {
     ///
     /// # Contract
     ///
-    /// - `ensures ok`: <code>[IfOk] result (λ next. [MatchOption] next ((self.old ≡ \[\]) × (self.new ≡ \[\])) (λ tree.
-    ///   self.old ≡ tree.now ∷ self.new))</code>
-    /// - `ensures inside`: <code>[IfOk] result (λ next. [IfSome] next (λ tree. (rest : [List] TreeValue) × (self.new ≡
-    ///   [in_order_onto] ([inside] tree.now) rest)))</code>
+    /// - `ensures ok`: <code>[IfOk] result (λ next. [MatchOption] next ((self.old ≡ \[\]) × (self.new ≡ \[\])) (λ
+    ///   tree. self.old ≡ tree.now ∷ self.new))</code>
+    /// - `ensures inside`: <code>[IfOk] result (λ next. [IfSome] next (λ tree. (rest : [List] TreeValue) ×
+    ///   (self.new ≡ [in_order_onto] ([inside] tree.now) rest)))</code>
     /// - `ensures memory`: <code>[OnErr] result ([BeginsWithGroup] self.old)</code>
     /// - `ensures err`: <code>[OnErr] result (self.new ≡ self.old)</code>
     ///

@@ -56,16 +56,16 @@ impl Ident {
     ///
     /// # Contract
     ///
-    /// - `ensures ok`: <code>[IfOk] result (λ ident. ident ≡ record { name = [chars] name.now; raw = [false]; span = span
-    ///   })</code>
-    /// - `ensures empty`: <code>(result ≡ [Err] IdentError.Empty) ↔ ([ident_fault] [false] ([chars] name.now) ≡ [Some]
-    ///   IdentError.Empty)</code>
-    /// - `ensures number`: <code>(result ≡ [Err] IdentError.Number) ↔ ([ident_fault] [false] ([chars] name.now) ≡ [Some]
-    ///   IdentError.Number)</code>
-    /// - `ensures invalid`: <code>(result ≡ [Err] IdentError.Invalid) ↔ ([ident_fault] [false] ([chars] name.now) ≡ [Some]
-    ///   IdentError.Invalid)</code>
-    /// - `ensures reserved`: <code>(result ≡ [Err] IdentError.Reserved) ↔ ([ident_fault] [false] ([chars] name.now) ≡
-    ///   [Some] IdentError.Reserved)</code>
+    /// - `ensures ok`: <code>[IfOk] result (λ ident. ident ≡ record { name = [chars] name.now; raw = [false]; span =
+    ///   span })</code>
+    /// - `ensures empty`: <code>(result ≡ [Err] IdentError.Empty) ↔ ([ident_fault] [false] ([chars] name.now) ≡
+    ///   [Some] IdentError.Empty)</code>
+    /// - `ensures number`: <code>(result ≡ [Err] IdentError.Number) ↔ ([ident_fault] [false] ([chars] name.now) ≡
+    ///   [Some] IdentError.Number)</code>
+    /// - `ensures invalid`: <code>(result ≡ [Err] IdentError.Invalid) ↔ ([ident_fault] [false] ([chars] name.now) ≡
+    ///   [Some] IdentError.Invalid)</code>
+    /// - `ensures reserved`: <code>(result ≡ [Err] IdentError.Reserved) ↔ ([ident_fault] [false] ([chars] name.now)
+    ///   ≡ [Some] IdentError.Reserved)</code>
     ///
     /// [IfOk]: crate::contracts#std.IfOk
     /// [chars]: crate::contracts#std.chars
@@ -86,16 +86,16 @@ impl Ident {
     ///
     /// # Contract
     ///
-    /// - `ensures ok`: <code>[IfOk] result (λ ident. ident ≡ record { name = [chars] name.now; raw = [true]; span = span
-    ///   })</code>
-    /// - `ensures empty`: <code>(result ≡ [Err] IdentError.Empty) ↔ ([ident_fault] [true] ([chars] name.now) ≡ [Some]
-    ///   IdentError.Empty)</code>
-    /// - `ensures number`: <code>(result ≡ [Err] IdentError.Number) ↔ ([ident_fault] [true] ([chars] name.now) ≡ [Some]
-    ///   IdentError.Number)</code>
-    /// - `ensures invalid`: <code>(result ≡ [Err] IdentError.Invalid) ↔ ([ident_fault] [true] ([chars] name.now) ≡ [Some]
-    ///   IdentError.Invalid)</code>
-    /// - `ensures reserved`: <code>(result ≡ [Err] IdentError.Reserved) ↔ ([ident_fault] [true] ([chars] name.now) ≡ [Some]
-    ///   IdentError.Reserved)</code>
+    /// - `ensures ok`: <code>[IfOk] result (λ ident. ident ≡ record { name = [chars] name.now; raw = [true]; span =
+    ///   span })</code>
+    /// - `ensures empty`: <code>(result ≡ [Err] IdentError.Empty) ↔ ([ident_fault] [true] ([chars] name.now) ≡
+    ///   [Some] IdentError.Empty)</code>
+    /// - `ensures number`: <code>(result ≡ [Err] IdentError.Number) ↔ ([ident_fault] [true] ([chars] name.now) ≡
+    ///   [Some] IdentError.Number)</code>
+    /// - `ensures invalid`: <code>(result ≡ [Err] IdentError.Invalid) ↔ ([ident_fault] [true] ([chars] name.now) ≡
+    ///   [Some] IdentError.Invalid)</code>
+    /// - `ensures reserved`: <code>(result ≡ [Err] IdentError.Reserved) ↔ ([ident_fault] [true] ([chars] name.now)
+    ///   ≡ [Some] IdentError.Reserved)</code>
     ///
     /// [IfOk]: crate::contracts#std.IfOk
     /// [chars]: crate::contracts#std.chars

@@ -18,9 +18,10 @@ use crate::pm_token::marks::Spacing;
 ///
 /// - `ensures delimiters`: <code>(a b : Delimiter) → [IsTrue] (⟦&lt;Delimiter as PartialEq&gt;⟧.eq a b) ↔ (a ≡
 ///   b)</code>
-/// - `ensures spacings`: <code>(a b : Spacing) → [IsTrue] (⟦&lt;Spacing as PartialEq&gt;⟧.eq a b) ↔ (a ≡ b)</code>
-/// - `ensures errors`: <code>(a b : ConversionErrorKind) → [IsTrue] (⟦&lt;ConversionErrorKind as PartialEq&gt;⟧.eq a b)
-///   ↔ (a ≡ b)</code>
+/// - `ensures spacings`: <code>(a b : Spacing) → [IsTrue] (⟦&lt;Spacing as PartialEq&gt;⟧.eq a b) ↔ (a ≡
+///   b)</code>
+/// - `ensures errors`: <code>(a b : ConversionErrorKind) → [IsTrue] (⟦&lt;ConversionErrorKind as
+///   PartialEq&gt;⟧.eq a b) ↔ (a ≡ b)</code>
 ///
 /// [IsTrue]: crate::contracts#std.IsTrue
 pub fn equal_delimiters_spacings_and_errors()
@@ -31,9 +32,12 @@ pub fn equal_delimiters_spacings_and_errors()
 ///
 /// # Contract
 ///
-/// - `ensures lexing`: <code>(a b : [Extent]) → [IsTrue] (⟦&lt;LexError as PartialEq&gt;⟧.eq a b) ↔ (a ≡ b)</code>
-/// - `ensures parsing`: <code>(a b : ParseError) → [IsTrue] (⟦&lt;ParseError as PartialEq&gt;⟧.eq a b) ↔ (a ≡ b)</code>
-/// - `ensures names`: <code>(a b : IdentError) → [IsTrue] (⟦&lt;IdentError as PartialEq&gt;⟧.eq a b) ↔ (a ≡ b)</code>
+/// - `ensures lexing`: <code>(a b : [Extent]) → [IsTrue] (⟦&lt;LexError as PartialEq&gt;⟧.eq a b) ↔ (a ≡
+///   b)</code>
+/// - `ensures parsing`: <code>(a b : ParseError) → [IsTrue] (⟦&lt;ParseError as PartialEq&gt;⟧.eq a b) ↔ (a ≡
+///   b)</code>
+/// - `ensures names`: <code>(a b : IdentError) → [IsTrue] (⟦&lt;IdentError as PartialEq&gt;⟧.eq a b) ↔ (a ≡
+///   b)</code>
 ///
 /// [Extent]: crate::contracts#pm_span.Extent.Extent
 /// [IsTrue]: crate::contracts#std.IsTrue

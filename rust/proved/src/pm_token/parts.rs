@@ -17,8 +17,8 @@ use crate::shim::fmt;
 /// # Contract
 ///
 /// - `requires`: <code>[IsBuiltToken] (tokens.[Name] raw ([chars] name.now))</code>
-/// - `ensures ok`: <code>[IfOk] result (λ ident. ident ≡ record { name = [chars] name.now; raw = raw; span = span
-///   })</code>
+/// - `ensures ok`: <code>[IfOk] result (λ ident. ident ≡ record { name = [chars] name.now; raw = raw; span =
+///   span })</code>
 ///
 /// [IsBuiltToken]: crate::contracts#pm_token.Built.IsBuiltToken
 /// [Name]: crate::contracts#lexical.Token.Name
@@ -72,7 +72,8 @@ pub fn punct(mark: char, spacing: Spacing, span: Span) -> Punct
 /// # Contract
 ///
 /// - `requires`: <code>[IsBuiltToken] (tokens.[Literal] ([chars] text.now))</code>
-/// - `ensures ok`: <code>[IfOk] result (λ literal. literal ≡ record { text = [chars] text.now; span = span })</code>
+/// - `ensures ok`: <code>[IfOk] result (λ literal. literal ≡ record { text = [chars] text.now; span = span
+///   })</code>
 ///
 /// [IsBuiltToken]: crate::contracts#pm_token.Built.IsBuiltToken
 /// [Literal]: crate::contracts#lexical.Token.Literal
@@ -88,8 +89,9 @@ pub fn literal(text: &str, span: Span) -> Result<Literal, AllocError>
 ///
 /// # Contract
 ///
-/// - `ensures`: <code>[MatchOption] result.0 (([has_minus] literal.text ≡ [false]) × (result.1 ≡ literal)) (λ minus.
-///   ([has_minus] literal.text ≡ [true]) × (minus ≡ [minus_of] literal) × (result.1 ≡ [number_of] literal))</code>
+/// - `ensures`: <code>[MatchOption] result.0 (([has_minus] literal.text ≡ [false]) × (result.1 ≡ literal)) (λ
+///   minus. ([has_minus] literal.text ≡ [true]) × (minus ≡ [minus_of] literal) × (result.1 ≡ [number_of]
+///   literal))</code>
 ///
 /// [MatchOption]: crate::contracts#std.MatchOption
 /// [has_minus]: crate::contracts#pm_token.Negative.has_minus
@@ -106,8 +108,8 @@ pub fn split_minus(literal: Literal) -> (Option<Punct>, Literal)
 ///
 /// # Contract
 ///
-/// - `ensures ok`: <code>[IfOk] result (λ literal. literal ≡ record { text = [string_text] ([chars] text.now); span =
-///   span })</code>
+/// - `ensures ok`: <code>[IfOk] result (λ literal. literal ≡ record { text = [string_text] ([chars] text.now);
+///   span = span })</code>
 ///
 /// [IfOk]: crate::contracts#std.IfOk
 /// [string_text]: crate::contracts#pm_token.Escaped.string_text

@@ -25,7 +25,8 @@ impl<'a> Hole<'a> {
     ///
     /// # Contract
     ///
-    /// - `ensures`: <code>[named] result ≡ record { name = [chars] name.now; filling = [OneStream] stream.now }</code>
+    /// - `ensures`: <code>[named] result ≡ record { name = [chars] name.now; filling = [OneStream] stream.now
+    ///   }</code>
     ///
     /// [named]: crate::contracts#quoting.Given.named
     /// [chars]: crate::contracts#std.chars
@@ -42,7 +43,8 @@ impl<'a> Hole<'a> {
     ///
     /// # Contract
     ///
-    /// - `ensures`: <code>[named] result ≡ record { name = [chars] name.now; filling = [EachStream] streams.now }</code>
+    /// - `ensures`: <code>[named] result ≡ record { name = [chars] name.now; filling = [EachStream] streams.now
+    ///   }</code>
     ///
     /// [named]: crate::contracts#quoting.Given.named
     /// [chars]: crate::contracts#std.chars

@@ -27,8 +27,8 @@ impl Quote {
     ///
     /// # Contract
     ///
-    /// - `ensures ok`: <code>[OnOk] result ((stream : [Forest]) × ([filled] ([named_all] holes.now) template.now ≡ [Ok]
-    ///   stream) × (self.new ≡ [joined] self.old stream))</code>
+    /// - `ensures ok`: <code>[OnOk] result ((stream : [Forest]) × ([filled] ([named_all] holes.now) template.now ≡
+    ///   [Ok] stream) × (self.new ≡ [joined] self.old stream))</code>
     /// - `ensures fault`: <code>[IfErr] result (λ fault. [UnlessMemory] fault ([filled] ([named_all] holes.now)
     ///   template.now ≡ [Err] fault))</code>
     /// - `ensures kept`: <code>[OnErr] result (self.new ≡ self.old)</code>
@@ -62,13 +62,13 @@ impl Quote {
     ///
     /// # Contract
     ///
-    /// - `ensures ok`: <code>[OnOk] result ((trees : [Forest]) × (stream : [Forest]) × [ParsesTo] ([next_lo] map.old)
-    ///   ([chars] template.now) trees × ([filled] ([named_all] holes.now) trees ≡ [Ok] stream) × (self.new ≡ [joined]
-    ///   self.old stream))</code>
-    /// - `ensures fault`: <code>[IfErr] result ([IsTextFault] ([next_lo] map.old) ([chars] template.now) ([named_all]
-    ///   holes.now))</code>
-    /// - `ensures map_full`: <code>(result ≡ [Err] (TemplateError.Parse ParseError.MapFull)) ↔ ([Fits] map.old ([length]
-    ///   ([chars] template.now)) → ⊥)</code>
+    /// - `ensures ok`: <code>[OnOk] result ((trees : [Forest]) × (stream : [Forest]) × [ParsesTo] ([next_lo]
+    ///   map.old) ([chars] template.now) trees × ([filled] ([named_all] holes.now) trees ≡ [Ok] stream) × (self.new
+    ///   ≡ [joined] self.old stream))</code>
+    /// - `ensures fault`: <code>[IfErr] result ([IsTextFault] ([next_lo] map.old) ([chars] template.now)
+    ///   ([named_all] holes.now))</code>
+    /// - `ensures map_full`: <code>(result ≡ [Err] (TemplateError.Parse ParseError.MapFull)) ↔ ([Fits] map.old
+    ///   ([length] ([chars] template.now)) → ⊥)</code>
     /// - `ensures map`: <code>[LeavesMap] map.old ([chars] template.now) map.new result</code>
     /// - `ensures kept`: <code>[OnErr] result (self.new ≡ self.old)</code>
     ///

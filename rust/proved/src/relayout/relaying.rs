@@ -22,8 +22,8 @@ use crate::shim::alloc::AllocError;
 ///
 /// # Contract
 ///
-/// - `ensures ok`: <code>[IfOk] result (λ out. [IsRelaid] choices.now ([chars] text.now) ([chars] ([string_bytes]
-///   out)))</code>
+/// - `ensures ok`: <code>[IfOk] result (λ out. [IsRelaid] choices.now ([chars] text.now) ([chars]
+///   ([string_bytes] out)))</code>
 /// - `ensures no_piece`: <code>[IfErr] result ([IfNoPiece] ([HasNoCover] ([chars] text.now)))</code>
 ///
 /// [IfOk]: crate::contracts#std.IfOk

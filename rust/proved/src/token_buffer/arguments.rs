@@ -13,8 +13,8 @@ impl<'a> Cursor<'a> {
     ///
     /// # Contract
     ///
-    /// - `ensures`: <code>[MatchOption] result ([after_arguments] ([left] self.entry) ≡ [None]) (λ rest. [after_arguments]
-    ///   ([left] self.entry) ≡ [Some] ([left] rest))</code>
+    /// - `ensures`: <code>[MatchOption] result ([after_arguments] ([left] self.entry) ≡ [None]) (λ rest.
+    ///   [after_arguments] ([left] self.entry) ≡ [Some] ([left] rest))</code>
     ///
     /// [MatchOption]: crate::contracts#std.MatchOption
     /// [after_arguments]: crate::contracts#token_buffer.Arguments.after_arguments
@@ -52,8 +52,8 @@ impl<'a> Cursor<'a> {
     ///
     /// # Contract
     ///
-    /// - `ensures`: <code>[MatchOption] result ([after_turbofish] ([left] self.entry) ≡ [None]) (λ rest. [after_turbofish]
-    ///   ([left] self.entry) ≡ [Some] ([left] rest))</code>
+    /// - `ensures`: <code>[MatchOption] result ([after_turbofish] ([left] self.entry) ≡ [None]) (λ rest.
+    ///   [after_turbofish] ([left] self.entry) ≡ [Some] ([left] rest))</code>
     ///
     /// [MatchOption]: crate::contracts#std.MatchOption
     /// [after_turbofish]: crate::contracts#token_buffer.Arguments.after_turbofish

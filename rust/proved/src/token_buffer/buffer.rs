@@ -30,18 +30,19 @@ impl<'a> TokenBuffer<'a> {
     ///
     /// # Contract
     ///
-    /// - `ensures ok`: <code>[IfOk] result (λ buffer. [ParsesTo] ([next_lo] [new_map]) ([chars] text.now) buffer)</code>
+    /// - `ensures ok`: <code>[IfOk] result (λ buffer. [ParsesTo] ([next_lo] [new_map]) ([chars] text.now)
+    ///   buffer)</code>
     /// - `ensures apart`: <code>[IfOk] result (λ \_. [HasNoFault] ([next_lo] [new_map]) ([chars] text.now))</code>
-    /// - `ensures lex`: <code>[IfErr] result (λ error. [IfParse] error (λ parse. [IfLex] parse (λ fault. (fault.lo ≡
-    ///   fault.hi) × [FaultAt] ([next_lo] [new_map]) ([chars] text.now) fault.lo)))</code>
-    /// - `ensures only`: <code>[IfErr] result (λ error. [IfParse] error (λ parse. [IfLex] parse (λ fault. [IsOnlyFault]
-    ///   ([next_lo] [new_map]) ([chars] text.now) fault.lo)))</code>
-    /// - `ensures map_full`: <code>(result ≡ [Err] (BufferError.Parse ParseError.MapFull)) ↔ (([length] text.now &lt; 2 ^ 32)
-    ///   × ([Fits] [new_map] ([length] ([chars] text.now)) → ⊥))</code>
-    /// - `ensures few`: <code>[IfOk] result (λ buffer. ([length] text.now &lt; 2 ^ 32) × ([length] ([flattening] buffer)
-    ///   &lt; 2 ^ 32))</code>
-    /// - `ensures many`: <code>[IfErr] result (λ error. [IfTooLong] error ((2 ^ 32 ≤ [length] text.now) ⊎ [HasManyTokens]
-    ///   ([next_lo] [new_map]) ([chars] text.now)))</code>
+    /// - `ensures lex`: <code>[IfErr] result (λ error. [IfParse] error (λ parse. [IfLex] parse (λ fault. (fault.lo
+    ///   ≡ fault.hi) × [FaultAt] ([next_lo] [new_map]) ([chars] text.now) fault.lo)))</code>
+    /// - `ensures only`: <code>[IfErr] result (λ error. [IfParse] error (λ parse. [IfLex] parse (λ fault.
+    ///   [IsOnlyFault] ([next_lo] [new_map]) ([chars] text.now) fault.lo)))</code>
+    /// - `ensures map_full`: <code>(result ≡ [Err] (BufferError.Parse ParseError.MapFull)) ↔ (([length] text.now
+    ///   &lt; 2 ^ 32) × ([Fits] [new_map] ([length] ([chars] text.now)) → ⊥))</code>
+    /// - `ensures few`: <code>[IfOk] result (λ buffer. ([length] text.now &lt; 2 ^ 32) × ([length] ([flattening]
+    ///   buffer) &lt; 2 ^ 32))</code>
+    /// - `ensures many`: <code>[IfErr] result (λ error. [IfTooLong] error ((2 ^ 32 ≤ [length] text.now) ⊎
+    ///   [HasManyTokens] ([next_lo] [new_map]) ([chars] text.now)))</code>
     ///
     /// [IfOk]: crate::contracts#std.IfOk
     /// [ParsesTo]: crate::contracts#pm_stream.Parsing.ParsesTo

@@ -165,7 +165,8 @@ impl<'a> Cursor<'a> {
     /// # Contract
     ///
     /// - `ensures none`: <code>[IfNone] result ([left] self.entry ≡ [nil])</code>
-    /// - `ensures some`: <code>[IfSome] result (λ rest. (first : TokenText) × [Begins] first self.entry rest)</code>
+    /// - `ensures some`: <code>[IfSome] result (λ rest. (first : TokenText) × [Begins] first self.entry
+    ///   rest)</code>
     ///
     /// [IfNone]: crate::contracts#std.IfNone
     /// [left]: crate::contracts#token_buffer.Reads.left
@@ -290,8 +291,8 @@ impl<'a> Cursor<'a> {
     ///
     /// # Contract
     ///
-    /// - `ensures`: <code>[MatchOption] result ([literal_first] ([left] self.entry) ≡ [false]) (λ found. [BeginsWith]
-    ///   (tokens.[Literal] ([literal_text] found.0)) self.entry found.1)</code>
+    /// - `ensures`: <code>[MatchOption] result ([literal_first] ([left] self.entry) ≡ [false]) (λ found.
+    ///   [BeginsWith] (tokens.[Literal] ([literal_text] found.0)) self.entry found.1)</code>
     ///
     /// [MatchOption]: crate::contracts#std.MatchOption
     /// [literal_first]: crate::contracts#token_buffer.Reads.literal_first
@@ -313,9 +314,9 @@ impl<'a> Cursor<'a> {
     ///
     /// # Contract
     ///
-    /// - `ensures`: <code>[MatchOption] result ([lifetime_first] ([left] self.entry) ≡ [false]) (λ found. (name : Cursor) ×
-    ///   [BeginsWith] (tokens.[Mark] 39 [true]) self.entry name × [BeginsWith] (tokens.[Name] found.0.raw ([chars]
-    ///   found.0.text.now)) name found.1)</code>
+    /// - `ensures`: <code>[MatchOption] result ([lifetime_first] ([left] self.entry) ≡ [false]) (λ found. (name :
+    ///   Cursor) × [BeginsWith] (tokens.[Mark] 39 [true]) self.entry name × [BeginsWith] (tokens.[Name] found.0.raw
+    ///   ([chars] found.0.text.now)) name found.1)</code>
     ///
     /// [MatchOption]: crate::contracts#std.MatchOption
     /// [lifetime_first]: crate::contracts#token_buffer.Reads.lifetime_first
@@ -358,8 +359,8 @@ impl<'a> Cursor<'a> {
     ///
     /// # Contract
     ///
-    /// - `ensures`: <code>[MatchOption] result ([group_first] ([left] self.entry) ≡ [None]) (λ found. [BeginsWithGroup]
-    ///   found.0 self.entry found.1 found.2)</code>
+    /// - `ensures`: <code>[MatchOption] result ([group_first] ([left] self.entry) ≡ [None]) (λ found.
+    ///   [BeginsWithGroup] found.0 self.entry found.1 found.2)</code>
     ///
     /// [MatchOption]: crate::contracts#std.MatchOption
     /// [group_first]: crate::contracts#token_buffer.Reads.group_first

@@ -56,13 +56,13 @@ impl Filling {
     /// - `requires stands`: <code>(first : [Bool]) × (source : [List] ℕ) × [IsPieceAt] first source piece</code>
     /// - `requires bytes`: <code>lo + piece.bytes &lt; 2 ^ 32</code>
     /// - `requires room`: <code>at + piece.chars &lt; 2 ^ 32</code>
-    /// - `ensures ok`: <code>[OnOk] result ((first : [Bool]) (text passed source : [List] ℕ) → [IsUtf8] text → [chars] text
-    ///   ≡ passed ++ source → lo ≡ [length] ([encode_utf8_all] passed) → (found : [IsPieceAt] first source piece.entry) →
-    ///   [FillsEvents] text self.old self.new ([events_onto] at ([kind_of] piece.entry.kind found.front) found.front
-    ///   \[\]))</code>
-    /// - `ensures stray`: <code>[IfErr] result (λ error. [IfParse] error (λ parse. (text : [List] ℕ) (groups : [List]
-    ///   [Opened]) (trees : [Forest]) → [Fills] text self.old groups trees → [IsFaultFor] at ([IsStray] piece.entry.kind
-    ///   groups) parse))</code>
+    /// - `ensures ok`: <code>[OnOk] result ((first : [Bool]) (text passed source : [List] ℕ) → [IsUtf8] text →
+    ///   [chars] text ≡ passed ++ source → lo ≡ [length] ([encode_utf8_all] passed) → (found : [IsPieceAt] first
+    ///   source piece.entry) → [FillsEvents] text self.old self.new ([events_onto] at ([kind_of] piece.entry.kind
+    ///   found.front) found.front \[\]))</code>
+    /// - `ensures stray`: <code>[IfErr] result (λ error. [IfParse] error (λ parse. (text : [List] ℕ) (groups :
+    ///   [List] [Opened]) (trees : [Forest]) → [Fills] text self.old groups trees → [IsFaultFor] at ([IsStray]
+    ///   piece.entry.kind groups) parse))</code>
     /// - `ensures many`: <code>[IfErr] result (λ error. [IfTooLong] error (2 ^ 32 ≤ [length]
     ///   self.old.entries.items))</code>
     ///
@@ -207,16 +207,17 @@ impl Filling {
     ///
     /// # Contract
     ///
-    /// - `ensures ok`: <code>[IfOk] result (λ entries. ([chars] rest.now ≡ \[\]) × ((text : [List] ℕ) (groups : [List]
-    ///   [Opened]) (trees : [Forest]) → [Fills] text self groups trees → (groups ≡ \[\]) × [Holds] text entries.items
-    ///   trees))</code>
+    /// - `ensures ok`: <code>[IfOk] result (λ entries. ([chars] rest.now ≡ \[\]) × ((text : [List] ℕ) (groups :
+    ///   [List] [Opened]) (trees : [Forest]) → [Fills] text self groups trees → (groups ≡ \[\]) × [Holds] text
+    ///   entries.items trees))</code>
     /// - `ensures few`: <code>[IfOk] result (λ entries. [length] entries.items &lt; 2 ^ 32)</code>
-    /// - `ensures many`: <code>[IfErr] result (λ error. [IfTooLong] error (2 ^ 32 ≤ [length] self.entries.items))</code>
-    /// - `ensures stuck`: <code>[chars] rest.now ≢ \[\] → [IfErr] result (λ error. [IfParse] error ([IsFaultFor] at (Unit
-    ///   {0})))</code>
-    /// - `ensures stays_open`: <code>[chars] rest.now ≡ \[\] → [IfErr] result (λ error. [IfParse] error (λ parse. (text :
-    ///   [List] ℕ) (groups : [List] [Opened]) (trees : [Forest]) → [Fills] text self groups trees → [IsOpenFault] groups
-    ///   parse))</code>
+    /// - `ensures many`: <code>[IfErr] result (λ error. [IfTooLong] error (2 ^ 32 ≤ [length]
+    ///   self.entries.items))</code>
+    /// - `ensures stuck`: <code>[chars] rest.now ≢ \[\] → [IfErr] result (λ error. [IfParse] error ([IsFaultFor] at
+    ///   (Unit {0})))</code>
+    /// - `ensures stays_open`: <code>[chars] rest.now ≡ \[\] → [IfErr] result (λ error. [IfParse] error (λ parse.
+    ///   (text : [List] ℕ) (groups : [List] [Opened]) (trees : [Forest]) → [Fills] text self groups trees →
+    ///   [IsOpenFault] groups parse))</code>
     ///
     /// [IfOk]: crate::contracts#std.IfOk
     /// [chars]: crate::contracts#std.chars

@@ -42,7 +42,8 @@ pub fn write_string<W: fmt::Write>(text: &str, f: &mut fmt::Formatter<W>) -> fmt
 ///
 /// # Contract
 ///
-/// - `ensures`: <code>[WritesOnOk] W.write_str_gives f.old result ([encode_utf8_all] ([chars] text.now)) f.new</code>
+/// - `ensures`: <code>[WritesOnOk] W.write_str_gives f.old result ([encode_utf8_all] ([chars] text.now))
+///   f.new</code>
 ///
 /// [WritesOnOk]: crate::contracts#std.WritesOnOk
 /// [encode_utf8_all]: crate::contracts#std.encode_utf8_all

@@ -100,5 +100,5 @@ returns-in_err-push-in-Opener-clause-memory g c =
 pub returns-in_err-close-in-Closer-clause-memory : goal.returns-in_err-close-in-Closer-clause-memory
 returns-in_err-close-in-Closer-clause-memory g c =
     closer_no_stray _ g.S.TokenSink.opens c.args.opened.now.items c.args.piece.kind c.in-Closer.c
-    c.delimiter-delimiter.result c.in-Some.group c.innermost.new.opened.items c.in-Closer.is c.delimiter-delimiter.ensures
-    c.in-Some.ensures.some.0 c.in-Some.ensures.some.1
+    c.delimiter-delimiter.result c.in-Some.group c.innermost.new.opened.items c.in-Closer.is
+    c.delimiter-delimiter.ensures c.in-Some.ensures.some.0 c.in-Some.ensures.some.1

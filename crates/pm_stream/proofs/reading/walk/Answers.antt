@@ -63,7 +63,8 @@ loop-piece-preserved g c =
     ∙ piece_rest _ c.loop-piece.rest.now c.in-Some.piece c.loop-piece.invariant.utf8 found in
     let h = c.loop-piece.invariant.reads in
     let passed = h.passed ++ (found.front ++ c.past_white-white.ensures.passed.front) in
-    let whole : chars c.args.text.now ≡ passed ++ chars c.past_white-white.result.0.now = h.whole ∙ (ap (λ t. h.passed ++ t) (found.whole ∙ ap (λ t. found.front ++ t) (sym tail
+    let whole : chars c.args.text.now ≡ passed ++ chars c.past_white-white.result.0.now = h.whole
+    ∙ (ap (λ t. h.passed ++ t) (found.whole ∙ ap (λ t. found.front ++ t) (sym tail
     ∙ c.past_white-white.ensures.passed.whole)) ∙ simp append_assoc refl) in
     let later = not_whole c.args.text.now c.past_white-white.result.0.now passed c.utf8.text
     c.past_white-white.ensures.utf8 whole
@@ -73,6 +74,7 @@ loop-piece-preserved g c =
       left = omega (arith, c.loop-piece.invariant.left);
       reads = reads_past g.S.TokenSink.opens g.S.TokenSink.took c.args.base
           (chars c.args.text.now) _ _ _ _ _ _ _ _ _ _ c.in-Some.piece c.loop-piece.invariant.reads
-          found tail (c.in_ok-take.ensures.ok (search rules) _ found.front found.rest found.whole found.chars found.stands)
+          found tail (c.in_ok-take.ensures.ok (search rules) _ found.front found.rest found.whole found.chars
+          found.stands)
           c.past_white-white.ensures.passed _ _ later c.white.ensures;
     }

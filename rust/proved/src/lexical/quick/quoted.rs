@@ -322,8 +322,8 @@ fn body_size(inside: &str, stretch: usize, kind: StringKind) -> Option<usize>
 /// # Contract
 ///
 /// - `requires`: <code>[IsTrue] ([list_all] [is_plain_ascii] ([take] stretch inside.now))</code>
-/// - `ensures`: <code>(text : [List] ℕ) → [chars] text ≡ [codes] \"\\\"\" ++ [chars] inside.now → [IfSome] result
-///   ([IsLiteralAt] ([chars] text))</code>
+/// - `ensures`: <code>(text : [List] ℕ) → [chars] text ≡ [codes] \"\\\"\" ++ [chars] inside.now → [IfSome]
+///   result ([IsLiteralAt] ([chars] text))</code>
 ///
 /// [IsTrue]: crate::contracts#std.IsTrue
 /// [list_all]: crate::contracts#std.list_all

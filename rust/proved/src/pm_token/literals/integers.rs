@@ -249,8 +249,8 @@ impl Literal {
     ///
     /// # Contract
     ///
-    /// - `ensures ok`: <code>[IfOk] result (λ literal. literal ≡ record { text = [decimal] value ++ [codes] \"u8\"; span =
-    ///   [nowhere] })</code>
+    /// - `ensures ok`: <code>[IfOk] result (λ literal. literal ≡ record { text = [decimal] value ++ [codes] \"u8\";
+    ///   span = [nowhere] })</code>
     ///
     /// [IfOk]: crate::contracts#std.IfOk
     /// [decimal]: crate::contracts#std.decimal
@@ -267,8 +267,8 @@ impl Literal {
     ///
     /// # Contract
     ///
-    /// - `ensures ok`: <code>[IfOk] result (λ literal. literal ≡ record { text = [decimal] value ++ [codes] \"u16\"; span =
-    ///   [nowhere] })</code>
+    /// - `ensures ok`: <code>[IfOk] result (λ literal. literal ≡ record { text = [decimal] value ++ [codes]
+    ///   \"u16\"; span = [nowhere] })</code>
     ///
     /// [IfOk]: crate::contracts#std.IfOk
     /// [decimal]: crate::contracts#std.decimal
@@ -285,8 +285,8 @@ impl Literal {
     ///
     /// # Contract
     ///
-    /// - `ensures ok`: <code>[IfOk] result (λ literal. literal ≡ record { text = [decimal] value ++ [codes] \"u32\"; span =
-    ///   [nowhere] })</code>
+    /// - `ensures ok`: <code>[IfOk] result (λ literal. literal ≡ record { text = [decimal] value ++ [codes]
+    ///   \"u32\"; span = [nowhere] })</code>
     ///
     /// [IfOk]: crate::contracts#std.IfOk
     /// [decimal]: crate::contracts#std.decimal
@@ -303,8 +303,8 @@ impl Literal {
     ///
     /// # Contract
     ///
-    /// - `ensures ok`: <code>[IfOk] result (λ literal. literal ≡ record { text = [decimal] value ++ [codes] \"u64\"; span =
-    ///   [nowhere] })</code>
+    /// - `ensures ok`: <code>[IfOk] result (λ literal. literal ≡ record { text = [decimal] value ++ [codes]
+    ///   \"u64\"; span = [nowhere] })</code>
     ///
     /// [IfOk]: crate::contracts#std.IfOk
     /// [decimal]: crate::contracts#std.decimal
@@ -321,8 +321,8 @@ impl Literal {
     ///
     /// # Contract
     ///
-    /// - `ensures ok`: <code>[IfOk] result (λ literal. literal ≡ record { text = [decimal] value ++ [codes] \"u128\"; span =
-    ///   [nowhere] })</code>
+    /// - `ensures ok`: <code>[IfOk] result (λ literal. literal ≡ record { text = [decimal] value ++ [codes]
+    ///   \"u128\"; span = [nowhere] })</code>
     ///
     /// [IfOk]: crate::contracts#std.IfOk
     /// [decimal]: crate::contracts#std.decimal
@@ -339,8 +339,8 @@ impl Literal {
     ///
     /// # Contract
     ///
-    /// - `ensures ok`: <code>[IfOk] result (λ literal. literal ≡ record { text = [decimal] value ++ [codes] \"usize\"; span =
-    ///   [nowhere] })</code>
+    /// - `ensures ok`: <code>[IfOk] result (λ literal. literal ≡ record { text = [decimal] value ++ [codes]
+    ///   \"usize\"; span = [nowhere] })</code>
     ///
     /// [IfOk]: crate::contracts#std.IfOk
     /// [decimal]: crate::contracts#std.decimal
@@ -357,8 +357,8 @@ impl Literal {
     ///
     /// # Contract
     ///
-    /// - `ensures ok`: <code>[IfOk] result (λ literal. literal ≡ record { text = [signed_decimal] value; span = [nowhere]
-    ///   })</code>
+    /// - `ensures ok`: <code>[IfOk] result (λ literal. literal ≡ record { text = [signed_decimal] value; span =
+    ///   [nowhere] })</code>
     ///
     /// [IfOk]: crate::contracts#std.IfOk
     /// [signed_decimal]: crate::contracts#std.signed_decimal
@@ -374,8 +374,8 @@ impl Literal {
     ///
     /// # Contract
     ///
-    /// - `ensures ok`: <code>[IfOk] result (λ literal. literal ≡ record { text = [signed_decimal] value; span = [nowhere]
-    ///   })</code>
+    /// - `ensures ok`: <code>[IfOk] result (λ literal. literal ≡ record { text = [signed_decimal] value; span =
+    ///   [nowhere] })</code>
     ///
     /// [IfOk]: crate::contracts#std.IfOk
     /// [signed_decimal]: crate::contracts#std.signed_decimal
@@ -391,8 +391,8 @@ impl Literal {
     ///
     /// # Contract
     ///
-    /// - `ensures ok`: <code>[IfOk] result (λ literal. literal ≡ record { text = [signed_decimal] value; span = [nowhere]
-    ///   })</code>
+    /// - `ensures ok`: <code>[IfOk] result (λ literal. literal ≡ record { text = [signed_decimal] value; span =
+    ///   [nowhere] })</code>
     ///
     /// [IfOk]: crate::contracts#std.IfOk
     /// [signed_decimal]: crate::contracts#std.signed_decimal
@@ -408,8 +408,8 @@ impl Literal {
     ///
     /// # Contract
     ///
-    /// - `ensures ok`: <code>[IfOk] result (λ literal. literal ≡ record { text = [signed_decimal] value; span = [nowhere]
-    ///   })</code>
+    /// - `ensures ok`: <code>[IfOk] result (λ literal. literal ≡ record { text = [signed_decimal] value; span =
+    ///   [nowhere] })</code>
     ///
     /// [IfOk]: crate::contracts#std.IfOk
     /// [signed_decimal]: crate::contracts#std.signed_decimal
@@ -425,8 +425,8 @@ impl Literal {
     ///
     /// # Contract
     ///
-    /// - `ensures ok`: <code>[IfOk] result (λ literal. literal ≡ record { text = [signed_decimal] value; span = [nowhere]
-    ///   })</code>
+    /// - `ensures ok`: <code>[IfOk] result (λ literal. literal ≡ record { text = [signed_decimal] value; span =
+    ///   [nowhere] })</code>
     ///
     /// [IfOk]: crate::contracts#std.IfOk
     /// [signed_decimal]: crate::contracts#std.signed_decimal
@@ -442,8 +442,8 @@ impl Literal {
     ///
     /// # Contract
     ///
-    /// - `ensures ok`: <code>[IfOk] result (λ literal. literal ≡ record { text = [signed_decimal] value; span = [nowhere]
-    ///   })</code>
+    /// - `ensures ok`: <code>[IfOk] result (λ literal. literal ≡ record { text = [signed_decimal] value; span =
+    ///   [nowhere] })</code>
     ///
     /// [IfOk]: crate::contracts#std.IfOk
     /// [signed_decimal]: crate::contracts#std.signed_decimal
@@ -459,8 +459,8 @@ impl Literal {
     ///
     /// # Contract
     ///
-    /// - `ensures ok`: <code>[IfOk] result (λ literal. literal ≡ record { text = [signed_decimal] value ++ [codes] \"i8\";
-    ///   span = [nowhere] })</code>
+    /// - `ensures ok`: <code>[IfOk] result (λ literal. literal ≡ record { text = [signed_decimal] value ++ [codes]
+    ///   \"i8\"; span = [nowhere] })</code>
     ///
     /// [IfOk]: crate::contracts#std.IfOk
     /// [signed_decimal]: crate::contracts#std.signed_decimal
@@ -477,8 +477,8 @@ impl Literal {
     ///
     /// # Contract
     ///
-    /// - `ensures ok`: <code>[IfOk] result (λ literal. literal ≡ record { text = [signed_decimal] value ++ [codes] \"i16\";
-    ///   span = [nowhere] })</code>
+    /// - `ensures ok`: <code>[IfOk] result (λ literal. literal ≡ record { text = [signed_decimal] value ++ [codes]
+    ///   \"i16\"; span = [nowhere] })</code>
     ///
     /// [IfOk]: crate::contracts#std.IfOk
     /// [signed_decimal]: crate::contracts#std.signed_decimal
@@ -495,8 +495,8 @@ impl Literal {
     ///
     /// # Contract
     ///
-    /// - `ensures ok`: <code>[IfOk] result (λ literal. literal ≡ record { text = [signed_decimal] value ++ [codes] \"i32\";
-    ///   span = [nowhere] })</code>
+    /// - `ensures ok`: <code>[IfOk] result (λ literal. literal ≡ record { text = [signed_decimal] value ++ [codes]
+    ///   \"i32\"; span = [nowhere] })</code>
     ///
     /// [IfOk]: crate::contracts#std.IfOk
     /// [signed_decimal]: crate::contracts#std.signed_decimal
@@ -513,8 +513,8 @@ impl Literal {
     ///
     /// # Contract
     ///
-    /// - `ensures ok`: <code>[IfOk] result (λ literal. literal ≡ record { text = [signed_decimal] value ++ [codes] \"i64\";
-    ///   span = [nowhere] })</code>
+    /// - `ensures ok`: <code>[IfOk] result (λ literal. literal ≡ record { text = [signed_decimal] value ++ [codes]
+    ///   \"i64\"; span = [nowhere] })</code>
     ///
     /// [IfOk]: crate::contracts#std.IfOk
     /// [signed_decimal]: crate::contracts#std.signed_decimal

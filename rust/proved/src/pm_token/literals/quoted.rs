@@ -43,8 +43,8 @@ impl Literal {
     ///
     /// # Contract
     ///
-    /// - `ensures ok`: <code>[IfOk] result (λ literal. literal ≡ record { text = [string_text] ([chars] text.now); span =
-    ///   [nowhere] })</code>
+    /// - `ensures ok`: <code>[IfOk] result (λ literal. literal ≡ record { text = [string_text] ([chars] text.now);
+    ///   span = [nowhere] })</code>
     ///
     /// [IfOk]: crate::contracts#std.IfOk
     /// [string_text]: crate::contracts#pm_token.Escaped.string_text
@@ -74,8 +74,8 @@ impl Literal {
     ///
     /// # Contract
     ///
-    /// - `ensures ok`: <code>[IfOk] result (λ literal. literal ≡ record { text = [character_text] c; span = [nowhere]
-    ///   })</code>
+    /// - `ensures ok`: <code>[IfOk] result (λ literal. literal ≡ record { text = [character_text] c; span =
+    ///   [nowhere] })</code>
     ///
     /// [IfOk]: crate::contracts#std.IfOk
     /// [character_text]: crate::contracts#pm_token.Escaped.character_text

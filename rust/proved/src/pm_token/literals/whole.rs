@@ -22,16 +22,16 @@ impl Literal {
     ///
     /// # Contract
     ///
-    /// - `ensures ok`: <code>[IfOk] result (λ literal. literal ≡ record { text = [chars] text.now; span = record { lo =
-    ///   [next_lo] map.old; hi = [next_lo] map.old + [length] ([chars] text.now) }; })</code>
+    /// - `ensures ok`: <code>[IfOk] result (λ literal. literal ≡ record { text = [chars] text.now; span = record {
+    ///   lo = [next_lo] map.old; hi = [next_lo] map.old + [length] ([chars] text.now) }; })</code>
     /// - `ensures whole`: <code>[IfOk] result (λ \_. [IsWholeLiteral] ([chars] text.now))</code>
     /// - `ensures within`: <code>[IsTrue] ([was_read] result) → [Fits] map.old ([length] ([chars] text.now))</code>
-    /// - `ensures lex`: <code>[IfErr] result (λ error. [IfLex] error (λ fault. (fault ≡ [nowhere]) × ([IsWholeLiteral]
-    ///   ([chars] text.now) → ⊥)))</code>
-    /// - `ensures held`: <code>[MatchResult] result (λ literal. [Holds] map.new literal.span) (λ error. [IfLex] error
-    ///   ([Holds] map.new))</code>
-    /// - `ensures map_full`: <code>(result ≡ [Err] ParseError.MapFull) ↔ ([Fits] map.old ([length] ([chars] text.now)) →
-    ///   ⊥)</code>
+    /// - `ensures lex`: <code>[IfErr] result (λ error. [IfLex] error (λ fault. (fault ≡ [nowhere]) ×
+    ///   ([IsWholeLiteral] ([chars] text.now) → ⊥)))</code>
+    /// - `ensures held`: <code>[MatchResult] result (λ literal. [Holds] map.new literal.span) (λ error. [IfLex]
+    ///   error ([Holds] map.new))</code>
+    /// - `ensures map_full`: <code>(result ≡ [Err] ParseError.MapFull) ↔ ([Fits] map.old ([length] ([chars]
+    ///   text.now)) → ⊥)</code>
     /// - `ensures kept`: <code>map.new ≡ (if [was_read] result then [with_file] map.old ([chars] text.now) else
     ///   map.old)</code>
     ///

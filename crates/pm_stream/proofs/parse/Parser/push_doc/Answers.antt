@@ -19,8 +19,8 @@ returns c =
     elim c.if-inner.branch [
       | then-inner+in_ok-push_mark-2 w ↦
           subst (λ b. Adds c.args.self.now c.push.new.self (doc_onto lo hi b text [])) (sym w.if-inner.true)
-          (adds_inner_doc c.args.self.now c.push_mark.new.self w.push_mark-then-inner.new.self c.push.new.self lo hi text
-          _ c.in_ok-push_mark.ensures w.in_ok-push_mark-2.ensures
+          (adds_inner_doc c.args.self.now c.push_mark.new.self w.push_mark-then-inner.new.self c.push.new.self lo hi
+          text _ c.in_ok-push_mark.ensures w.in_ok-push_mark-2.ensures
           (subst (λ p. Adds p c.push.new.self (flat_onto (alone (Group c.in_ok-group.group)) [])) w.self-is k)
           (c.in_ok-group.ensures.ok []))
       | else-inner w ↦

@@ -8,7 +8,8 @@ returns c = λ before front rest h e whole size.
     let parser = c.args.self.now in
     elim c.requires.kind [
       | inl mark ↦
-          adds_by parser parser parser [] _ kinds.FrontMark c.args._at front refl (adds_nothing parser) mark refl before h
+          adds_by parser parser parser [] _ kinds.FrontMark c.args._at front refl (adds_nothing parser) mark refl
+          before h
       | inr gap ↦
           adds_by parser parser parser [] _ kinds.Gap c.args._at front refl (adds_nothing parser) gap refl before h
     ]

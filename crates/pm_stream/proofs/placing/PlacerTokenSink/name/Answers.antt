@@ -24,8 +24,8 @@ returns c =
     let text = chars c.args._text.now in
     on_ok c.push.result (λ now before front rest h e whole size.
     let same = same_fronts found.front front found.rest rest (sym found.whole ∙ whole) (sym found.chars ∙ size) in
-    let moved = now.0 ∙ (c.along.ensures ∙ (name_moves _ text old.here c.args.piece c.args._raw c.args._name found c.requires.kind
-    ∙ ap (moved_past old.here) same)) in
+    let moved = now.0 ∙ (c.along.ensures ∙ (name_moves _ text old.here c.args.piece c.args._raw c.args._name found
+    c.requires.kind ∙ ap (moved_past old.here) same)) in
     placed_trees old new before text front rest c.args._at h e whole moved
     (record { start = old.here; end = c.along.result; kind = Ident } ∷ [])
     (leaf (Name c.args._raw (chars c.args._name.now)) c.args._at (c.args._at + length front) nil) _

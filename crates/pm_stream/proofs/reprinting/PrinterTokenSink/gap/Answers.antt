@@ -10,7 +10,9 @@ returns c = λ before front rest h e whole size.
     let at = c.args._at in
     elim c.requires.kind [
       | inl mark ↦
-          subst (λ k. Prints c.args.self.now (before.events ++ events_onto at (kind_of k front) front [])) (sym mark) same
+          subst (λ k. Prints c.args.self.now (before.events ++ events_onto at (kind_of k front) front [])) (sym mark)
+          same
       | inr gap ↦
-          subst (λ k. Prints c.args.self.now (before.events ++ events_onto at (kind_of k front) front [])) (sym gap) same
+          subst (λ k. Prints c.args.self.now (before.events ++ events_onto at (kind_of k front) front [])) (sym gap)
+          same
     ]

@@ -19,8 +19,8 @@ fn before_quote(text: &str) -> Option<&str>
 /// # Contract
 ///
 /// - `requires`: <code>[IsTrue] ([all_ascii] front.now)</code>
-/// - `ensures`: <code>[MatchOption] result ([cooked] front.now ([chars] text.now) ≡ [None]) (λ content. [cooked]
-///   front.now ([chars] text.now) ≡ [Some] ([chars] content.now))</code>
+/// - `ensures`: <code>[MatchOption] result ([cooked] front.now ([chars] text.now) ≡ [None]) (λ content.
+///   [cooked] front.now ([chars] text.now) ≡ [Some] ([chars] content.now))</code>
 ///
 /// [IsTrue]: crate::contracts#std.IsTrue
 /// [all_ascii]: crate::contracts#lexical.Ascii.all_ascii
@@ -46,8 +46,8 @@ fn before_single_quote(text: &str) -> Option<&str>
 /// # Contract
 ///
 /// - `requires`: <code>[IsTrue] ([all_ascii] front.now)</code>
-/// - `ensures`: <code>[MatchOption] result ([single] front.now ([chars] text.now) ≡ [None]) (λ content. [single]
-///   front.now ([chars] text.now) ≡ [Some] ([chars] content.now))</code>
+/// - `ensures`: <code>[MatchOption] result ([single] front.now ([chars] text.now) ≡ [None]) (λ content.
+///   [single] front.now ([chars] text.now) ≡ [Some] ([chars] content.now))</code>
 ///
 /// [IsTrue]: crate::contracts#std.IsTrue
 /// [all_ascii]: crate::contracts#lexical.Ascii.all_ascii
@@ -82,8 +82,8 @@ fn hashed_content(text: &str) -> Option<&str>
 /// # Contract
 ///
 /// - `requires`: <code>[IsTrue] ([all_ascii] front.now)</code>
-/// - `ensures`: <code>[MatchOption] result ([raw] front.now ([chars] text.now) ≡ [None]) (λ content. [raw] front.now
-///   ([chars] text.now) ≡ [Some] ([chars] content.now))</code>
+/// - `ensures`: <code>[MatchOption] result ([raw] front.now ([chars] text.now) ≡ [None]) (λ content. [raw]
+///   front.now ([chars] text.now) ≡ [Some] ([chars] content.now))</code>
 ///
 /// [IsTrue]: crate::contracts#std.IsTrue
 /// [all_ascii]: crate::contracts#lexical.Ascii.all_ascii

@@ -27,7 +27,8 @@ pub fn raw_string(content: &str) -> Result<String, AllocError>
 ///
 /// # Contract
 ///
-/// - `ensures ok`: <code>[IfOk] result (λ value. [bytes_of] value ≡ [encode_utf8_all] ([chars] content.now))</code>
+/// - `ensures ok`: <code>[IfOk] result (λ value. [bytes_of] value ≡ [encode_utf8_all] ([chars]
+///   content.now))</code>
 /// - `ensures memory`: <code>[encode_utf8_all] ([chars] content.now) ≡ \[\] → [IsOk] result</code>
 ///
 /// [IfOk]: crate::contracts#std.IfOk

@@ -27,8 +27,8 @@ fn push_char(text: &mut String, c: char) -> Result<(), AllocError>
 ///
 /// # Contract
 ///
-/// - `ensures value`: <code>[Answers] [text_of] ([value_from] ([Some] ([units] [string_kind] ([chars] content.now)))
-///   [None]) result</code>
+/// - `ensures value`: <code>[Answers] [text_of] ([value_from] ([Some] ([units] [string_kind] ([chars]
+///   content.now))) [None]) result</code>
 /// - `ensures memory`: <code>[units] [string_kind] ([chars] content.now) ≡ [Ok] \[\] → [IsOk] result</code>
 ///
 /// [Answers]: crate::contracts#pm_token.Value.Answers
@@ -61,8 +61,8 @@ pub fn unescaped_string(content: &str) -> Result<String, ConversionErrorKind>
 ///
 /// # Contract
 ///
-/// - `ensures value`: <code>[Answers] [bytes_of] ([value_from] ([Some] ([units] [byte_kind] ([chars] content.now)))
-///   [None]) result</code>
+/// - `ensures value`: <code>[Answers] [bytes_of] ([value_from] ([Some] ([units] [byte_kind] ([chars]
+///   content.now))) [None]) result</code>
 /// - `ensures memory`: <code>[units] [byte_kind] ([chars] content.now) ≡ [Ok] \[\] → [IsOk] result</code>
 ///
 /// [Answers]: crate::contracts#pm_token.Value.Answers
@@ -107,8 +107,8 @@ fn push_unit(bytes: &mut Vec<u8>, unit: MixedUnit) -> Result<(), AllocError>
 ///
 /// # Contract
 ///
-/// - `ensures`: <code>[Answers] [bytes_of] ([value_from] ([Some] ([c_bytes] ([units] [c_kind] ([chars] content.now))))
-///   [None]) result</code>
+/// - `ensures`: <code>[Answers] [bytes_of] ([value_from] ([Some] ([c_bytes] ([units] [c_kind] ([chars]
+///   content.now)))) [None]) result</code>
 ///
 /// [Answers]: crate::contracts#pm_token.Value.Answers
 /// [bytes_of]: crate::contracts#pm_token.Value.bytes_of
