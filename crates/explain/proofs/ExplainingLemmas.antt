@@ -1,32 +1,34 @@
 -- What was read, and how the reading ends.
-use Rattle.std.proofs.Common.{◌≡◌, ◌≢◌, ℕ, ◌+◌, Bool, true, false, List, [], ◌∷◌, ◌++◌, length, Option, Some, None}
+use Rattle.std.proofs.Common.{◌≡◌, ◌≢◌, ℕ, ◌+◌, Bool, true, List, [], ◌∷◌, ◌++◌, length, Option, Some, None}
 use Rattle.std.proofs.Common.{inl, inr}
 use Rattle.std.proofs.Common.{MatchOption, refl, sym, ap, ◌∙◌, subst, arith, append_assoc, length-append}
 use Rattle.std.specs.List.{AllByRecursion}
 use Rattle.lexical.specs.Cover.{onto, width}
 use Rattle.lexical.specs.Found.{IsPieceAt, kind_of}
 use Rattle.lexical.specs.Piece.{Piece, Close, IsPiece, HasNoPiece}
-use Rattle.lexical.specs.WhiteRun.{IsPastWhite}
 use Rattle.lexical.specs.declared.piece.Piece.{Piece as Found}
 use Rattle.lexical.specs.declared.piece.PieceKind.{PieceKind}
 use Rattle.lexical.specs.declared.piece.PieceKind.TheVariants as kinds
 use Rattle.pm_token.specs.declared.delimiters.Delimiter.{Delimiter}
+use Rattle.pm_token.specs.declared.delimiters.Delimiter.TheVariants.{Parenthesis, Brace, Bracket}
+use Rattle.pm_token.specs.declared.delimiters.Delimiter.TheVariants as delimiters
+use Rattle.lexical.specs.Delimiter.{is_opener}
+use Rattle.std.specs.Str.{encode_utf8_all}
+use Rattle.std.proofs.lemmas.Str.{encodes-append}
 use Rattle.pm_span.specs.Extent.{Extent}
-use Rattle.pm_stream.specs.Delimited.{delimiter_of}
-use Rattle.pm_stream.specs.Events.{events_onto, expansion}
-use Rattle.pm_stream.specs.Forest.{Forest, nil}
+use Rattle.pm_stream.specs.Delimited.{delimiter_of, opening}
+use Rattle.pm_stream.specs.Events.{expansion}
+use Rattle.pm_stream.specs.Fault.{IsStray}
+use Rattle.pm_stream.specs.Forest.{Forest}
 use Rattle.pm_stream.specs.Parsing.{FaultAt}
 use Rattle.pm_stream.specs.OpenGroups.{Opened, FitsInnermost, unclosed_onto}
-use Rattle.pm_stream.proofs.ParseLemmas.{reads_on}
-use Rattle.pm_stream.specs.Reading.{Reads}
-use Rattle.pm_stream.proofs.ParserLemmas.{reads_none, reads_all, reads_open, reads_stray, reads_stuck}
+use Rattle.pm_stream.specs.Reading.{Reads, ReadsTo, openers_of}
+use Rattle.pm_stream.specs.Taken.{Taken, Waiting}
+use Rattle.pm_stream.proofs.ParserLemmas.{reads_all, reads_open, reads_stray, reads_stuck}
 use Rattle.explain.specs.Explained.{IsExplained, IsOpenerOf, IsStretch, IsStuck, Parses, SaysLeftOpen}
-use Rattle.explain.specs.Open.{LeavesOpen, Loses, Refuses, RefusesFor, RefusesPiece, Steps, Waiting, WaitsAs}
-use Rattle.explain.specs.Open.{openers_of}
-use Rattle.explain.specs.Open.{waiting}
+use Rattle.explain.specs.Open.{LeavesOpen, Loses, RefusesFor, RefusesPiece, WaitsAs, opener_of, refusal, waiting}
 use Rattle.explain.specs.declared.explained.Explained.{Explained}
 use Rattle.explain.specs.declared.explained.Opener.{Opener}
-use Rattle.explain.specs.declared.nesting.Refusal.{Refusal}
 use Rattle.explain.specs.declared.reason.Reason.{Reason}
 use Rattle.explain.specs.declared.reason.Reason.TheVariants.{MismatchedCloser}
 use Rattle.explain.proofs.OpenLemmas.{leaves_open}
@@ -48,27 +50,6 @@ pub record ReadsOpen (base : ℕ) (source rest : List ℕ) (at : ℕ) (first : B
   pub trees : Forest
   pub reads : Reads base source rest at first groups trees
   pub around : waiting openers ≡ openers_of groups
-
-pub open_none : (base : ℕ) (source : List ℕ) (openers : List Opener) → openers ≡ []
-    → ReadsOpen base source source base true openers
-open_none base source openers e =
-    record { groups = []; trees = nil; reads = reads_none base source; around = ap waiting e }
-
-pub open_on : (base : ℕ) (source mid tail rest : List ℕ) (at count : ℕ) (first : Bool) (old new : List Opener)
-    (piece : Found)
-    → ReadsOpen base source mid at first old → (found : IsPieceAt first mid piece) → tail ≡ found.rest
-    → Steps old new (events_onto at (kind_of piece.kind found.front) found.front [])
-    → IsPastWhite tail rest count
-    → ReadsOpen base source rest (at + (piece.chars + count)) false new
-open_on base source mid tail rest at count first old new piece h found e step white =
-    let more = step h.groups h.trees h.around in
-    record {
-      groups = more.groups_now;
-      trees = more.trees_now;
-      reads = reads_on base source mid tail rest at count first h.groups more.groups_now h.trees more.trees_now piece
-          h.reads found e more.grows white;
-      around = more.around;
-    }
 
 module _ (base : ℕ) (source rest : List ℕ) (at : ℕ) (first : Bool) (openers : List Opener)
     (h : ReadsOpen base source rest at first openers) where
@@ -147,11 +128,11 @@ module _ (base : ℕ) (source rest : List ℕ) (at : ℕ) (first : Bool) (opener
 
   -- a closer can't stand there
   pub refused_explained : (x : Explained) (piece : Found) → (found : IsPieceAt first rest piece)
-      → RefusesPiece piece.kind (record { reason = x.reason; innermost = x.innermost })
+      → RefusesPiece piece.kind x.reason x.innermost
       → WaitsAs (waiting openers) x.innermost x.outer.items → AllStand base source x
       → IsStretch base read [] x.before → IsStretch base read found.front x.at → IsExplained base source x
   refused_explained x piece found refuses told stand before here =
-      let closer = closer_of piece.kind (record { reason = x.reason; innermost = x.innermost }) refuses in
+      let closer = closer_of piece.kind refuses in
       let stands = subst (λ k. IsPiece first (kind_of k found.front) found.front found.rest) closer.1 found.stands in
       record {
         pieces = h.reads.pieces;
@@ -181,16 +162,16 @@ module _ (base : ℕ) (source rest : List ℕ) (at : ℕ) (first : Bool) (opener
         }));
       }
     where
-      closer_of : (kind : PieceKind) (y : Refusal) → RefusesPiece kind y
-          → (c : ℕ) × (kind ≡ kinds.Closer c) × Refuses (delimiter_of c) y
-      closer_of kinds.FrontMark y r = absurd r
-      closer_of kinds.Gap y r = absurd r
-      closer_of (kinds.Doc inner text) y r = absurd r
-      closer_of (kinds.Opener c) y r = absurd r
-      closer_of (kinds.Closer c) y r = (c, refl, r)
-      closer_of kinds.Literal y r = absurd r
-      closer_of (kinds.Mark joint mark) y r = absurd r
-      closer_of (kinds.Name raw name) y r = absurd r
+      closer_of : (kind : PieceKind) → RefusesPiece kind x.reason x.innermost
+          → (c : ℕ) × (kind ≡ kinds.Closer c) × RefusesFor (delimiter_of c) x.reason x.innermost
+      closer_of kinds.FrontMark r = absurd r
+      closer_of kinds.Gap r = absurd r
+      closer_of (kinds.Doc inner text) r = absurd r
+      closer_of (kinds.Opener c) r = absurd r
+      closer_of (kinds.Closer c) r = (c, refl, r)
+      closer_of kinds.Literal r = absurd r
+      closer_of (kinds.Mark joint mark) r = absurd r
+      closer_of (kinds.Name raw name) r = absurd r
 
       refuses_none : (d : Delimiter) (reason : Reason) (opener : Opener) → RefusesFor d reason (Some opener)
           → opener.delimiter ≡ d → ⊥
@@ -211,16 +192,91 @@ pub extent_of : (lo hi a b : ℕ) → lo ≡ a → hi ≡ b
     → ◌≡◌ {A = Extent} (record { lo = lo; hi = hi }) (record { lo = a; hi = b })
 extent_of lo hi a b p q = rw (p, q)
 
--- past a piece and the white characters after it, by two sums
-pub open_past : (base : ℕ) (source mid tail rest : List ℕ) (at count : ℕ) (first : Bool) (old new : List Opener)
-    (piece : Found)
-    → ReadsOpen base source mid at first old → (found : IsPieceAt first mid piece) → tail ≡ found.rest
-    → Steps old new (events_onto at (kind_of piece.kind found.front) found.front [])
-    → IsPastWhite tail rest count
-    → ReadsOpen base source rest (at + piece.chars + count) false new
-open_past base source mid tail rest at count first old new piece h found e step white =
-    subst (λ n. ReadsOpen base source rest n false new) (omega arith)
-    (open_on base source mid tail rest at count first old new piece h found e step white)
+-- what the loop over pieces has read
+pub opened_by : {S : Type 0} (took : S → Taken Opener → Type 0) (base : ℕ) (source rest : List ℕ) (at : ℕ)
+    (first : Bool) (sink : S) (openers : List Opener)
+    → ReadsTo opener_of took base source rest at first sink openers → ReadsOpen base source rest at first openers
+opened_by took base source rest at first sink openers h =
+    record { groups = h.groups; trees = h.trees; reads = h.reads; around = h.takes.around }
+
+-- an opener at the front of the text stands where it is told to
+stretch_is : (c base : ℕ) (behind : List ℕ) (start at : ℕ) (span : Extent) → length (encode_utf8_all (c ∷ [])) ≡ 1
+    → at ≡ base + length behind → span ≡ record { lo = at; hi = at + 1 } → start ≡ length (encode_utf8_all behind)
+    → IsStretch base behind (c ∷ []) (record { start = start; end = start + 1; span = span })
+stretch_is c base behind start at span one place spans starts = record {
+  start = starts;
+  end = omega (
+    arith,
+    starts,
+    one,
+    ap length (encodes-append behind (c ∷ [])),
+    length-append (encode_utf8_all behind) (encode_utf8_all (c ∷ [])),
+  );
+  span = spans ∙ extent_of at (at + 1) (base + length behind) (base + length (behind ++ c ∷ [])) place
+      (omega (arith, place, length-append behind (c ∷ [])));
+}
+
+module _ (base : ℕ) (source behind text rest : List ℕ) (start at : ℕ) (span : Extent) (place : at ≡ base + length behind)
+    (whole : source ≡ behind ++ text) (spans : span ≡ record { lo = at; hi = at + 1 })
+    (starts : start ≡ length (encode_utf8_all behind)) where
+  stands_as : (d : Delimiter) (c : ℕ) → text ≡ c ∷ rest → is_opener c ≡ true → d ≡ delimiter_of c
+      → length (encode_utf8_all (c ∷ [])) ≡ 1
+      → IsOpenerOf base source (record { delimiter = d; at = record { start = start; end = start + 1; span = span } })
+  stands_as d c split opens same one = record {
+    behind = behind;
+    character = c;
+    after = rest;
+    whole = whole ∙ ap (λ t. behind ++ t) split;
+    opens = opens;
+    delimiter = same;
+    at = stretch_is c base behind start at span one place spans starts;
+  }
+
+  pub opener_stands : (d : Delimiter) → text ≡ opening d ++ rest → length (opening d) ≡ 1
+      → IsOpenerOf base source (record { delimiter = d; at = record { start = start; end = start + 1; span = span } })
+  unfolding lib.Utf8.encode
+  opener_stands Parenthesis split one = stands_as Parenthesis 40 split refl refl refl
+  opener_stands Brace split one = stands_as Brace 123 split refl refl refl
+  opener_stands Bracket split one = stands_as Bracket 91 split refl refl refl
+  opener_stands delimiters.None split one = absurd (omega (arith, one))
+
+-- why reading stopped
+module _ (first : Bool) (rest : List ℕ) (openers : List Opener) (stray : Option Found)
+    (stops : MatchOption stray (HasNoPiece first rest) (λ piece. IsPieceAt first rest piece × ((groups : List Opened)
+    → waiting openers ≡ openers_of groups → IsStray piece.kind groups))) where
+  pub stops_at : (closer : Found) → stray ≡ Some closer → IsPieceAt first rest closer × ((groups : List Opened)
+      → waiting openers ≡ openers_of groups → IsStray closer.kind groups)
+  stops_at closer is = subst (λ s. MatchOption s (HasNoPiece first rest) (λ piece. IsPieceAt first rest piece
+      × ((groups : List Opened) → waiting openers ≡ openers_of groups → IsStray piece.kind groups))) is stops
+
+  pub stops_there : stray ≡ None → HasNoPiece first rest
+  stops_there is = subst (λ s. MatchOption s (HasNoPiece first rest) (λ piece. IsPieceAt first rest piece
+      × ((groups : List Opened) → waiting openers ≡ openers_of groups → IsStray piece.kind groups))) is stops
+
+-- a closer that doesn't close the innermost group is refused
+refuses : (innermost : Option Opener) (outer : List Opener) (groups : List Opened) (d : Delimiter)
+    → WaitsAs (openers_of groups) innermost outer → (FitsInnermost d groups → ⊥)
+    → RefusesFor d (refusal innermost) innermost
+refuses None outer groups d w apart = tt
+refuses (Some x) outer [] d w apart =
+    let clash : ◌≡◌ {A = List Waiting} [] ((x.delimiter, x.at.span.lo) ∷ waiting outer) = w in absurd (cc)
+refuses (Some x) outer (g ∷ groups) d w apart = λ e.
+    let head : ◌≡◌ {A = Waiting} (g.delimiter, g.lo) (x.delimiter, x.at.span.lo) = cc in
+    apart (ap (λ z. z.0) head ∙ e)
+
+pub refuses_piece : (kind : PieceKind) (reason : Reason) (innermost : Option Opener) (outer : List Opener)
+    (groups : List Opened) → WaitsAs (openers_of groups) innermost outer → reason ≡ refusal innermost
+    → IsStray kind groups → RefusesPiece kind reason innermost
+refuses_piece kinds.FrontMark reason innermost outer groups w is stray = stray
+refuses_piece kinds.Gap reason innermost outer groups w is stray = stray
+refuses_piece (kinds.Doc inner text) reason innermost outer groups w is stray = stray
+refuses_piece (kinds.Opener c) reason innermost outer groups w is stray = stray
+refuses_piece (kinds.Closer c) reason innermost outer groups w is stray =
+    subst (λ r. RefusesFor (delimiter_of c) r innermost) (sym is)
+    (refuses innermost outer groups (delimiter_of c) w stray)
+refuses_piece kinds.Literal reason innermost outer groups w is stray = stray
+refuses_piece (kinds.Mark joint mark) reason innermost outer groups w is stray = stray
+refuses_piece (kinds.Name raw name) reason innermost outer groups w is stray = stray
 
 -- a text past two parts
 pub whole_past : (text mid rest front part : List ℕ) → text ≡ front ++ mid → mid ≡ part ++ rest

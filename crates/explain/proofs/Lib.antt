@@ -14,7 +14,6 @@ pub mod LoneLemmas
 pub mod StuckLemmas
 pub mod LetterLemmas
 pub mod StandLemmas
-pub mod TakingLemmas
 pub mod ExplainingLemmas
 pub mod Told
 pub mod ToldTextLemmas

@@ -19,7 +19,8 @@ use Rattle.pm_stream.proofs.EventLemmas.{balanced_has_none}
 use Rattle.pm_stream.proofs.LawLemmas.{one_fault}
 use Rattle.explain.specs.Explained.{IsExplained, IsLeftOpen, IsOpenerOf, IsRefused, IsStretch, IsStuck}
 use Rattle.explain.specs.Explained.{front_of}
-use Rattle.explain.specs.Open.{LeavesOpen, RefusesFor, Waiting, WaitsAs, waiting}
+use Rattle.pm_stream.specs.Taken.{Waiting}
+use Rattle.explain.specs.Open.{LeavesOpen, RefusesFor, WaitsAs, waiting}
 use Rattle.explain.specs.Reason.{Holds}
 use Rattle.explain.specs.declared.explained.Explained.{Explained}
 use Rattle.explain.specs.declared.explained.Opener.{Opener}

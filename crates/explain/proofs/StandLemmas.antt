@@ -1,21 +1,11 @@
 -- Where the openers stand that wait for a closer.
-use Rattle.std.proofs.Common.{◌≡◌, ℕ, ◌==◌, Bool, List, [], ◌∷◌, ◌++◌, Option, Some, None, IfSome}
-use Rattle.std.proofs.Common.{refl, sym, ap, ◌∙◌, subst}
+use Rattle.std.proofs.Common.{◌≡◌, ℕ, List, [], ◌∷◌, ◌++◌, Option, Some, None, IfSome, reverse, sym, ap, ◌∙◌, subst}
 use Rattle.std.specs.List.{AllByRecursion}
-use Rattle.std.proofs.lemmas.Bool.{and_parts}
-use Rattle.std.proofs.Common.{eqb-true}
-use Rattle.lexical.specs.Delimiter.{is_opener}
-use Rattle.lexical.specs.Found.{IsPieceAt, kind_of}
-use Rattle.lexical.specs.Piece.{IsPiece, Open}
-use Rattle.lexical.specs.declared.piece.Piece.{Piece as Found}
-use Rattle.lexical.specs.declared.piece.PieceKind.{PieceKind}
-use Rattle.lexical.specs.declared.piece.PieceKind.TheVariants as kinds
-use Rattle.pm_stream.specs.Delimited.{delimiter_of}
-use Rattle.explain.specs.Explained.{IsOpenerOf, IsStretch}
-use Rattle.explain.specs.Open.{Gains, Loses}
+use Rattle.std.proofs.lemmas.List.{reverse-append, reverse-reverse}
+use Rattle.explain.specs.Explained.{IsOpenerOf}
+use Rattle.explain.specs.Open.{Loses}
 use Rattle.explain.specs.declared.explained.Explained.{Explained}
 use Rattle.explain.specs.declared.explained.Opener.{Opener}
-use Rattle.explain.specs.declared.explained.Stretch.{Stretch}
 
 -- each opener that is told stands where it is told to
 abbrev pub AllStand : ℕ → List ℕ → Explained → Type 0
@@ -42,43 +32,14 @@ module _ (P : Opener → Type 0) where
   all_lost all None outer lost is = (tt, all_none outer lost.1)
   all_lost all (Some x) outer lost is = all_less outer x (subst (AllByRecursion P) lost is)
 
-  -- after a piece
-  all_with : (kind : PieceKind) (at : Stretch) (old new : List Opener) → Gains kind at old new
-      → ((c : ℕ) → kind ≡ kinds.Opener c → P (record { delimiter = delimiter_of c; at = at })) → AllByRecursion P old
-      → AllByRecursion P new
-  all_with kinds.FrontMark at old new gains is all = subst (AllByRecursion P) (sym gains) all
-  all_with kinds.Gap at old new gains is all = subst (AllByRecursion P) (sym gains) all
-  all_with (kinds.Doc inner text) at old new gains is all = subst (AllByRecursion P) (sym gains) all
-  all_with (kinds.Opener c) at old new gains is all =
-      subst (AllByRecursion P) (sym gains) (all_more old _ all (is c refl))
-  all_with (kinds.Closer c) at old new gains is all =
-      (all_less new gains.0 (subst (AllByRecursion P) gains.1 all)).1
-  all_with kinds.Literal at old new gains is all = subst (AllByRecursion P) (sym gains) all
-  all_with (kinds.Mark joint mark) at old new gains is all = subst (AllByRecursion P) (sym gains) all
-  all_with (kinds.Name raw name) at old new gains is all = subst (AllByRecursion P) (sym gains) all
+  pub all_reverse : (openers : List Opener) → AllByRecursion P (reverse (reverse openers)) → AllByRecursion P openers
+  all_reverse openers = subst (AllByRecursion P) (reverse-reverse openers)
 
--- a piece that is an opener stands there
-module _ (base : ℕ) (source rest behind : List ℕ) (first : Bool) (piece : Found) (found : IsPieceAt first rest piece)
-    (at : Stretch) (whole : source ≡ behind ++ rest) (here : IsStretch base behind found.front at) where
-  opener_stands : (c : ℕ) → piece.kind ≡ kinds.Opener c
-      → IsOpenerOf base source (record { delimiter = delimiter_of c; at = at })
-  opener_stands c is =
-      let stands : IsPiece first (Open c) found.front found.rest =
-      subst (λ k. IsPiece first (kind_of k found.front) found.front found.rest) is found.stands in
-      let one = stands.0 in
-      let parts = and_parts (is_opener one.0) (one.0 == c) one.2 in
-      let same : one.0 ≡ c = eqb-true one.0 c parts.1 in
-      let front : found.front ≡ c ∷ [] = one.1 ∙ ap (λ d. d ∷ []) same in
-      record {
-        behind = behind;
-        character = c;
-        after = found.rest;
-        whole = whole ∙ ap (λ t. behind ++ t) (found.whole ∙ ap (λ t. t ++ found.rest) front);
-        opens = ap is_opener (sym same) ∙ parts.0;
-        delimiter = refl;
-        at = subst (λ t. IsStretch base behind t at) front here;
-      }
+  pub all_opened : (x : Opener) (outer : List Opener) → AllByRecursion P (reverse outer) → P x
+      → AllByRecursion P (reverse (x ∷ outer))
+  all_opened x outer all is = subst (AllByRecursion P) (sym (reverse-append (x ∷ []) outer)) (all_more (reverse outer) x all is)
 
-  pub all_gained : (old new : List Opener) → Gains piece.kind at old new
-      → AllByRecursion (IsOpenerOf base source) old → AllByRecursion (IsOpenerOf base source) new
-  all_gained old new gains all = all_with (IsOpenerOf base source) piece.kind at old new gains opener_stands all
+  pub all_closed : (x : Opener) (outer opened : List Opener) → opened ≡ x ∷ outer → AllByRecursion P (reverse opened)
+      → AllByRecursion P (reverse outer)
+  all_closed x outer opened e all =
+      (all_less (reverse outer) x (subst (AllByRecursion P) (ap reverse e ∙ reverse-append (x ∷ []) outer) all)).1

@@ -9,7 +9,8 @@ use Rattle.pm_stream.specs.Delimited.{delimiter_of}
 use Rattle.pm_stream.specs.Events.{expansion}
 use Rattle.pm_stream.specs.Forest.{Forest}
 use Rattle.pm_stream.specs.Parsing.{FaultAt, ParsesTo, is_first}
-use Rattle.explain.specs.Open.{LeavesOpen, RefusesFor, Waiting, WaitsAs}
+use Rattle.pm_stream.specs.Taken.{Waiting}
+use Rattle.explain.specs.Open.{LeavesOpen, RefusesFor, WaitsAs}
 use Rattle.explain.specs.Reason.{Holds}
 use Rattle.explain.specs.declared.explained.Explained.{Explained}
 use Rattle.explain.specs.declared.explained.Opener.{Opener}

@@ -8,3 +8,4 @@ pub mod Explained
 pub mod Hint
 pub mod HintWalk
 pub mod Words
+pub mod Remembered

@@ -1,19 +1,22 @@
 //! From a text to the reason why it doesn't parse.
 ghost use Rattle.std.specs.Prelude.{◌≡◌, ◌≢◌, ◌≤◌, ◌+◌, ◌<◌, ◌^◌, ◌↔◌, ◌++◌, Bool, Err, List, [], ℕ, IfOk};
-ghost use Rattle.std.specs.Prelude.{MatchOption, length};
+ghost use Rattle.std.specs.Prelude.{MatchOption, false, length, true};
 ghost use Rattle.std.specs.Str.{chars, encode_utf8_all};
+ghost use Rattle.lexical.specs.Found.{IsPieceAt};
 ghost use Rattle.lexical.specs.Piece.{HasNoPiece};
 ghost use Rattle.pm_span.specs.Files.{Fits, new_map, next_lo};
 ghost use Rattle.explain.specs.Explained.{IsExplained, IsStretch, IsStuck, Parses, SaysLeftOpen};
-ghost use Rattle.explain.specs.Open.{Loses, WaitsAs, waiting};
+ghost use Rattle.explain.specs.Open.{Loses, WaitsAs, opener_of, refusal, waiting};
+ghost use Rattle.explain.specs.Remembered.{Remembers};
 
 use crate::explained::{ExplainError, Explained, Opener, Stretch};
-use crate::nesting::{Refusal, close, delimiter};
 use crate::reason::Reason;
 use crate::stuck::reason_at;
+use lexical::Piece;
 use lexical::parts::Cursor;
-use lexical::{PieceKind, past_white, piece_at};
 use pm_span::parts::{bounds, fits_new, span_of};
+use pm_stream::reading::{Ending, TokenSink, walk};
+use pm_token::Delimiter;
 use std::alloc::{AllocError, Global};
 
 /// Why a text doesn't parse, or `None` where it parses.
@@ -41,56 +44,148 @@ fn explain_at(alloc: Global, base: u32, text: &str) -> Result<Option<Explained>,
     ensures { IfOk result (λ answer. MatchOption answer
         (Parses base (chars text.now)) (IsExplained base (chars text.now))) }
 {
-    let mut openers = Vec::new(alloc);
-    let mut rest = text;
-    let mut at = base;
-    let mut first = true;
-    while let Some(piece) = piece_at(rest, first) {
-        let tail = &rest[piece.bytes..];
-        let end = at + piece.chars as u32;
-        match piece.kind {
-            PieceKind::Opener(c) => {
-                let delimiter = delimiter(c);
-                let at = stretch(text, rest, tail, at, end);
-                openers.push(Opener { delimiter, at })?;
-            }
-            PieceKind::Closer(c) => {
-                if let Some(refusal) = close(&mut openers, delimiter(c)) {
-                    let before = stretch(text, rest, rest, at, at);
-                    let here = stretch(text, rest, tail, at, end);
-                    return Ok(Some(refused(refusal, before, here, openers)));
-                }
-            }
-            // Most pieces leave the openers as they are.
-            _ => {}
-        }
-        // White characters are gaps, and are passed over all at once.
-        let (after, white) = past_white(tail);
-        rest = after;
-        at = end + white as u32;
-        first = false;
+    let mut openers = Openers { text };
+    let Ending {
+        rest,
+        at,
+        first,
+        opened,
+        stray,
+    } = walk(alloc, base, text, &mut openers)?;
+    if let Some(closer) = stray {
+        return Ok(Some(refused(text, rest, at, closer, opened)));
     }
-    if rest.is_empty() {
-        return Ok(left_open(openers));
+    if is_done(rest) {
+        return Ok(left_open(opened));
     }
-    Ok(Some(stuck(text, rest, at, first, openers)))
+    Ok(Some(stuck(text, rest, at, first, opened)))
 }
 
-/// That a closer can't stand there.
-fn refused(refusal: Refusal, before: Stretch, at: Stretch, outer: Vec<Opener>) -> Explained
-    ensures { result ≡ record {
-      reason = refusal.reason;
-      before = before;
-      at = at;
-      innermost = refusal.innermost;
-      outer = outer;
-    } }
+/// Whether nothing is left of a text.
+fn is_done(rest: &str) -> bool
+    ensures done { result ≡ true → chars rest.now ≡ [] }
+    ensures more { result ≡ false → chars rest.now ≢ [] }
 {
-    let Refusal { reason, innermost } = refusal;
+    rest.is_empty()
+}
+
+/// What tells of each opener of a text where it stands.
+#[derive(Drop)]
+struct Openers<'a> {
+    text: &'a str,
+}
+
+impl<'a> TokenSink for Openers<'a> {
+    type Opened = Opener;
+
+    ghost opens = { λ opener. opener_of opener };
+
+    ghost took = { λ openers taken. Remembers openers taken };
+
+    #[inline(always)]
+    fn opener(opener: &Opener) -> (Delimiter, u32)
+        ensures { result ≡ opener_of opener.now }
+    {
+        let (lo, _) = bounds(opener.at.span);
+        (opener.delimiter, lo)
+    }
+
+    #[inline(always)]
+    fn mark(
+        &mut self,
+        _mark: char,
+        _joint: bool,
+        _piece: Piece<'_>,
+        _text: &str,
+        _at: u32,
+    ) -> Result<(), AllocError> {
+        Ok(())
+    }
+
+    #[inline(always)]
+    fn name(
+        &mut self,
+        _raw: bool,
+        _name: &str,
+        _piece: Piece<'_>,
+        _text: &str,
+        _at: u32,
+    ) -> Result<(), AllocError> {
+        Ok(())
+    }
+
+    #[inline(always)]
+    fn literal(&mut self, _piece: Piece<'_>, _text: &str, _at: u32) -> Result<(), AllocError> {
+        Ok(())
+    }
+
+    #[inline(always)]
+    fn doc(
+        &mut self,
+        _inner: bool,
+        _said: &str,
+        _piece: Piece<'_>,
+        _text: &str,
+        _at: u32,
+    ) -> Result<(), AllocError> {
+        Ok(())
+    }
+
+    #[inline(always)]
+    fn gap(&mut self, _piece: Piece<'_>, _text: &str, _at: u32) {}
+
+    #[inline(always)]
+    fn white(&mut self, _text: &str, _size: usize) {}
+
+    #[inline(always)]
+    fn open(&mut self, delimiter: Delimiter, text: &str, at: u32) -> Result<Opener, AllocError> {
+        let start = self.text.len() - text.len();
+        let at = Stretch {
+            start,
+            end: start + 1,
+            span: span_of(at, at + 1),
+        };
+        Ok(Opener { delimiter, at })
+    }
+
+    #[inline(always)]
+    fn close(
+        &mut self,
+        _opener: Opener,
+        _delimiter: Delimiter,
+        _text: &str,
+        _at: u32,
+    ) -> Result<(), AllocError> {
+        Ok(())
+    }
+}
+
+/// That a closer can't stand at the front of this rest of a text, which is at this position.
+fn refused(text: &str, rest: &str, at: u32, closer: Piece, openers: Vec<Opener>) -> Explained
+    requires stands { (first : Bool) × IsPieceAt first (chars rest.now) closer }
+    requires behind { (behind : List ℕ) × (chars text.now ≡ behind ++ chars rest.now) }
+    requires room { at + closer.chars < 2 ^ 32 }
+    ensures before { (base : ℕ) (behind : List ℕ) → chars text.now ≡ behind ++ chars rest.now
+        → at ≡ base + length behind → IsStretch base behind [] result.before }
+    ensures at { (base : ℕ) (behind part after : List ℕ) → chars text.now ≡ behind ++ chars rest.now
+        → at ≡ base + length behind → chars rest.now ≡ part ++ after → closer.entry.chars ≡ length part
+        → IsStretch base behind part result.at }
+    ensures reason { result.reason ≡ refusal result.innermost }
+    ensures open { WaitsAs (waiting openers.items) result.innermost result.outer.items }
+    ensures kept { Loses openers.items result.innermost result.outer.items }
+{
+    let tail = &rest[closer.bytes..];
+    let end = at + closer.chars as u32;
+    let mut outer = openers;
+    let innermost = outer.pop();
+    let reason = match innermost {
+        None => Reason::StrayCloser,
+        Some(_) => Reason::MismatchedCloser,
+    };
     Explained {
         reason,
-        before,
-        at,
+        before: stretch(text, rest, rest, at, at),
+        at: stretch(text, rest, tail, at, end),
         innermost,
         outer,
     }

@@ -18,7 +18,6 @@ mod explaining;
 mod hints;
 pub mod laws;
 mod letters;
-mod nesting;
 mod numbers;
 mod quote_hints;
 mod quotes;

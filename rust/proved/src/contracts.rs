@@ -237,14 +237,7 @@
 //!   answer says
 //! - <a id="explain.HintWalk.LeftComments"></a>**LeftComments**: so many comments are open at the end of the
 //!   text, and the last that ended stands between the two cursors
-//! - <a id="explain.Open.Loses"></a>**Loses**: the first list is the second and then the innermost opener, if
-//!   there is one; else both are empty
 //! - <a id="explain.Explained.Parses"></a>**Parses**: some stream is what the source parses to
-//! - <a id="explain.Open.Refuses"></a>**Refuses**: a closer of the delimiter can't stand where the innermost
-//!   opener is this one, for the reason that is given
-//! - <a id="explain.Open.Steps"></a>**Steps**: from one list of openers the events lead to the other
-//! - <a id="explain.Open.WaitsAs"></a>**WaitsAs**: the open groups are those of the list and then the
-//!   innermost, if there is one; else none is open
 //! - <a id="explain.Shapes.closed_body"></a>**closed_body**: pairs of a string's body up to the first `"` that
 //!   is in none of them
 //! - <a id="explain.Shapes.closed_character"></a>**closed_character**: a character literal that ends, whatever
@@ -258,8 +251,6 @@
 //! - <a id="explain.Shapes.single_front"></a>**single_front**: what opens a character or a byte literal
 //! - <a id="explain.Shapes.single_opening"></a>**single_opening**: what opens a character or a byte
 //! - <a id="explain.Shapes.single_rule"></a>**single_rule**: the rule of a character or a byte literal
-//! - <a id="explain.Open.waiting"></a>**waiting**: the open groups of a list of openers, whose last is the
-//!   innermost
 //!
 //! # Words of `grammars`
 //!
@@ -594,8 +585,6 @@
 //! - <a id="pm_stream.Delimited.closing"></a>**closing**: what a group ends with
 //! - <a id="pm_stream.DelimSpan.closing_span"></a>**closing_span**: `close-span`: the last character of a
 //!   group, or nothing where the group has none
-//! - <a id="pm_stream.Delimited.delimiter_of"></a>**delimiter_of**: the delimiter that the character opens or
-//!   closes
 //! - <a id="pm_stream.DocGroup.doc_of"></a>**doc_of**: the literal of the group of a doc comment, `[doc =
 //!   ".."]`
 //! - <a id="pm_stream.Events.events_onto"></a>**events_onto**: what a piece at a position gives, before other

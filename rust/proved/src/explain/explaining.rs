@@ -1,15 +1,14 @@
 // Made from crates/explain/src/explaining.rt by rust/erase: change that file, not this one.
 //! From a text to the reason why it doesn't parse.
 
-use crate::shim::prelude::Grow;
-
 use crate::explain::explained::{ExplainError, Explained, Opener, Stretch};
-use crate::explain::nesting::{Refusal, close, delimiter};
 use crate::explain::reason::Reason;
 use crate::explain::stuck::reason_at;
+use crate::lexical::Piece;
 use crate::lexical::parts::Cursor;
-use crate::lexical::{PieceKind, past_white, piece_at};
 use crate::pm_span::parts::{bounds, fits_new, span_of};
+use crate::pm_stream::reading::{Ending, TokenSink, walk};
+use crate::pm_token::Delimiter;
 use crate::shim::alloc::AllocError;
 
 /// Why a text doesn't parse, or `None` where it parses.
@@ -48,49 +47,129 @@ pub fn explain(text: &str) -> Result<Option<Explained>, ExplainError>
 /// Why a text doesn't parse that begins at the position `base`.
 fn explain_at(base: u32, text: &str) -> Result<Option<Explained>, AllocError>
 {
-    let mut openers = Vec::new();
-    let mut rest = text;
-    let mut at = base;
-    let mut first = true;
-    while let Some(piece) = piece_at(rest, first) {
-        let tail = &rest[piece.bytes..];
-        let end = at + piece.chars as u32;
-        match piece.kind {
-            PieceKind::Opener(c) => {
-                let delimiter = delimiter(c);
-                let at = stretch(text, rest, tail, at, end);
-                openers.push_fallibly(Opener { delimiter, at })?;
-            }
-            PieceKind::Closer(c) => {
-                if let Some(refusal) = close(&mut openers, delimiter(c)) {
-                    let before = stretch(text, rest, rest, at, at);
-                    let here = stretch(text, rest, tail, at, end);
-                    return Ok(Some(refused(refusal, before, here, openers)));
-                }
-            }
-            // Most pieces leave the openers as they are.
-            _ => {}
-        }
-        // White characters are gaps, and are passed over all at once.
-        let (after, white) = past_white(tail);
-        rest = after;
-        at = end + white as u32;
-        first = false;
+    let mut openers = Openers { text };
+    let Ending {
+        rest,
+        at,
+        first,
+        opened,
+        stray,
+    } = walk(base, text, &mut openers)?;
+    if let Some(closer) = stray {
+        return Ok(Some(refused(text, rest, at, closer, opened)));
     }
-    if rest.is_empty() {
-        return Ok(left_open(openers));
+    if is_done(rest) {
+        return Ok(left_open(opened));
     }
-    Ok(Some(stuck(text, rest, at, first, openers)))
+    Ok(Some(stuck(text, rest, at, first, opened)))
 }
 
-/// That a closer can't stand there.
-fn refused(refusal: Refusal, before: Stretch, at: Stretch, outer: Vec<Opener>) -> Explained
+/// Whether nothing is left of a text.
+fn is_done(rest: &str) -> bool
 {
-    let Refusal { reason, innermost } = refusal;
+    rest.is_empty()
+}
+
+/// What tells of each opener of a text where it stands.
+struct Openers<'a> {
+    text: &'a str,
+}
+
+impl<'a> TokenSink for Openers<'a> {
+    type Opened = Opener;
+
+    #[cfg_attr(not(debug_assertions), inline(always))]
+    fn opener(opener: &Opener) -> (Delimiter, u32)
+    {
+        let (lo, _) = bounds(opener.at.span);
+        (opener.delimiter, lo)
+    }
+
+    #[cfg_attr(not(debug_assertions), inline(always))]
+    fn mark(
+        &mut self,
+        _mark: char,
+        _joint: bool,
+        _piece: Piece<'_>,
+        _text: &str,
+        _at: u32,
+    ) -> Result<(), AllocError> {
+        Ok(())
+    }
+
+    #[cfg_attr(not(debug_assertions), inline(always))]
+    fn name(
+        &mut self,
+        _raw: bool,
+        _name: &str,
+        _piece: Piece<'_>,
+        _text: &str,
+        _at: u32,
+    ) -> Result<(), AllocError> {
+        Ok(())
+    }
+
+    #[cfg_attr(not(debug_assertions), inline(always))]
+    fn literal(&mut self, _piece: Piece<'_>, _text: &str, _at: u32) -> Result<(), AllocError> {
+        Ok(())
+    }
+
+    #[cfg_attr(not(debug_assertions), inline(always))]
+    fn doc(
+        &mut self,
+        _inner: bool,
+        _said: &str,
+        _piece: Piece<'_>,
+        _text: &str,
+        _at: u32,
+    ) -> Result<(), AllocError> {
+        Ok(())
+    }
+
+    #[cfg_attr(not(debug_assertions), inline(always))]
+    fn gap(&mut self, _piece: Piece<'_>, _text: &str, _at: u32) {}
+
+    #[cfg_attr(not(debug_assertions), inline(always))]
+    fn white(&mut self, _text: &str, _size: usize) {}
+
+    #[cfg_attr(not(debug_assertions), inline(always))]
+    fn open(&mut self, delimiter: Delimiter, text: &str, at: u32) -> Result<Opener, AllocError> {
+        let start = self.text.len() - text.len();
+        let at = Stretch {
+            start,
+            end: start + 1,
+            span: span_of(at, at + 1),
+        };
+        Ok(Opener { delimiter, at })
+    }
+
+    #[cfg_attr(not(debug_assertions), inline(always))]
+    fn close(
+        &mut self,
+        _opener: Opener,
+        _delimiter: Delimiter,
+        _text: &str,
+        _at: u32,
+    ) -> Result<(), AllocError> {
+        Ok(())
+    }
+}
+
+/// That a closer can't stand at the front of this rest of a text, which is at this position.
+fn refused(text: &str, rest: &str, at: u32, closer: Piece, openers: Vec<Opener>) -> Explained
+{
+    let tail = &rest[closer.bytes..];
+    let end = at + closer.chars as u32;
+    let mut outer = openers;
+    let innermost = outer.pop();
+    let reason = match innermost {
+        None => Reason::StrayCloser,
+        Some(_) => Reason::MismatchedCloser,
+    };
     Explained {
         reason,
-        before,
-        at,
+        before: stretch(text, rest, rest, at, at),
+        at: stretch(text, rest, tail, at, end),
         innermost,
         outer,
     }

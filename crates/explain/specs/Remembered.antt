@@ -1,0 +1,14 @@
+-- What is remembered of the openers of a text while it is read.
+use Rattle.std.specs.Prelude.{◌≡◌, reverse}
+use Rattle.std.specs.List.{AllByRecursion}
+use Rattle.std.specs.Str.{chars, IsUtf8}
+use Rattle.pm_stream.specs.Taken.{Taken}
+use Rattle.explain.specs.Explained.{IsOpenerOf}
+use Rattle.explain.specs.declared.explained.Opener.{Opener}
+use Rattle.explain.specs.declared.explaining.Openers.{Openers}
+
+-- this is the text, and each opener that waits for a closer stands in it where it is told to
+pub record Remembers (openers : Openers) (taken : Taken Opener) : Type 0 where
+  pub text : taken.source ≡ chars openers.text.now
+  pub utf8 : IsUtf8 openers.text.now
+  pub stand : AllByRecursion (IsOpenerOf taken.base taken.source) (reverse taken.opened)
