@@ -216,7 +216,8 @@ stretch_is c base behind start at span one place spans starts = record {
       (omega (arith, place, length-append behind (c ∷ [])));
 }
 
-module _ (base : ℕ) (source behind text rest : List ℕ) (start at : ℕ) (span : Extent) (place : at ≡ base + length behind)
+module _ (base : ℕ) (source behind text rest : List ℕ) (start at : ℕ) (span : Extent)
+    (place : at ≡ base + length behind)
     (whole : source ≡ behind ++ text) (spans : span ≡ record { lo = at; hi = at + 1 })
     (starts : start ≡ length (encode_utf8_all behind)) where
   stands_as : (d : Delimiter) (c : ℕ) → text ≡ c ∷ rest → is_opener c ≡ true → d ≡ delimiter_of c

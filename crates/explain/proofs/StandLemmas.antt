@@ -37,7 +37,8 @@ module _ (P : Opener → Type 0) where
 
   pub all_opened : (x : Opener) (outer : List Opener) → AllByRecursion P (reverse outer) → P x
       → AllByRecursion P (reverse (x ∷ outer))
-  all_opened x outer all is = subst (AllByRecursion P) (sym (reverse-append (x ∷ []) outer)) (all_more (reverse outer) x all is)
+  all_opened x outer all is = subst (AllByRecursion P) (sym (reverse-append (x ∷ []) outer)) (all_more (reverse outer)
+      x all is)
 
   pub all_closed : (x : Opener) (outer opened : List Opener) → opened ≡ x ∷ outer → AllByRecursion P (reverse opened)
       → AllByRecursion P (reverse outer)

@@ -13,7 +13,8 @@ pub returns-in-Some : goal.returns-in-Some
 returns-in-Some c =
     let all = c.in_ok-rest.ensures.reads in
     let h = opened_by _ _ _ _ _ _ _ _ all in
-    let stop = stops_at _ _ c.in_ok-rest.field-0.opened.items _ c.in_ok-rest.ensures.stops c.in-Some.closer c.in-Some.is in
+    let stop = stops_at _ _ c.in_ok-rest.field-0.opened.items _ c.in_ok-rest.ensures.stops c.in-Some.closer
+    c.in-Some.is in
     let x = c.refused.result in
     let whole = read_whole _ _ _ _ _ _ h in
     let place = read_at _ _ _ _ _ _ h in
@@ -40,6 +41,7 @@ returns c =
     let all = c.in_ok-rest.ensures.reads in
     stuck_explained _ _ _ _ _ _ (opened_by _ _ _ _ _ _ _ _ all) c.stuck.result
     (c.is_done.ensures.more c.if-is_done.false)
-    (stops_there _ _ c.in_ok-rest.field-0.opened.items _ c.in_ok-rest.ensures.stops c.in_default.is) c.stuck.ensures.stuck c.stuck.ensures.open
+    (stops_there _ _ c.in_ok-rest.field-0.opened.items _ c.in_ok-rest.ensures.stops c.in_default.is)
+    c.stuck.ensures.stuck c.stuck.ensures.open
     (all_lost _ _ c.stuck.result.innermost c.stuck.result.outer.items c.stuck.ensures.kept
     (all_reverse _ _ all.takes.takes.stand))
