@@ -237,7 +237,8 @@ deep_agrees : (depth : ℕ) (item : Item) (rule : Rule) → comes_inside item ru
     → lifted (step (at_range state (suc depth) item rule) c)
     ≡ reached (move rules (range state Inside ∷ (brackets_left rule depth ++ rule_left item rule)) c)
 deep_agrees zero item rule h state c =
-    inside_agrees item rule 0 (after_brackets rule) (rule_left item rule) (λ s. deep_left s 0 item rule h)
+    inside_agrees item rule
+    0 (after_brackets rule) (rule_left item rule) (λ s. deep_left s 0 item rule h)
     (λ s. deep_left s 1 item rule h) (close_agrees item rule h) refl state c
 deep_agrees (suc depth) item rule h state c =
     inside_agrees item rule (suc depth) (Range types.Whole Inside) (brackets_left rule depth ++ rule_left item rule)

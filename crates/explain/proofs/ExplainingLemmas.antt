@@ -199,7 +199,7 @@ pub opened_by : {S : Type 0} (took : S → Taken Opener → Type 0) (base : ℕ)
 opened_by took base source rest at first sink openers h =
     record { groups = h.groups; trees = h.trees; reads = h.reads; around = h.takes.around }
 
--- an opener at the front of the text stands where it is told to
+-- the stretch of an opener at the front of the text has the opener's bytes and its span
 stretch_is : (c base : ℕ) (behind : List ℕ) (start at : ℕ) (span : Extent) → length (encode_utf8_all (c ∷ [])) ≡ 1
     → at ≡ base + length behind → span ≡ record { lo = at; hi = at + 1 } → start ≡ length (encode_utf8_all behind)
     → IsStretch base behind (c ∷ []) (record { start = start; end = start + 1; span = span })
@@ -254,7 +254,7 @@ module _ (first : Bool) (rest : List ℕ) (openers : List Opener) (stray : Optio
   stops_there is = subst (λ s. MatchOption s (HasNoPiece first rest) (λ piece. IsPieceAt first rest piece
       × ((groups : List Opened) → waiting openers ≡ openers_of groups → IsStray piece.kind groups))) is stops
 
--- a closer that doesn't close the innermost group is refused
+-- explain rejects a closer that does not close the innermost group
 refuses : (innermost : Option Opener) (outer : List Opener) (groups : List Opened) (d : Delimiter)
     → WaitsAs (openers_of groups) innermost outer → (FitsInnermost d groups → ⊥)
     → RefusesFor d (refusal innermost) innermost

@@ -7,7 +7,7 @@ use Rattle.explain.specs.Open.{Loses}
 use Rattle.explain.specs.declared.explained.Explained.{Explained}
 use Rattle.explain.specs.declared.explained.Opener.{Opener}
 
--- each opener that is told stands where it is told to
+-- each opener in the answer is in the text, at the bytes and the span that the answer gives for it
 abbrev pub AllStand : ℕ → List ℕ → Explained → Type 0
 AllStand base source x =
     IfSome x.innermost (IsOpenerOf base source) × AllByRecursion (IsOpenerOf base source) x.outer.items

@@ -7,7 +7,7 @@ use Rattle.explain.specs.Explained.{IsOpenerOf}
 use Rattle.explain.specs.declared.explained.Opener.{Opener}
 use Rattle.explain.specs.declared.explaining.Openers.{Openers}
 
--- this is the text, and each opener that waits for a closer stands in it where it is told to
+-- the source is this text, and it has each opener that waits for a closer at the opener's bytes and span
 pub record Remembers (openers : Openers) (taken : Taken Opener) : Type 0 where
   pub text : taken.source ≡ chars openers.text.now
   pub utf8 : IsUtf8 openers.text.now
