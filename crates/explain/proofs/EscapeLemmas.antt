@@ -29,12 +29,6 @@ use Rattle.literal_escaper.specs.Text.{while_front, while_rest}
 
 -- ---- hex digits
 
-same_by : (a b : Bool) → (a ≡ true → b ≡ true) → (b ≡ true → a ≡ true) → a ≡ b
-same_by true true f g = refl
-same_by true false f g = sym (f refl)
-same_by false true f g = g refl
-same_by false false f g = refl
-
 above : (c : ℕ) → nat_lt c 128 ≡ false → (k : ℕ) → k ≤ 128 → nat_lt c k ≡ false
 above c e k le = false_from_ne_true (nat_lt c k)
     (λ lt. let less = ltb-true c k lt in let more = ltb-false c 128 e in absurd (omega arith))

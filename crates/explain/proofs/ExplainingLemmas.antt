@@ -14,6 +14,7 @@ use Rattle.pm_token.specs.declared.delimiters.Delimiter.TheVariants.{Parenthesis
 use Rattle.pm_token.specs.declared.delimiters.Delimiter.TheVariants as delimiters
 use Rattle.lexical.specs.Delimiter.{is_opener}
 use Rattle.std.specs.Str.{encode_utf8_all}
+use Rattle.lexical.proofs.TextLemmas.{front_len}
 use Rattle.std.proofs.lemmas.Str.{encodes-append}
 use Rattle.pm_span.specs.Extent.{Extent}
 use Rattle.pm_stream.specs.Delimited.{delimiter_of, opening}
@@ -23,14 +24,16 @@ use Rattle.pm_stream.specs.Forest.{Forest}
 use Rattle.pm_stream.specs.Parsing.{FaultAt}
 use Rattle.pm_stream.specs.OpenGroups.{Opened, FitsInnermost, unclosed_onto}
 use Rattle.pm_stream.specs.Reading.{Reads, ReadsTo, openers_of}
-use Rattle.pm_stream.specs.Taken.{Taken, Waiting}
+use Rattle.pm_stream.specs.Taken.{CanOpen, IsTakenTo, Taken, Waiting}
+use Rattle.pm_stream.specs.declared.reading.Lexed.{Lexed}
 use Rattle.pm_stream.proofs.ParserLemmas.{reads_all, reads_open, reads_stray, reads_stuck}
 use Rattle.explain.specs.Explained.{IsExplained, IsOpenerOf, IsStretch, IsStuck, Parses, SaysLeftOpen}
-use Rattle.explain.specs.Open.{LeavesOpen, Loses, RefusesFor, RefusesPiece, WaitsAs, opener_of, refusal, waiting}
+use Rattle.explain.specs.Open.{LeavesOpen, Loses, RefusesFor, WaitsAs, opener_of, refusal, waiting}
 use Rattle.explain.specs.declared.explained.Explained.{Explained}
+use Rattle.explain.specs.Remembered.{Remembers}
 use Rattle.explain.specs.declared.explained.Opener.{Opener}
-use Rattle.explain.specs.declared.reason.Reason.{Reason}
-use Rattle.explain.specs.declared.reason.Reason.TheVariants.{MismatchedCloser}
+use Rattle.explain.specs.declared.explained.Stretch.{Stretch}
+use Rattle.explain.specs.declared.explaining.Openers.{Openers}
 use Rattle.explain.proofs.OpenLemmas.{leaves_open}
 use Rattle.explain.proofs.StandLemmas.{AllStand, all_lost}
 
@@ -127,12 +130,12 @@ module _ (base : ℕ) (source rest : List ℕ) (at : ℕ) (first : Bool) (opener
           (reads_open base source rest at first g groups h.trees reads done)
 
   -- a closer can't stand there
-  pub refused_explained : (x : Explained) (piece : Found) → (found : IsPieceAt first rest piece)
-      → RefusesPiece piece.kind x.reason x.innermost
+  pub refused_explained : (x : Explained) (piece : Found) (found : IsPieceAt first rest piece)
+      → IsStray piece.kind h.groups → x.reason ≡ refusal x.innermost
       → WaitsAs (waiting openers) x.innermost x.outer.items → AllStand base source x
       → IsStretch base read [] x.before → IsStretch base read found.front x.at → IsExplained base source x
-  refused_explained x piece found refuses told stand before here =
-      let closer = closer_of piece.kind refuses in
+  refused_explained x piece found stray reason told stand before here =
+      let closer = closer_of piece.kind stray in
       let stands = subst (λ k. IsPiece first (kind_of k found.front) found.front found.rest) closer.1 found.stands in
       record {
         pieces = h.reads.pieces;
@@ -147,46 +150,41 @@ module _ (base : ℕ) (source rest : List ℕ) (at : ℕ) (first : Bool) (opener
         others = stand.1;
         fault = subst (FaultAt base source) (read_at ∙ (omega (arith) ∙ sym (ap (λ s. s.lo) before.span)))
             (reads_stray base source rest found.front found.rest at first h.groups h.trees closer.0 h.reads found.whole
-            stands
-            (apart_of h.groups (delimiter_of closer.0) x.reason x.innermost x.outer.items
-            (subst (λ w. WaitsAs w x.innermost x.outer.items) h.around told) closer.2));
+            stands closer.2);
         because = inr (inl (record {
           closer = closer.0;
           part = found.front;
           after = found.rest;
           split = found.whole;
           stands = subst (λ b. IsPiece b (Close closer.0) found.front found.rest) (sym h.reads.begins) stands;
-          refuses = closer.2;
+          refuses = subst (λ r. RefusesFor (delimiter_of closer.0) r x.innermost) (sym reason)
+              (refuses_for (delimiter_of closer.0) x.innermost h.groups
+              (subst (λ w. WaitsAs w x.innermost x.outer.items) h.around told) closer.2);
           before = before;
           at = here;
         }));
       }
     where
-      closer_of : (kind : PieceKind) → RefusesPiece kind x.reason x.innermost
-          → (c : ℕ) × (kind ≡ kinds.Closer c) × RefusesFor (delimiter_of c) x.reason x.innermost
-      closer_of kinds.FrontMark r = absurd r
-      closer_of kinds.Gap r = absurd r
-      closer_of (kinds.Doc inner text) r = absurd r
-      closer_of (kinds.Opener c) r = absurd r
-      closer_of (kinds.Closer c) r = (c, refl, r)
-      closer_of kinds.Literal r = absurd r
-      closer_of (kinds.Mark joint mark) r = absurd r
-      closer_of (kinds.Name raw name) r = absurd r
+      closer_of : (kind : PieceKind) → IsStray kind h.groups
+          → (c : ℕ) × (kind ≡ kinds.Closer c) × (FitsInnermost (delimiter_of c) h.groups → ⊥)
+      closer_of kinds.FrontMark stray = absurd stray
+      closer_of kinds.Gap stray = absurd stray
+      closer_of (kinds.Doc inner text) stray = absurd stray
+      closer_of (kinds.Opener c) stray = absurd stray
+      closer_of (kinds.Closer c) stray = (c, refl, stray)
+      closer_of kinds.Literal stray = absurd stray
+      closer_of (kinds.Mark joint mark) stray = absurd stray
+      closer_of (kinds.Name raw name) stray = absurd stray
 
-      refuses_none : (d : Delimiter) (reason : Reason) (opener : Opener) → RefusesFor d reason (Some opener)
-          → opener.delimiter ≡ d → ⊥
-      refuses_none d MismatchedCloser opener r = r
-      refuses_none d _ opener r = absurd r
-
-      apart_of : (groups : List Opened) (d : Delimiter) (reason : Reason) (innermost : Option Opener)
-          (outer : List Opener) → WaitsAs (openers_of groups) innermost outer → RefusesFor d reason innermost
-          → FitsInnermost d groups → ⊥
-      apart_of [] d reason innermost outer w r fits = fits
-      apart_of (g ∷ groups) d reason None outer w r fits = let clash :
-          (g.delimiter, g.lo) ∷ openers_of groups ≡ [] = w.0 in cc
-      apart_of (g ∷ groups) d reason (Some opener) outer w r fits =
-          let head : ◌≡◌ {A = Waiting} (g.delimiter, g.lo) (opener.delimiter, opener.at.span.lo) = cc in
-          refuses_none d reason opener r (ap (λ z. z.0) (sym head) ∙ fits)
+      refuses_for : (d : Delimiter) (innermost : Option Opener) (groups : List Opened)
+          → WaitsAs (openers_of groups) innermost x.outer.items → (FitsInnermost d groups → ⊥)
+          → RefusesFor d (refusal innermost) innermost
+      refuses_for d None groups w apart = tt
+      refuses_for d (Some o) [] w apart =
+          let clash : ◌≡◌ {A = List Waiting} [] ((o.delimiter, o.at.span.lo) ∷ waiting x.outer.items) = w in absurd (cc)
+      refuses_for d (Some o) (g ∷ groups) w apart = λ e.
+          let head : ◌≡◌ {A = Waiting} (g.delimiter, g.lo) (o.delimiter, o.at.span.lo) = cc in
+          apart (ap (λ z. z.0) head ∙ e)
 
 pub extent_of : (lo hi a b : ℕ) → lo ≡ a → hi ≡ b
     → ◌≡◌ {A = Extent} (record { lo = lo; hi = hi }) (record { lo = a; hi = b })
@@ -199,47 +197,52 @@ pub opened_by : {S : Type 0} (took : S → Taken Opener → Type 0) (base : ℕ)
 opened_by took base source rest at first sink openers h =
     record { groups = h.groups; trees = h.trees; reads = h.reads; around = h.takes.around }
 
--- the stretch of an opener at the front of the text has the opener's bytes and its span
-stretch_is : (c base : ℕ) (behind : List ℕ) (start at : ℕ) (span : Extent) → length (encode_utf8_all (c ∷ [])) ≡ 1
-    → at ≡ base + length behind → span ≡ record { lo = at; hi = at + 1 } → start ≡ length (encode_utf8_all behind)
-    → IsStretch base behind (c ∷ []) (record { start = start; end = start + 1; span = span })
-stretch_is c base behind start at span one place spans starts = record {
-  start = starts;
-  end = omega (
-    arith,
-    starts,
-    one,
-    ap length (encodes-append behind (c ∷ [])),
-    length-append (encode_utf8_all behind) (encode_utf8_all (c ∷ [])),
-  );
-  span = spans ∙ extent_of at (at + 1) (base + length behind) (base + length (behind ++ c ∷ [])) place
-      (omega (arith, place, length-append behind (c ∷ [])));
-}
+-- an opener is one character, of its delimiter
+pub one_opener : (d : Delimiter) (front : List ℕ) → front ≡ opening d → length front ≡ 1
+    → (c : ℕ) × (front ≡ c ∷ []) × (is_opener c ≡ true) × (d ≡ delimiter_of c)
+one_opener Parenthesis front is one = (40, is, refl, refl)
+one_opener Brace front is one = (123, is, refl, refl)
+one_opener Bracket front is one = (91, is, refl, refl)
+one_opener delimiters.None front is one = absurd (omega (arith, one, ap length is))
 
-module _ (base : ℕ) (source behind text rest : List ℕ) (start at : ℕ) (span : Extent)
-    (place : at ≡ base + length behind)
-    (whole : source ≡ behind ++ text) (spans : span ≡ record { lo = at; hi = at + 1 })
-    (starts : start ≡ length (encode_utf8_all behind)) where
-  stands_as : (d : Delimiter) (c : ℕ) → text ≡ c ∷ rest → is_opener c ≡ true → d ≡ delimiter_of c
-      → length (encode_utf8_all (c ∷ [])) ≡ 1
-      → IsOpenerOf base source (record { delimiter = d; at = record { start = start; end = start + 1; span = span } })
-  stands_as d c split opens same one = record {
-    behind = behind;
-    character = c;
-    after = rest;
-    whole = whole ∙ ap (λ t. behind ++ t) split;
-    opens = opens;
-    delimiter = same;
-    at = stretch_is c base behind start at span one place spans starts;
-  }
+-- how many bytes there are before the piece
+pub rest_bytes : (openers : Openers) (lexed : Lexed) (to : IsTakenTo Remembers openers lexed)
+    → length (encode_utf8_all to.before.passed) + length lexed.text.now ≡ length openers.text.now
+rest_bytes openers lexed to =
+    front_len openers.text.now lexed.text.now to.before.passed to.takes.utf8 to.is.utf8 (sym to.takes.text ∙ to.source)
 
-  pub opener_stands : (d : Delimiter) → text ≡ opening d ++ rest → length (opening d) ≡ 1
-      → IsOpenerOf base source (record { delimiter = d; at = record { start = start; end = start + 1; span = span } })
-  unfolding lib.Utf8.encode
-  opener_stands Parenthesis split one = stands_as Parenthesis 40 split refl refl refl
-  opener_stands Brace split one = stands_as Brace 123 split refl refl refl
-  opener_stands Bracket split one = stands_as Bracket 91 split refl refl refl
-  opener_stands delimiters.None split one = absurd (omega (arith, one))
+-- an opener has the piece's bytes and its span
+pub opener_is : (openers : Openers) (lexed : Lexed) (d : Delimiter) (can : CanOpen Remembers openers lexed d)
+    (at : Stretch) → at.start ≡ length (encode_utf8_all can.to.before.passed) → at.end ≡ at.start + lexed.piece.bytes
+    → at.span ≡ record { lo = lexed.at; hi = lexed.at + length can.to.is.found.front }
+    → IsOpenerOf can.to.before.base can.to.before.source (record { delimiter = d; at = at })
+opener_is openers lexed d can at starts ends spans =
+    let base = can.to.before.base in
+    let behind = can.to.before.passed in
+    let found = can.to.is.found in
+    let one = one_opener d found.front can.front can.one in
+    record {
+      behind = behind;
+      character = one.0;
+      after = found.rest;
+      whole = can.to.source ∙ ap (λ t. behind ++ t) (found.whole ∙ ap (λ p. p ++ found.rest) one.1);
+      opens = one.2;
+      delimiter = one.3;
+      at = subst (λ p. IsStretch base behind p at) one.1 (record {
+        start = starts;
+        end = omega (
+          arith,
+          ends,
+          starts,
+          found.bytes,
+          ap length (encodes-append behind found.front),
+          length-append (encode_utf8_all behind) (encode_utf8_all found.front),
+        );
+        span = spans ∙ extent_of lexed.at (lexed.at + length found.front) (base + length behind)
+            (base + length (behind ++ found.front)) can.to.at
+            (omega (arith, can.to.at, length-append behind found.front));
+      });
+    }
 
 -- why reading stopped
 module _ (first : Bool) (rest : List ℕ) (openers : List Opener) (stray : Option Found)
@@ -253,31 +256,6 @@ module _ (first : Bool) (rest : List ℕ) (openers : List Opener) (stray : Optio
   pub stops_there : stray ≡ None → HasNoPiece first rest
   stops_there is = subst (λ s. MatchOption s (HasNoPiece first rest) (λ piece. IsPieceAt first rest piece
       × ((groups : List Opened) → waiting openers ≡ openers_of groups → IsStray piece.kind groups))) is stops
-
--- explain rejects a closer that does not close the innermost group
-refuses : (innermost : Option Opener) (outer : List Opener) (groups : List Opened) (d : Delimiter)
-    → WaitsAs (openers_of groups) innermost outer → (FitsInnermost d groups → ⊥)
-    → RefusesFor d (refusal innermost) innermost
-refuses None outer groups d w apart = tt
-refuses (Some x) outer [] d w apart =
-    let clash : ◌≡◌ {A = List Waiting} [] ((x.delimiter, x.at.span.lo) ∷ waiting outer) = w in absurd (cc)
-refuses (Some x) outer (g ∷ groups) d w apart = λ e.
-    let head : ◌≡◌ {A = Waiting} (g.delimiter, g.lo) (x.delimiter, x.at.span.lo) = cc in
-    apart (ap (λ z. z.0) head ∙ e)
-
-pub refuses_piece : (kind : PieceKind) (reason : Reason) (innermost : Option Opener) (outer : List Opener)
-    (groups : List Opened) → WaitsAs (openers_of groups) innermost outer → reason ≡ refusal innermost
-    → IsStray kind groups → RefusesPiece kind reason innermost
-refuses_piece kinds.FrontMark reason innermost outer groups w is stray = stray
-refuses_piece kinds.Gap reason innermost outer groups w is stray = stray
-refuses_piece (kinds.Doc inner text) reason innermost outer groups w is stray = stray
-refuses_piece (kinds.Opener c) reason innermost outer groups w is stray = stray
-refuses_piece (kinds.Closer c) reason innermost outer groups w is stray =
-    subst (λ r. RefusesFor (delimiter_of c) r innermost) (sym is)
-    (refuses innermost outer groups (delimiter_of c) w stray)
-refuses_piece kinds.Literal reason innermost outer groups w is stray = stray
-refuses_piece (kinds.Mark joint mark) reason innermost outer groups w is stray = stray
-refuses_piece (kinds.Name raw name) reason innermost outer groups w is stray = stray
 
 -- a text past two parts
 pub whole_past : (text mid rest front part : List ℕ) → text ≡ front ++ mid → mid ≡ part ++ rest

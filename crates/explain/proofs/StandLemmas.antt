@@ -1,5 +1,5 @@
 -- Where the openers stand that wait for a closer.
-use Rattle.std.proofs.Common.{◌≡◌, ℕ, List, [], ◌∷◌, ◌++◌, Option, Some, None, IfSome, reverse, sym, ap, ◌∙◌, subst}
+use Rattle.std.proofs.Common.{◌≡◌, ℕ, List, [], ◌∷◌, ◌++◌, Option, Some, None, IfSome, reverse, sym, subst}
 use Rattle.std.specs.List.{AllByRecursion}
 use Rattle.std.proofs.lemmas.List.{reverse-append, reverse-reverse}
 use Rattle.explain.specs.Explained.{IsOpenerOf}
@@ -32,15 +32,12 @@ module _ (P : Opener → Type 0) where
   all_lost all None outer lost is = (tt, all_none outer lost.1)
   all_lost all (Some x) outer lost is = all_less outer x (subst (AllByRecursion P) lost is)
 
-  pub all_reverse : (openers : List Opener) → AllByRecursion P (reverse (reverse openers)) → AllByRecursion P openers
-  all_reverse openers = subst (AllByRecursion P) (reverse-reverse openers)
+  all_reversed : (openers : List Opener) → AllByRecursion P openers → AllByRecursion P (reverse openers)
+  all_reversed [] all = tt
+  all_reversed (x ∷ openers) all =
+      subst (AllByRecursion P) (sym (reverse-append (x ∷ []) openers))
+      (all_more (reverse openers) x (all_reversed openers all.1) all.0)
 
-  pub all_opened : (x : Opener) (outer : List Opener) → AllByRecursion P (reverse outer) → P x
-      → AllByRecursion P (reverse (x ∷ outer))
-  all_opened x outer all is = subst (AllByRecursion P) (sym (reverse-append (x ∷ []) outer)) (all_more (reverse outer)
-      x all is)
-
-  pub all_closed : (x : Opener) (outer opened : List Opener) → opened ≡ x ∷ outer → AllByRecursion P (reverse opened)
-      → AllByRecursion P (reverse outer)
-  all_closed x outer opened e all =
-      (all_less (reverse outer) x (subst (AllByRecursion P) (ap reverse e ∙ reverse-append (x ∷ []) outer) all)).1
+  pub all_reverse : (openers : List Opener) → AllByRecursion P (reverse openers) → AllByRecursion P openers
+  all_reverse openers all =
+      subst (AllByRecursion P) (reverse-reverse openers) (all_reversed (reverse openers) all)

@@ -1,9 +1,6 @@
 -- The openers that no closer matches.
 use Rattle.std.specs.Prelude.{◌≡◌, List, [], ◌∷◌, ◌++◌, reverse, map, Option, Some, None}
-use Rattle.lexical.specs.declared.piece.PieceKind.{PieceKind}
-use Rattle.lexical.specs.declared.piece.PieceKind.TheVariants as kinds
 use Rattle.pm_token.specs.declared.delimiters.Delimiter.{Delimiter}
-use Rattle.pm_stream.specs.Delimited.{delimiter_of}
 use Rattle.pm_stream.specs.Events.{Event, Opens, Balanced}
 use Rattle.pm_stream.specs.Taken.{Waiting}
 use Rattle.explain.specs.declared.explained.Opener.{Opener}
@@ -47,8 +44,3 @@ RefusesFor d _ innermost = ⊥
 abbrev pub refusal : Option Opener → Reason
 refusal None = StrayCloser
 refusal (Some opener) = MismatchedCloser
-
--- the piece is a closer that can't stand there, for the reason
-abbrev pub RefusesPiece : PieceKind → Reason → Option Opener → Type 0
-RefusesPiece (kinds.Closer c) reason innermost = RefusesFor (delimiter_of c) reason innermost
-RefusesPiece _ reason innermost = ⊥

@@ -1,5 +1,5 @@
 -- What is remembered of the openers of a text while it is read.
-use Rattle.std.specs.Prelude.{◌≡◌, reverse}
+use Rattle.std.specs.Prelude.{◌≡◌}
 use Rattle.std.specs.List.{AllByRecursion}
 use Rattle.std.specs.Str.{chars, IsUtf8}
 use Rattle.pm_stream.specs.Taken.{Taken}
@@ -11,4 +11,4 @@ use Rattle.explain.specs.declared.explaining.Openers.{Openers}
 pub record Remembers (openers : Openers) (taken : Taken Opener) : Type 0 where
   pub text : taken.source ≡ chars openers.text.now
   pub utf8 : IsUtf8 openers.text.now
-  pub stand : AllByRecursion (IsOpenerOf taken.base taken.source) (reverse taken.opened)
+  pub stand : AllByRecursion (IsOpenerOf taken.base taken.source) taken.opened

@@ -1,7 +1,7 @@
 //! From a text to the reason why it doesn't parse.
 ghost use Rattle.std.specs.Prelude.{◌≡◌, ◌≢◌, ◌≤◌, ◌+◌, ◌<◌, ◌^◌, ◌↔◌, ◌++◌, Bool, Err, List, [], ℕ, IfOk};
 ghost use Rattle.std.specs.Prelude.{MatchOption, false, length, true};
-ghost use Rattle.std.specs.Str.{chars, encode_utf8_all};
+ghost use Rattle.std.specs.Str.{chars};
 ghost use Rattle.lexical.specs.Found.{IsPieceAt};
 ghost use Rattle.lexical.specs.Piece.{HasNoPiece};
 ghost use Rattle.pm_span.specs.Files.{Fits, new_map, next_lo};
@@ -15,7 +15,7 @@ use crate::stuck::reason_at;
 use lexical::Piece;
 use lexical::parts::Cursor;
 use pm_span::parts::{bounds, fits_new, span_of};
-use pm_stream::reading::{Ending, TokenSink, walk};
+use pm_stream::reading::{Ending, Lexed, TokenSink, walk};
 use pm_token::Delimiter;
 use std::alloc::{AllocError, Global};
 
@@ -91,59 +91,38 @@ impl<'a> TokenSink for Openers<'a> {
     }
 
     #[inline(always)]
-    fn mark(
-        &mut self,
-        _mark: char,
-        _joint: bool,
-        _piece: Piece<'_>,
-        _text: &str,
-        _at: u32,
-    ) -> Result<(), AllocError> {
+    fn mark(&mut self, _lexed: Lexed<'_>, _joint: bool, _mark: char) -> Result<(), AllocError> {
         Ok(())
     }
 
     #[inline(always)]
-    fn name(
-        &mut self,
-        _raw: bool,
-        _name: &str,
-        _piece: Piece<'_>,
-        _text: &str,
-        _at: u32,
-    ) -> Result<(), AllocError> {
+    fn name(&mut self, _lexed: Lexed<'_>, _raw: bool, _name: &str) -> Result<(), AllocError> {
         Ok(())
     }
 
     #[inline(always)]
-    fn literal(&mut self, _piece: Piece<'_>, _text: &str, _at: u32) -> Result<(), AllocError> {
+    fn literal(&mut self, _lexed: Lexed<'_>) -> Result<(), AllocError> {
         Ok(())
     }
 
     #[inline(always)]
-    fn doc(
-        &mut self,
-        _inner: bool,
-        _said: &str,
-        _piece: Piece<'_>,
-        _text: &str,
-        _at: u32,
-    ) -> Result<(), AllocError> {
+    fn doc(&mut self, _lexed: Lexed<'_>, _inner: bool, _said: &str) -> Result<(), AllocError> {
         Ok(())
     }
 
     #[inline(always)]
-    fn gap(&mut self, _piece: Piece<'_>, _text: &str, _at: u32) {}
+    fn gap(&mut self, _lexed: Lexed<'_>) {}
 
     #[inline(always)]
     fn white(&mut self, _text: &str, _size: usize) {}
 
     #[inline(always)]
-    fn open(&mut self, delimiter: Delimiter, text: &str, at: u32) -> Result<Opener, AllocError> {
-        let start = self.text.len() - text.len();
+    fn open(&mut self, lexed: Lexed<'_>, delimiter: Delimiter) -> Result<Opener, AllocError> {
+        let start = self.text.len() - lexed.text.len();
         let at = Stretch {
             start,
-            end: start + 1,
-            span: span_of(at, at + 1),
+            end: start + lexed.piece.bytes,
+            span: lexed.span(),
         };
         Ok(Opener { delimiter, at })
     }
@@ -151,10 +130,9 @@ impl<'a> TokenSink for Openers<'a> {
     #[inline(always)]
     fn close(
         &mut self,
-        _opener: Opener,
+        _lexed: Lexed<'_>,
         _delimiter: Delimiter,
-        _text: &str,
-        _at: u32,
+        _opener: Opener,
     ) -> Result<(), AllocError> {
         Ok(())
     }

@@ -282,11 +282,17 @@ has_outcome base source =
 
 -- ---- what an attempt to parse answers, and nothing else can be answered
 
+pub faultless : {A : Type 0} (P : A → Type 0) (base begin : ℕ) (source : List ℕ) (result : Result A ParseError)
+    → ((value : A) → P value → (stream : Forest) × ParsesTo base source stream) → base ≡ begin
+    → IfOk result P → IfOk result (λ value. HasNoFault begin source)
+faultless P base begin source (Ok value) of e h = λ position.
+    parses_or_not begin source (of value h).0 position (subst (λ n. ParsesTo n source (of value h).0) e (of value h).1)
+faultless P base begin source (Err error) of e h = tt
+
 pub parsed_faultless : (base begin : ℕ) (source : List ℕ) (result : Result Forest ParseError) → base ≡ begin
     → IfOk result (ParsesTo base source) → IfOk result (λ stream. HasNoFault begin source)
-parsed_faultless base begin source (Ok stream) e h = λ position.
-    parses_or_not begin source stream position (subst (λ n. ParsesTo n source stream) e h)
-parsed_faultless base begin source (Err error) e h = tt
+parsed_faultless base begin source result =
+    faultless (ParsesTo base source) base begin source result (λ stream h. (stream, h))
 
 only_fault : (base : ℕ) (source : List ℕ) (position : ℕ) → FaultAt base source position
     → IsOnlyFault base source position

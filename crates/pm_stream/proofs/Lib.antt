@@ -13,7 +13,6 @@ pub mod EventLemmas
 pub mod OpenGroupLemmas
 pub mod PrintedEventLemmas
 pub mod ParserLemmas
-pub mod ParseLemmas
 pub mod ReadingLemmas
 pub mod ParsingLemmas
 pub mod FaultLemmas

@@ -74,11 +74,6 @@ unclosed-close frames frame trees d hi events h same =
 
 -- ---- what was read stays built
 
-pub built_trees : (at : ℕ) (groups : List Opened) (trees : Forest) → IsBuiltUpTo at groups trees
-    → IsBuilt trees
-built_trees at [] trees h = h
-built_trees at (x ∷ groups) trees h = h.0
-
 pub built_later : (groups : List Opened) (trees : Forest) (m n : ℕ) → m ≤ n → IsBuiltUpTo m groups trees
     → IsBuiltUpTo n groups trees
 built_later [] trees m n le h = h
@@ -100,11 +95,12 @@ built_push at frames trees tree nested h k =
     subst (λ (s : List Opened × Forest). IsBuiltUpTo at s.0 s.1) (sym (seen-push frames trees tree nested))
     (built_joined at (opened frames trees) (forest (innermost frames trees)) (alone tree) h k)
 
-pub built_close : (at hi : ℕ) (frames : List Frame) (frame : Frame) (trees : List TokenTree) (d : Delimiter)
-    → at ≤ hi → IsNested (frame ∷ frames) (length trees) → IsBuiltIn at (frame ∷ frames) trees
-    → IsBuiltIn hi frames (with_closed d frame trees hi)
-built_close at hi frames frame trees d le nested h =
+pub built_close : (at hi after : ℕ) (frames : List Frame) (frame : Frame) (trees : List TokenTree) (d : Delimiter)
+    → at ≤ hi → at ≤ after → IsNested (frame ∷ frames) (length trees) → IsBuiltIn at (frame ∷ frames) trees
+    → IsBuiltIn after frames (with_closed d frame trees hi)
+built_close at hi after frames frame trees d le on nested h =
     let outer = take frame.before trees in
     let within : frame.lo ≤ hi = omega (arith, h.1) in
-    built_push hi frames outer (closed d frame trees hi) (nested_before frame frames trees nested)
-    (built_later (opened frames outer) (forest (innermost frames outer)) frame.lo hi within h.2) (within, h.0, tt)
+    built_push after frames outer (closed d frame trees hi) (nested_before frame frames trees nested)
+    (built_later (opened frames outer) (forest (innermost frames outer)) frame.lo after (omega (arith, h.1)) h.2)
+    (within, h.0, tt)

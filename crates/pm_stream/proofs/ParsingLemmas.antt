@@ -1,25 +1,28 @@
 -- What the parser has read, with one step more.
-use Rattle.std.proofs.Common.{◌≡◌, ℕ, ◌+◌, ◌≤◌, true, false, List, [], ◌∷◌, ◌++◌, length, take, drop, sym, ap, ap₂, ◌∙◌}
+use Rattle.std.proofs.Common.{◌≡◌, ℕ, ◌+◌, true, false, List, [], ◌∷◌, ◌++◌, length, take, drop, sym, ap, ap₂, ◌∙◌}
 use Rattle.std.proofs.Common.{subst, append_assoc, append-nil, length-append, arith}
 use Rattle.std.proofs.lemmas.List.{length-take-le}
 use Rattle.std.proofs.Math.Seq.{take-length, drop-length}
 use Rattle.lexical.specs.Found.{kind_of}
 use Rattle.lexical.specs.declared.piece.PieceKind.{PieceKind}
+use Rattle.pm_span.specs.Extent.{Extent}
 use Rattle.pm_token.specs.declared.delimiters.Delimiter.{Delimiter}
 use Rattle.pm_stream.specs.Events.{Event, One, Opens, Closes, bang, doc_onto, doc_group_onto, events_onto, hash}
 use Rattle.pm_stream.specs.Forest.{flat_onto, IsBuilt}
 use Rattle.pm_stream.specs.OpenGroups.{unclosed_onto}
 use Rattle.pm_stream.specs.Trees.{alone, forest}
 use Rattle.pm_stream.specs.declared.stream.TokenTree.{TokenTree}
+use Rattle.pm_stream.specs.declared.stream.TokenTree.TheVariants.{Group}
 use Rattle.pm_stream.proofs.EventLemmas.{unclosed-append}
 use Rattle.pm_stream.specs.Nesting.{innermost, opened, IsNested}
 use Rattle.pm_stream.specs.ParserState.{Adds, Parses}
-use Rattle.pm_stream.specs.Taken.{Taken, past, position}
+use Rattle.pm_stream.specs.Taken.{HasClosed, HasTaken, IsLexed, IsTakenTo, Taken, past, position}
 use Rattle.pm_stream.specs.declared.parse.Frame.{Frame}
 use Rattle.pm_stream.specs.declared.parse.Parser.{Parser}
+use Rattle.pm_stream.specs.declared.reading.Lexed.{Lexed}
 use Rattle.pm_stream.proofs.OpenGroupLemmas.{unclosed_in, unclosed-push, unclosed-close, with_closed}
 use Rattle.pm_stream.proofs.OpenGroupLemmas.{closed, nested_more}
-use Rattle.pm_stream.proofs.OpenGroupLemmas.{nested_before, built_later, built_push, IsBuiltIn}
+use Rattle.pm_stream.proofs.OpenGroupLemmas.{built_close, built_later, built_push, IsBuiltIn}
 
 abbrev with_events : Taken Frame → List Event → Taken Frame
 with_events taken events = record {
@@ -65,25 +68,18 @@ adds_past old new es step taken front h =
           (omega (arith, length-append taken.passed front)) now.built;
     }
 
--- the trees of a piece of this kind were put in
-pub adds_by : (old made new : Parser) (es : List Event) (kind is : PieceKind) (lo : ℕ) (front : List ℕ)
-    → new ≡ made → Adds old made es → kind ≡ is → es ≡ events_onto lo (kind_of is front) front []
-    → (taken : Taken Frame) → Parses old taken
-    → Parses new (past taken front taken.opened (events_onto lo (kind_of kind front) front []))
-adds_by old made new es kind is lo front same h e gives = λ taken parsed.
-    adds_past old new (events_onto lo (kind_of kind front) front [])
-    (subst (λ p. Adds old p (events_onto lo (kind_of kind front) front [])) (sym same)
-    (subst (Adds old made) (gives ∙ ap (λ k. events_onto lo (kind_of k front) front []) (sym e)) h)) taken front parsed
-
-pub adds_nothing : (old : Parser) → Adds old old []
-adds_nothing old = λ taken h.
-    subst (λ xs. Parses old (with_events taken xs))
-    (sym (append-nil taken.events)) h
+-- the piece's trees were put in
+pub parses_token : {old new : Parser} (lexed : Lexed) (kind : PieceKind) (es : List Event) → Adds old new es
+    → ((is : IsLexed lexed) → es ≡ events_onto lexed.at (kind_of kind is.found.front) is.found.front [])
+    → HasTaken Parses old new lexed kind
+parses_token {old} {new} lexed kind es step gives = λ to.
+    adds_past old new _ (subst (Adds old new) (gives to.is) step) to.before to.is.found.front to.takes
 
 -- passing changes no tree
 pub parses_past : (parser : Parser) (taken : Taken Frame) (front : List ℕ) → Parses parser taken
     → Parses parser (past taken front taken.opened [])
-parses_past parser taken front h = adds_past parser parser [] (adds_nothing parser) taken front h
+parses_past parser = adds_past parser parser [] (λ taken h. subst (λ xs. Parses parser (with_events taken xs))
+    (sym (append-nil taken.events)) h)
 
 pub adds_doc : (a b c : Parser) (lo hi : ℕ) (text : List ℕ) (es : List Event)
     → Adds a b (One hash lo hi ∷ []) → Adds b c es → es ≡ doc_group_onto lo hi text []
@@ -100,39 +96,49 @@ adds_inner_doc a b c d lo hi text es h i k is =
     (adds_then b c d (One bang lo hi ∷ []) (doc_group_onto lo hi text []) i (subst (Adds c d) is k))
 
 -- an opener
-pub parses_open : (parser : Parser) (frame : Frame) (taken : Taken Frame) (front : List ℕ) (d : Delimiter) (at : ℕ)
-    → frame ≡ record { before = length parser.trees.items; delimiter = d; lo = at }
-    → at ≡ position taken → Parses parser taken
-    → Parses parser (past taken front (frame ∷ taken.opened) (Opens d at ∷ []))
-parses_open parser frame taken front d at is e h =
+pub parses_open : (parser : Parser) (lexed : Lexed) (d : Delimiter) (n : ℕ) → n ≡ length parser.trees.items
+    → (to : IsTakenTo Parses parser lexed)
+    → Parses parser (past to.before to.is.found.front
+    (record { before = n; delimiter = d; lo = lexed.at } ∷ to.before.opened) (Opens d lexed.at ∷ []))
+parses_open parser lexed d n is to =
+    let taken = to.before in
+    let h = to.takes in
     let trees = parser.trees.items in
     let frames = taken.opened in
-    let all : take frame.before trees ≡ trees = ap (λ f. take f.before trees) is ∙ take-length trees in
-    let none : drop frame.before trees ≡ [] = ap (λ f. drop f.before trees) is ∙ drop-length trees in
-    let here : frame.lo ≡ position taken = ap (λ f. f.lo) is ∙ e in
+    let all : take n trees ≡ trees = ap (λ n. take n trees) is ∙ take-length trees in
+    let none : drop n trees ≡ [] = ap (λ n. drop n trees) is ∙ drop-length trees in
     record {
-      nested = (omega (arith, ap (λ f. f.before) is), subst (IsNested frames) (sym (ap (λ f. f.before) is)) h.nested);
+      nested = (omega (arith, is), subst (IsNested frames) (sym is) h.nested);
       events =
           ap₂ (λ ts us. unclosed_onto (opened frames ts) (forest (innermost frames ts))
-          (Opens frame.delimiter frame.lo ∷ flat_onto (forest us) [])) all none
-          ∙ (ap (λ f. unclosed_in frames trees (Opens f.delimiter f.lo ∷ [])) is
-          ∙ (unclosed-append (opened frames trees) (forest (innermost frames trees)) [] (Opens d at ∷ [])
-          ∙ ap (λ es. es ++ (Opens d at ∷ [])) h.events));
+          (Opens d lexed.at ∷ flat_onto (forest us) [])) all none
+          ∙ (unclosed-append (opened frames trees) (forest (innermost frames trees)) [] (Opens d lexed.at ∷ [])
+          ∙ ap (λ es. es ++ (Opens d lexed.at ∷ [])) h.events);
       built = (
         subst (λ us. IsBuilt (forest us)) (sym none) tt,
-        omega (arith, here, length-append taken.passed front),
-        subst (λ ts. IsBuiltIn frame.lo frames ts) (sym all)
-            (subst (λ n. IsBuiltIn n frames trees) (sym here) h.built),
+        omega (arith, to.at, length-append taken.passed to.is.found.front),
+        subst (λ ts. IsBuiltIn lexed.at frames ts) (sym all)
+            (subst (λ n. IsBuiltIn n frames trees) (sym to.at) h.built),
       );
     }
 
 -- a closer
-pub parses_close : (old new : Parser) (frame : Frame) (outer : List Frame) (taken : Taken Frame) (front : List ℕ)
-    (d : Delimiter) (at : ℕ)
-    → new.trees.items ≡ with_closed d frame old.trees.items (at + 1) → frame.delimiter ≡ d
-    → at ≡ position taken → taken.opened ≡ frame ∷ outer → Parses old taken
-    → Parses new (past taken front outer (Closes d (at + 1) ∷ []))
-parses_close old new frame outer taken front d at more same e was h =
+pub parses_close : (old new : Parser) (frame : Frame) (lexed : Lexed) (d : Delimiter) (span : Extent)
+    → span ≡ record { lo = frame.lo; hi = lexed.at + 1 }
+    → new.trees.items ≡ take frame.before old.trees.items
+    ++ Group (record { delimiter = d; stream = forest (drop frame.before old.trees.items); span = span }) ∷ []
+    → HasClosed (λ (frame : Frame). (frame.delimiter, frame.lo)) Parses old new lexed d frame
+parses_close old new frame lexed d span is grown = λ can.
+    let more : new.trees.items ≡ with_closed d frame old.trees.items (lexed.at + 1) =
+    grown ∙ ap (λ s. take frame.before old.trees.items
+    ++ Group (record { delimiter = d; stream = forest (drop frame.before old.trees.items); span = s }) ∷ []) is in
+    let taken = can.to.before in
+    let outer = can.outer in
+    let front = can.to.is.found.front in
+    let at = lexed.at in
+    let e = can.to.at in
+    let was = can.innermost in
+    let h = can.to.takes in
     let trees = old.trees.items in
     let hi = at + 1 in
     let nested : IsNested (frame ∷ outer) (length trees) = subst (λ fs. IsNested fs (length trees)) was h.nested in
@@ -143,8 +149,6 @@ parses_close old new frame outer taken front d at more same e was h =
     subst (λ fs. unclosed_in fs trees [] ≡ taken.events) was h.events in
     let before = take frame.before trees in
     let after : ℕ = taken.base + length (taken.passed ++ front) in
-    let within : frame.lo ≤ after = omega (arith, built.1, e, length-append taken.passed front) in
-    let within-hi : frame.lo ≤ hi = omega (arith, built.1) in
     record {
       nested = nested_more outer frame.before (length new.trees.items)
           (omega (
@@ -154,12 +158,11 @@ parses_close old new frame outer taken front d at more same e was h =
             length-take-le frame.before trees nested.0,
           )) nested.1;
       events = ap (λ ts. unclosed_in outer ts []) more
-          ∙ (unclosed-close outer frame trees d hi [] nested same
+          ∙ (unclosed-close outer frame trees d hi [] nested can.fits
           ∙ (unclosed-append (opened (frame ∷ outer) trees) (forest (innermost (frame ∷ outer) trees)) []
           (Closes d hi ∷ [])
           ∙ ap (λ es. es ++ (Closes d hi ∷ [])) events));
       built = subst (IsBuiltIn after outer) (sym more)
-          (built_push after outer before (closed d frame trees hi) (nested_before frame outer trees nested)
-          (built_later (opened outer before) (forest (innermost outer before)) frame.lo after within built.2)
-          (within-hi, built.0, tt));
+          (built_close at hi after outer frame trees d (omega arith)
+          (omega (arith, e, length-append taken.passed front)) nested built);
     }

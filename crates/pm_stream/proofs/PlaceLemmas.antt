@@ -2,14 +2,13 @@
 use Rattle.std.proofs.Common.{◌≡◌, ℕ, ◌+◌, ◌-◌, ◌<◌, ◌≤◌, Bool, true, false, cond, not, List, [], ◌∷◌, ◌++◌}
 use Rattle.std.proofs.Common.{length, take, map, reverse, refl, sym, ap, ap₂, ◌∙◌, subst, arith, append_assoc}
 use Rattle.std.proofs.Common.{◌==◌, eqb-true, true≢false}
-use Rattle.std.proofs.Common.{append-nil, length-append, Result, Ok, Err, IfOk, inl, inr, ◌⊎◌}
+use Rattle.std.proofs.Common.{append-nil, length-append}
 use Rattle.std.proofs.Math.ListN.{set}
 use Rattle.std.proofs.Math.Seq.{set-append_seam, take-append_seam}
 use Rattle.std.proofs.lemmas.List.{map-append, reverse-append}
 use Rattle.std.proofs.lemmas.List.Sums.{sum_by-append, sum_by-cons, take_while-cons}
 use Rattle.std.specs.Prelude.{count_by, take_while}
 use Rattle.std.specs.Str.{chars, IsUtf8, IsCharBoundary, encode_utf8_all}
-use Rattle.lexical.specs.Piece.{IsPiece}
 use Rattle.lexical.specs.Class.{is_ident_continue}
 use Rattle.lexical.specs.Identifier.{Identifier}
 use Rattle.lexical.specs.Mark.{is_mark}
@@ -18,10 +17,10 @@ use Rattle.lexical.proofs.ClassLemmas.{ident_continue_ascii}
 use Rattle.lexical.proofs.PieceFacts.{stands_mark, start_continues}
 use Rattle.grammar_laws.proofs.NameLemmas.{identifier_alone}
 use Rattle.pm_span.specs.Line.{is_one_line}
-use Rattle.lexical.specs.Found.{IsPieceAt, kind_of}
+use Rattle.lexical.specs.Found.{kind_of}
 use Rattle.lexical.specs.WhiteRun.{IsPastWhite}
 use Rattle.lexical.specs.Token.{raw_front}
-use Rattle.lexical.specs.declared.piece.Piece.{Piece as Found}
+use Rattle.lexical.specs.declared.piece.PieceKind.{PieceKind}
 use Rattle.lexical.proofs.TextLemmas.{all_pass, encode_all_ascii}
 use Rattle.lexical.specs.Ascii.{all_ascii}
 use Rattle.lexical.specs.WhiteRun.{ascii_white}
@@ -31,27 +30,27 @@ use Rattle.std.proofs.lemmas.List.Folds.{list_all-append}
 use Rattle.pm_span.specs.CharOffset.{byte_offset, is_line_feed}
 use Rattle.pm_span.proofs.SeamLemmas.{boundary_at, front_at}
 use Rattle.pm_token.specs.declared.delimiters.Delimiter.{Delimiter}
-use Rattle.pm_token.specs.declared.delimiters.Delimiter.TheVariants.{Parenthesis, Brace, Bracket, None}
-use Rattle.pm_token.specs.declared.errors.ParseError.{ParseError}
+use Rattle.pm_token.specs.declared.delimiters.Delimiter.TheVariants.{None}
 use Rattle.pm_stream.specs.Delimited.{opening, closing}
-use Rattle.pm_stream.specs.Events.{Event, Opens, Closes}
+use Rattle.pm_stream.specs.Events.{Opens, Closes, events_onto}
 use Rattle.pm_stream.specs.Forest.{Forest, nil, group, flat_onto, flattening, joined}
 use Rattle.pm_stream.specs.InOrder.{in_order}
-use Rattle.pm_stream.specs.Parsing.{ParsesTo, HasNoFault}
+use Rattle.pm_stream.specs.Parsing.{ParsesTo}
 use Rattle.pm_stream.specs.OpenGroups.{Opened, unclosed_onto}
 use Rattle.pm_stream.specs.Places.{ArePlaced, listed, moved_past, next_place, place_of, placed}
-use Rattle.pm_stream.specs.PlacerState.{Places, doc_group_places, doc_places, listed_open, open_groups, opener, origin}
+use Rattle.pm_stream.specs.PlacerState.{Places, doc_places, listed_open, open_groups, opener, origin}
 use Rattle.pm_stream.specs.Reading.{ReadsAll}
-use Rattle.pm_stream.specs.Taken.{IsAt, Taken, nothing, past, position}
+use Rattle.pm_stream.specs.Taken.{HasTaken, IsLexed, IsTakenTo, Taken, nothing, past, position}
 use Rattle.pm_stream.specs.declared.placing.OpenGroup.{OpenGroup}
 use Rattle.pm_stream.specs.declared.placing.Place.{Place}
 use Rattle.pm_stream.specs.declared.placing.PlacedTree.{PlacedTree}
 use Rattle.pm_stream.specs.declared.placing.Placer.{Placer}
 use Rattle.pm_stream.specs.declared.placing.TreeKind.TheVariants as kinds
-use Rattle.pm_stream.proofs.DocLemmas.{doc_trees}
+use Rattle.pm_stream.specs.declared.reading.Lexed.{Lexed}
 use Rattle.pm_stream.proofs.EventLemmas.{unclosed-append, unclosed-joined}
 use Rattle.pm_stream.proofs.InOrderLemmas.{in_order-append, in_order-joined}
-use Rattle.pm_stream.proofs.LawLemmas.{parses_or_not}
+use Rattle.pm_stream.proofs.PieceLemmas.{stands_as}
+use Rattle.pm_stream.proofs.ReadingLemmas.{IsToken, token_events, token_trees}
 
 -- ---- lines and columns
 
@@ -158,40 +157,30 @@ one_line_name raw name rest text h e =
     ap is_one_line e ∙ (list_all-append _ (raw_front raw) name ∙ and_from _ _ front whole)
 
 -- the end of a piece on one line
-moves_along : (start : Place) (front : List ℕ) (count : ℕ) → count ≡ length front → is_one_line front ≡ true
+pub moves_along : (start : Place) (front : List ℕ) (count : ℕ) → count ≡ length front → is_one_line front ≡ true
     → record { line = start.line; column = start.column + count } ≡ moved_past start front
 moves_along start front count size h =
     ap (λ n. record { line = start.line; column = start.column + n }) size ∙ one_line_moves start front h
 
-pub mark_moves : (first : Bool) (text : List ℕ) (start : Place) (piece : Found) (joint : Bool) (mark : ℕ)
-    → (found : IsPieceAt first text piece) → piece.kind ≡ pieces.Mark joint mark
-    → record { line = start.line; column = start.column + piece.chars } ≡ moved_past start found.front
-mark_moves first text start piece joint mark found e =
-    let stands = subst (λ k. IsPiece first (kind_of k found.front) found.front found.rest) e found.stands in
-    moves_along start found.front piece.chars found.chars
-    (one_character is_mark refl mark found.front stands.0 (stands_mark mark joint found.rest stands.1))
+pub mark_line : {lexed : Lexed} (is : IsLexed lexed) (joint : Bool) (mark : ℕ)
+    → lexed.piece.kind ≡ pieces.Mark joint mark → is_one_line is.found.front ≡ true
+mark_line is joint mark e =
+    let stands = stands_as is (pieces.Mark joint mark) e in
+    one_character is_mark refl mark is.found.front stands.0 (stands_mark mark joint is.found.rest stands.1)
 
-pub name_moves : (first : Bool) (text : List ℕ) (start : Place) (piece : Found) (raw : Bool) (name : _)
-    → (found : IsPieceAt first text piece) → piece.kind ≡ pieces.Name raw name
-    → record { line = start.line; column = start.column + piece.chars } ≡ moved_past start found.front
-name_moves first text start piece raw name found e =
-    let stands = subst (λ k. IsPiece first (kind_of k found.front) found.front found.rest) e found.stands in
-    moves_along start found.front piece.chars found.chars
-    (one_line_name raw (chars name.now) found.rest found.front stands.1 stands.0)
+pub name_line : {lexed : Lexed} (is : IsLexed lexed) (raw : Bool) (name : _) → lexed.piece.kind ≡ pieces.Name raw name
+    → is_one_line is.found.front ≡ true
+name_line is raw name e =
+    let stands = stands_as is (pieces.Name raw name) e in
+    one_line_name raw (chars name.now) is.found.rest is.found.front stands.1 stands.0
 
-pub opening_moves : (d : Delimiter) (start : Place) → length (opening d) ≡ 1
-    → record { line = start.line; column = start.column + 1 } ≡ moved_past start (opening d)
-opening_moves Parenthesis start one = refl
-opening_moves Brace start one = refl
-opening_moves Bracket start one = refl
-opening_moves None start one = absurd (omega (arith, one))
+pub opening_line : (d : Delimiter) (front : List ℕ) → front ≡ opening d → is_one_line front ≡ true
+opening_line None front e = ap is_one_line e
+opening_line _ front e = ap is_one_line e
 
-pub closing_moves : (d : Delimiter) (start : Place) → length (closing d) ≡ 1
-    → record { line = start.line; column = start.column + 1 } ≡ moved_past start (closing d)
-closing_moves Parenthesis start one = refl
-closing_moves Brace start one = refl
-closing_moves Bracket start one = refl
-closing_moves None start one = absurd (omega (arith, one))
+pub closing_line : (d : Delimiter) (front : List ℕ) → front ≡ closing d → is_one_line front ≡ true
+closing_line None front e = ap is_one_line e
+closing_line _ front e = ap is_one_line e
 
 -- ---- lists of trees
 
@@ -238,9 +227,9 @@ frame_of place x groups = record {
 -- ---- one step more
 
 -- there is room for the lines and columns of what follows
-pub placed_room : (placer : Placer) (taken : Taken OpenGroup) → Places placer taken
+pub placed_room : {placer : Placer} {taken : Taken OpenGroup} → Places placer taken
     → (placer.here.line ≤ position taken) × (placer.here.column ≤ position taken)
-placed_room placer taken h =
+placed_room {placer} {taken} h =
     let within = moved_past-within origin taken.passed in (
       omega (arith, within.0, ap (λ p. p.line) h.here, h.begins),
       omega (arith, within.1, ap (λ p. p.column) h.here, h.begins),
@@ -263,104 +252,158 @@ within_of place items x outer opened (y ∷ groups) trees was around lists =
       length-append before (opener place y.lo ∷ listed place trees),
     )
 
-pub placed_within : (placer : Placer) (taken : Taken OpenGroup) (x : OpenGroup) (outer : List OpenGroup)
+pub placed_within : {placer : Placer} {taken : Taken OpenGroup} (x : OpenGroup) (outer : List OpenGroup)
     → taken.opened ≡ x ∷ outer → Places placer taken → x.index < length placer.trees.items
-placed_within placer taken x outer was h =
+placed_within {placer} {taken} x outer was h =
     within_of (place_of taken.base taken.source) placer.trees.items x outer taken.opened h.groups h.trees was h.around
     h.lists
 
-module _ (old new : Placer) (before : Taken OpenGroup) (text front rest : List ℕ) (at : ℕ) (h : Places old before)
-    (e : IsAt before at text) (whole : text ≡ front ++ rest) (moved : new.here ≡ moved_past old.here front) where
+-- what the trees of a piece of this kind are placed as
+abbrev kind_places : PieceKind → Place → Place → List PlacedTree
+kind_places (pieces.Doc inner said) start end = doc_places inner start end
+kind_places pieces.Literal start end = record { start = start; end = end; kind = kinds.Literal } ∷ []
+kind_places (pieces.Mark joint mark) start end = record { start = start; end = end; kind = kinds.Punct } ∷ []
+kind_places (pieces.Name raw name) start end = record { start = start; end = end; kind = kinds.Ident } ∷ []
+kind_places _ start end = []
+
+kind_listed : (kind : PieceKind) (place : ℕ → Place) (lo hi : ℕ) (text : List ℕ)
+    → kind_places kind (place lo) (place hi) ≡ listed place (token_trees kind lo hi text)
+kind_listed (pieces.Doc true said) place lo hi text = refl
+kind_listed (pieces.Doc false said) place lo hi text = refl
+kind_listed _ place lo hi text = refl
+
+now_here : (old new origin : Place) (passed front : List ℕ) → new ≡ moved_past old front
+    → old ≡ moved_past origin passed → new ≡ moved_past origin (passed ++ front)
+now_here old new origin passed front moved here =
+    moved ∙ (ap (λ p. moved_past p front) here ∙ sym (moved_past-append origin passed front))
+
+-- what was passed has no trees
+pub placed_gap : {old new : Placer} {before : Taken OpenGroup} (h : Places old before) (front : List ℕ)
+    → new.here ≡ moved_past old.here front → new.trees.items ≡ old.trees.items
+    → Places new (past before front before.opened [])
+placed_gap {old} {new} {before} h front moved same = record {
+  begins = h.begins;
+  groups = h.groups;
+  trees = h.trees;
+  same = h.same ∙ sym (append-nil before.events);
+  here = now_here old.here new.here origin before.passed front moved h.here;
+  around = h.around;
+  lists = same ∙ h.lists;
+}
+
+module _ {old : Placer} {lexed : Lexed} (to : IsTakenTo Places old lexed) where
+  abbrev before : Taken OpenGroup
+  before = to.before
+
+  abbrev front : List ℕ
+  front = to.is.found.front
+
+  abbrev h : Places old before
+  h = to.takes
+
   abbrev place : ℕ → Place
   place = place_of before.base before.source
 
   abbrev after : ℕ
-  after = at + length front
+  after = lexed.at + length front
 
-  now_here : new.here ≡ moved_past origin (before.passed ++ front)
-  now_here = moved ∙ (ap (λ p. moved_past p front) h.here ∙ sym (moved_past-append origin before.passed front))
+  start_is : old.here ≡ place lexed.at
+  start_is = place_is before.base lexed.at before.source before.passed (chars lexed.text.now) old.here to.source to.at
+      h.here
 
-  start_is : old.here ≡ place at
-  start_is = place_is before.base at before.source before.passed text old.here e.1 e.0 h.here
+  end_is : (end : Place) → end ≡ moved_past old.here front → end ≡ place after
+  end_is end moved = place_is before.base after before.source (before.passed ++ front) to.is.found.rest end
+      (to.source ∙ (ap (λ t. before.passed ++ t) to.is.found.whole
+      ∙ sym (append_assoc before.passed front to.is.found.rest)))
+      (omega (arith, to.at, length-append before.passed front))
+      (now_here old.here end origin before.passed front moved h.here)
 
-  end_is : new.here ≡ place after
-  end_is = place_is before.base after before.source (before.passed ++ front) rest new.here
-      (e.1 ∙ (ap (λ t. before.passed ++ t) whole ∙ sym (append_assoc before.passed front rest)))
-      (omega (arith, e.0, length-append before.passed front)) now_here
+  module _ {new : Placer} (moved : new.here ≡ moved_past old.here front) where
+    token_placed : (kind : PieceKind) → IsToken kind
+        → new.trees.items ≡ old.trees.items ++ kind_places kind old.here new.here
+        → Places new (past before front before.opened (events_onto lexed.at (kind_of kind front) front []))
+    token_placed kind is grown =
+        let f = token_trees kind lexed.at after front in
+        record {
+          begins = h.begins;
+          groups = h.groups;
+          trees = joined h.trees f;
+          same = unclosed-joined h.groups h.trees f []
+              ∙ (unclosed-append h.groups h.trees [] (flattening f)
+              ∙ ap₂ (λ xs ys. xs ++ ys) h.same (token_events kind lexed.at front is));
+          here = now_here old.here new.here origin before.passed front moved h.here;
+          around = h.around;
+          lists = grown ∙ (ap₂ (λ xs ys. xs ++ ys) h.lists
+              (ap₂ (kind_places kind) start_is (end_is new.here moved) ∙ kind_listed kind place lexed.at after front)
+              ∙ sym (listed_open-joined place h.groups h.trees f));
+        }
 
-  -- trees of which these are the events; none, where what was passed is a gap
-  pub placed_trees : (added : List PlacedTree) (f : Forest) (es : List Event) → es ≡ flattening f
-      → new.trees.items ≡ old.trees.items ++ added
-      → ((place : ℕ → Place) → old.here ≡ place at → new.here ≡ place after → added ≡ listed place f)
-      → Places new (past before front before.opened es)
-  placed_trees added f es is grown places = record {
-    begins = h.begins;
-    groups = h.groups;
-    trees = joined h.trees f;
-    same = unclosed-joined h.groups h.trees f []
-        ∙ (unclosed-append h.groups h.trees [] (flattening f)
-        ∙ ap₂ (λ xs ys. xs ++ ys) h.same (sym is));
-    here = now_here;
-    around = h.around;
-    lists = grown ∙ (ap₂ (λ xs ys. xs ++ ys) h.lists (places place start_is end_is)
-        ∙ sym (listed_open-joined place h.groups h.trees f));
-  }
+    pub placed_open : (d : Delimiter) (index : ℕ) → index ≡ length old.trees.items
+        → new.trees.items ≡ old.trees.items ++ (record { start = old.here; end = old.here; kind = kinds.Group } ∷ [])
+        → Places new (past before front
+        (record { delimiter = d; lo = lexed.at; start = old.here; index = index } ∷ before.opened)
+        (Opens d lexed.at ∷ []))
+    placed_open d index is grown =
+        let frame : Place → ℕ → OpenGroup = λ s n. record { delimiter = d; lo = lexed.at; start = s; index = n } in
+        record {
+          begins = h.begins;
+          groups = record { outer = h.trees; delimiter = d; lo = lexed.at } ∷ h.groups;
+          trees = nil;
+          same = unclosed-append h.groups h.trees [] (Opens d lexed.at ∷ [])
+              ∙ ap (λ es. es ++ (Opens d lexed.at ∷ [])) h.same;
+          here = now_here old.here new.here origin before.passed front moved h.here;
+          around = ap₂ (λ y ys. y ∷ ys) (ap₂ frame start_is (is ∙ ap length h.lists)) h.around;
+          lists = grown ∙ ap₂ (λ xs s. xs ++ (record { start = s; end = s; kind = kinds.Group } ∷ [])) h.lists start_is;
+        }
 
-  pub placed_open : (d : Delimiter) (x : OpenGroup)
-      → x ≡ record { delimiter = d; lo = at; start = old.here; index = length old.trees.items }
-      → new.trees.items ≡ old.trees.items ++ (record { start = old.here; end = old.here; kind = kinds.Group } ∷ [])
-      → Places new (past before front (x ∷ before.opened) (Opens d at ∷ []))
-  placed_open d x is grown =
-      let frame : Place → ℕ → OpenGroup = λ s n. record { delimiter = d; lo = at; start = s; index = n } in
-      record {
-        begins = h.begins;
-        groups = record { outer = h.trees; delimiter = d; lo = at } ∷ h.groups;
-        trees = nil;
-        same = unclosed-append h.groups h.trees [] (Opens d at ∷ []) ∙ ap (λ es. es ++ (Opens d at ∷ [])) h.same;
-        here = now_here;
-        around = ap₂ (λ y ys. y ∷ ys) (is ∙ ap₂ frame start_is (ap length h.lists)) h.around;
-        lists = grown ∙ ap₂ (λ xs s. xs ++ (record { start = s; end = s; kind = kinds.Group } ∷ [])) h.lists start_is;
-      }
+    close_of : (d : Delimiter) (x : OpenGroup) (outer : List OpenGroup) (groups : List Opened) (trees : Forest)
+        → before.opened ≡ x ∷ outer → x.delimiter ≡ d
+        → new.trees.items ≡ set old.trees.items x.index (record { start = x.start; end = new.here; kind = kinds.Group })
+        → unclosed_onto groups trees [] ≡ before.events → before.opened ≡ open_groups place groups
+        → old.trees.items ≡ listed_open place groups trees
+        → Places new (past before front outer (Closes d after ∷ []))
+    close_of d x outer [] trees was fits grown same around lists =
+        let clash : x ∷ outer ≡ [] = sym was ∙ around in cc
+    close_of d x outer (y ∷ groups) trees was fits grown same around lists =
+        let split : x ∷ outer ≡ open_groups place (y ∷ groups) = sym was ∙ around in
+        let head : x ≡ frame_of place y groups = cc in
+        let back : outer ≡ open_groups place groups = cc in
+        let agree : y.delimiter ≡ d = ap (λ o. o.delimiter) (sym head) ∙ fits in
+        let first = listed_open place groups y.outer in
+        let tree : PlacedTree = record { start = place y.lo; end = place after; kind = kinds.Group } in
+        let made : record { start = x.start; end = new.here; kind = kinds.Group } ≡ tree =
+        ap₂ (λ s e. record { start = s; end = e; kind = kinds.Group }) (ap (λ o. o.start) head)
+        (end_is new.here moved) in
+        record {
+          begins = h.begins;
+          groups = groups;
+          trees = joined y.outer (group d y.lo after trees nil);
+          same = unclosed-joined groups y.outer (group d y.lo after trees nil) []
+              ∙ (ap (λ b. unclosed_onto groups y.outer (Opens b y.lo ∷ flat_onto trees (Closes d after ∷ [])))
+              (sym agree)
+              ∙ (unclosed-append (y ∷ groups) trees [] (Closes d after ∷ [])
+              ∙ ap (λ es. es ++ (Closes d after ∷ [])) same));
+          here = now_here old.here new.here origin before.passed front moved h.here;
+          around = back;
+          lists = grown ∙ (ap₂ (λ n t. set old.trees.items n t) (ap (λ o. o.index) head) made
+              ∙ (ap (λ xs. set xs (length first) tree) lists
+              ∙ (set-append_seam first (opener place y.lo) (listed place trees) tree
+              ∙ sym (listed_open-joined place groups y.outer (group d y.lo after trees nil)))));
+        }
 
-  close_of : (d : Delimiter) (x : OpenGroup) (outer : List OpenGroup) (groups : List Opened) (trees : Forest)
-      → before.opened ≡ x ∷ outer → x.delimiter ≡ d
-      → new.trees.items ≡ set old.trees.items x.index (record { start = x.start; end = new.here; kind = kinds.Group })
-      → unclosed_onto groups trees [] ≡ before.events → before.opened ≡ open_groups place groups
-      → old.trees.items ≡ listed_open place groups trees
-      → Places new (past before front outer (Closes d after ∷ []))
-  close_of d x outer [] trees was fits grown same around lists =
-      let clash : x ∷ outer ≡ [] = sym was ∙ around in cc
-  close_of d x outer (y ∷ groups) trees was fits grown same around lists =
-      let split : x ∷ outer ≡ open_groups place (y ∷ groups) = sym was ∙ around in
-      let head : x ≡ frame_of place y groups = cc in
-      let back : outer ≡ open_groups place groups = cc in
-      let agree : y.delimiter ≡ d = ap (λ o. o.delimiter) (sym head) ∙ fits in
-      let first = listed_open place groups y.outer in
-      let tree : PlacedTree = record { start = place y.lo; end = place after; kind = kinds.Group } in
-      let made : record { start = x.start; end = new.here; kind = kinds.Group } ≡ tree =
-      ap₂ (λ s e. record { start = s; end = e; kind = kinds.Group }) (ap (λ o. o.start) head) end_is in
-      record {
-        begins = h.begins;
-        groups = groups;
-        trees = joined y.outer (group d y.lo after trees nil);
-        same = unclosed-joined groups y.outer (group d y.lo after trees nil) []
-            ∙ (ap (λ b. unclosed_onto groups y.outer (Opens b y.lo ∷ flat_onto trees (Closes d after ∷ []))) (sym agree)
-            ∙ (unclosed-append (y ∷ groups) trees [] (Closes d after ∷ [])
-            ∙ ap (λ es. es ++ (Closes d after ∷ [])) same));
-        here = now_here;
-        around = back;
-        lists = grown ∙ (ap₂ (λ n t. set old.trees.items n t) (ap (λ o. o.index) head) made
-            ∙ (ap (λ xs. set xs (length first) tree) lists
-            ∙ (set-append_seam first (opener place y.lo) (listed place trees) tree
-            ∙ sym (listed_open-joined place groups y.outer (group d y.lo after trees nil)))));
-      }
+    pub placed_close : (d : Delimiter) (x : OpenGroup) (outer : List OpenGroup) → before.opened ≡ x ∷ outer
+        → x.delimiter ≡ d → length front ≡ 1
+        → new.trees.items ≡ set old.trees.items x.index (record { start = x.start; end = new.here; kind = kinds.Group })
+        → Places new (past before front outer (Closes d (lexed.at + 1) ∷ []))
+    placed_close d x outer was fits one grown =
+        subst (λ n. Places new (past before front outer (Closes d (lexed.at + n) ∷ []))) one
+        (close_of d x outer h.groups h.trees was fits grown h.same h.around h.lists)
 
-  pub placed_close : (d : Delimiter) (x : OpenGroup) (outer : List OpenGroup) → before.opened ≡ x ∷ outer
-      → x.delimiter ≡ d
-      → new.trees.items ≡ set old.trees.items x.index (record { start = x.start; end = new.here; kind = kinds.Group })
-      → Places new (past before front outer (Closes d after ∷ []))
-  placed_close d x outer was fits grown =
-      close_of d x outer h.groups h.trees was fits grown h.same h.around h.lists
+-- the trees of the piece were placed
+pub placed_token : {old new : Placer} (lexed : Lexed) (kind : PieceKind) → IsToken kind
+    → ((is : IsLexed lexed) → new.here ≡ moved_past old.here is.found.front)
+    → new.trees.items ≡ old.trees.items ++ kind_places kind old.here new.here → HasTaken Places old new lexed kind
+placed_token lexed kind is moved grown = λ to. token_placed to (moved to.is) kind is grown
 
 -- ---- all trees
 
@@ -394,60 +437,28 @@ placed_all base source placer h =
     all_of base source placer.trees.items h.takes.groups h.takes.trees h.stream h.parses h.takes.same h.takes.around
     h.takes.lists
 
--- ---- a doc comment
-
-pub doc_listed : (place : ℕ → Place) (lo hi : ℕ) (inner : Bool) (text : List ℕ)
-    → listed place (doc_trees lo hi inner text) ≡ doc_places inner (place lo) (place hi)
-doc_listed place lo hi true text = refl
-doc_listed place lo hi false text = refl
-
--- its tokens were placed, one after another
-pub doc_grown : (inner : Bool) (start end : Place) (old one mid two three four five : List PlacedTree)
-    → one ≡ old ++ (record { start = start; end = end; kind = kinds.Punct } ∷ [])
-    → ((inner ≡ true) × (mid ≡ one ++ (record { start = start; end = end; kind = kinds.Punct } ∷ [])))
-    ⊎ ((inner ≡ false) × (mid ≡ one))
-    → two ≡ mid ++ (record { start = start; end = end; kind = kinds.Group } ∷ [])
-    → three ≡ two ++ (record { start = start; end = end; kind = kinds.Ident } ∷ [])
-    → four ≡ three ++ (record { start = start; end = end; kind = kinds.Punct } ∷ [])
-    → five ≡ four ++ (record { start = start; end = end; kind = kinds.Literal } ∷ [])
-    → five ≡ old ++ doc_places inner start end
-doc_grown inner start end old one mid two three four five a b c d e f =
-    let all : five ≡ mid ++ doc_group_places start end
-    = f ∙ (ap (λ x. x ++ (record { start = start; end = end; kind = kinds.Literal } ∷ []))
-    (e ∙ ap (λ x. x ++ (record { start = start; end = end; kind = kinds.Punct } ∷ []))
-    (d ∙ ap (λ x. x ++ (record { start = start; end = end; kind = kinds.Ident } ∷ [])) c))
-    ∙ simp append_assoc refl) in
-    elim b [
-      | inl inward ↦ all ∙ (ap (λ x. x ++ doc_group_places start end)
-          (inward.1 ∙ ap (λ x. x ++ (record { start = start; end = end; kind = kinds.Punct } ∷ [])) a)
-          ∙ (simp append_assoc refl ∙ ap (λ i. old ++ doc_places i start end) (sym inward.0)))
-      | inr outward ↦ all ∙ (ap (λ x. x ++ doc_group_places start end) (outward.1 ∙ a)
-          ∙ (simp append_assoc refl ∙ ap (λ i. old ++ doc_places i start end) (sym outward.0)))
-    ]
-
--- ---- what is around it
-
--- a text whose trees were placed has no fault
-pub placed_faultless : {A : Type 0} (items : A → List PlacedTree) (base begin : ℕ) (source : List ℕ)
-    (result : Result A ParseError) → base ≡ begin
-    → IfOk result (λ out. ArePlaced base source (items out)) → IfOk result (λ out. HasNoFault begin source)
-placed_faultless items base begin source (Ok out) e h = λ position.
-    parses_or_not begin source h.stream position (subst (λ n. ParsesTo n source h.stream) e h.parses)
-placed_faultless items base begin source (Err error) e h = tt
+-- ---- white characters
 
 white_ascii : (cs : List ℕ) → list_all ascii_white cs ≡ true → all_ascii cs ≡ true
 white_ascii = all_pass _ _ (λ c is. (and_parts _ _ is).0)
 
 -- the white characters that are passed over, by bytes
-pub white_cut : (tail rest : List ℕ) (count : ℕ) → IsUtf8 tail → (white : IsPastWhite (chars tail) rest count)
-    → IsCharBoundary tail count × (chars (take count tail) ≡ white.front)
-white_cut tail rest count utf8 white =
-    let cut : take count (chars tail) ≡ white.front =
-    ap₂ take white.chars white.whole ∙ take-append_seam white.front rest in
-    let bytes : encode_utf8_all white.front ≡ white.front =
-    encode_all_ascii white.front (white_ascii white.front white.stands.each) in
-    let size : byte_offset (chars tail) count ≡ count =
-    ap length (ap encode_utf8_all cut ∙ bytes) ∙ sym white.chars in (
-      subst (IsCharBoundary tail) size (boundary_at tail count utf8),
-      ap (λ n. chars (take n tail)) (sym size) ∙ (front_at tail count utf8 ∙ cut),
-    )
+module _ (tail rest : List ℕ) (count : ℕ) where
+  white_cut : (white : IsPastWhite (chars tail) rest count)
+      → (take count (chars tail) ≡ white.front) × (byte_offset (chars tail) count ≡ count)
+  white_cut white =
+      let cut : take count (chars tail) ≡ white.front =
+      ap₂ take white.chars white.whole ∙ take-append_seam white.front rest in
+      let bytes : encode_utf8_all white.front ≡ white.front =
+      encode_all_ascii white.front (white_ascii white.front white.stands.each) in
+      (cut, ap length (ap encode_utf8_all cut ∙ bytes) ∙ sym white.chars)
+
+  pub white_boundary : IsUtf8 tail → IsPastWhite (chars tail) rest count → IsCharBoundary tail count
+  white_boundary utf8 white = subst (IsCharBoundary tail) (white_cut white).1 (boundary_at tail count utf8)
+
+  pub white_text : (bytes : List ℕ) → IsUtf8 tail → (white : IsPastWhite (chars tail) rest count)
+      → bytes ≡ take (count - 0) tail → chars bytes ≡ white.front
+  white_text bytes utf8 white e =
+      let all : count - 0 ≡ count = omega arith in
+      let cut = white_cut white in
+      ap chars (e ∙ ap (λ n. take n tail) (all ∙ sym cut.1)) ∙ (front_at tail count utf8 ∙ cut.0)

@@ -1,6 +1,5 @@
 -- How one list holds the trees of all the open groups. The frames stand with the innermost first.
 use Rattle.std.specs.Prelude.{ℕ, ◌≤◌, List, [], ◌∷◌, take, drop}
-use Rattle.std.specs.Coded.{×_prop, Unit-prop, le_prop}
 use Rattle.pm_stream.specs.Trees.{forest}
 use Rattle.pm_stream.specs.OpenGroups.{Opened}
 use Rattle.pm_stream.specs.declared.parse.Frame.{Frame}
@@ -22,7 +21,3 @@ opened (frame ∷ frames) trees =
 abbrev pub IsNested : List Frame → ℕ → Type 0
 IsNested [] count = Unit {0}
 IsNested (frame ∷ frames) count = (frame.before ≤ count) × IsNested frames frame.before
-
-pub IsNested-prop : (frames : List Frame) (count : ℕ) → IsProp (IsNested frames count)
-IsNested-prop [] count = Unit-prop
-IsNested-prop (frame ∷ frames) count = ×_prop le_prop (IsNested-prop frames frame.before)

@@ -1,12 +1,14 @@
 -- What the loop over pieces has read so far, and all that it reads.
 use Rattle.std.specs.Prelude.{ℕ, Bool, ◌≡◌, ◌+◌, List, [], ◌∷◌, ◌++◌, length, reverse, map}
 use Rattle.lexical.specs.Cover.{CoversUpTo, width}
+use Rattle.lexical.specs.Found.{kind_of}
 use Rattle.lexical.specs.Piece.{Piece}
-use Rattle.pm_stream.specs.Events.{Event, expansion}
+use Rattle.pm_stream.specs.Events.{Event, events_onto, expansion}
 use Rattle.pm_stream.specs.Forest.{Forest, flattening}
 use Rattle.pm_stream.specs.OpenGroups.{Opened, unclosed_onto}
 use Rattle.pm_stream.specs.Parsing.{ParsesTo, is_first}
-use Rattle.pm_stream.specs.Taken.{Taken, Waiting}
+use Rattle.pm_stream.specs.Taken.{IsTakenTo, Taken, Waiting}
+use Rattle.pm_stream.specs.declared.reading.Lexed.{Lexed}
 
 -- what was read has the expansion of pieces up to the rest of the source; `first` says that there are none
 pub record Reads (base : ℕ) (source rest : List ℕ) (at : ℕ) (first : Bool) (groups : List Opened)
@@ -43,14 +45,23 @@ pub record ReadsMore {S T : Type 0} (opens : T → Waiting) (took : S → Taken 
   pub reads : Reading opens took base source passed sink stack groups_now trees_now
   pub grows : unclosed_onto groups_now trees_now [] ≡ unclosed_onto groups trees events
 
--- the step past the front of the text read these events more
-abbrev pub ReadsEvents : {S T : Type 0} → (T → Waiting) → (S → Taken T → Type 0) → ℕ → List ℕ → List ℕ → S → S
-    → List T → List T → List Event → Type 0
-ReadsEvents opens took at text front old new stack stack' events =
-    (base : ℕ) (source passed : List ℕ) (groups : List Opened) (trees : Forest)
-    → Reading opens took base source passed old stack groups trees
-    → (at ≡ base + length passed) × (source ≡ passed ++ text)
-    → ReadsMore opens took base source (passed ++ front) new stack' groups trees events
+-- what stands before the piece was read
+pub record CanRead {S T : Type 0} (opens : T → Waiting) (took : S → Taken T → Type 0) (sink : S) (stack : List T)
+    (lexed : Lexed) : Type 0 where
+  pub to : IsTakenTo took sink lexed
+  pub groups : List Opened
+  pub trees : Forest
+  pub around : map opens (reverse stack) ≡ openers_of groups
+  pub opened : to.before.opened ≡ reverse stack
+  pub events : to.before.events ≡ unclosed_onto groups trees []
+
+-- the step read the events of the piece
+abbrev pub HasRead : {S T : Type 0} → (T → Waiting) → (S → Taken T → Type 0) → S → S → List T → List T → Lexed → Type 0
+HasRead opens took old new stack stack' lexed =
+    (can : CanRead opens took old stack lexed)
+    → ReadsMore opens took can.to.before.base can.to.before.source
+    (can.to.before.passed ++ can.to.is.found.front) new stack' can.groups can.trees
+    (events_onto lexed.at (kind_of lexed.piece.kind can.to.is.found.front) can.to.is.found.front [])
 
 -- what was read up to the rest of the source, and what the sink took of it
 pub record ReadsTo {S T : Type 0} (opens : T → Waiting) (took : S → Taken T → Type 0) (base : ℕ)

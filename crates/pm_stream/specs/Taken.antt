@@ -1,9 +1,14 @@
--- What a sink has taken of a text so far.
-use Rattle.std.specs.Prelude.{ℕ, ◌≡◌, ◌+◌, List, [], ◌++◌, length}
-use Rattle.lexical.specs.Found.{kind_of}
-use Rattle.lexical.specs.declared.piece.Piece.{Piece}
+-- What a sink has taken of a text so far, and what its calls ask for and promise.
+use Rattle.std.specs.Prelude.{ℕ, Bool, ◌≡◌, ◌⊎◌, ◌+◌, ◌<◌, ◌^◌, List, [], ◌∷◌, ◌++◌, length}
+use Rattle.std.specs.Str.{chars, IsUtf8}
+use Rattle.lexical.specs.Found.{IsPieceAt, kind_of}
+use Rattle.lexical.specs.WhiteRun.{IsPastWhite}
+use Rattle.lexical.specs.declared.piece.PieceKind.{PieceKind}
+use Rattle.lexical.specs.declared.piece.PieceKind.TheVariants as kinds
 use Rattle.pm_token.specs.declared.delimiters.Delimiter.{Delimiter}
-use Rattle.pm_stream.specs.Events.{Event, events_onto}
+use Rattle.pm_stream.specs.Delimited.{closing, opening}
+use Rattle.pm_stream.specs.Events.{Closes, Event, Opens, events_onto}
+use Rattle.pm_stream.specs.declared.reading.Lexed.{Lexed}
 
 -- a delimiter and the position of its opener
 abbrev pub Waiting : Type 0
@@ -36,17 +41,76 @@ past taken front opened events = record {
   events = taken.events ++ events;
 }
 
--- it is read up to the position, from which on the source has this text
-abbrev pub IsAt : {T : Type 0} → Taken T → ℕ → List ℕ → Type 0
-IsAt taken at text = (at ≡ position taken) × (taken.source ≡ taken.passed ++ text)
+-- the piece stands at the front of the text, and after it there is room for positions
+pub record IsLexed (lexed : Lexed) : Type 0 where
+  pub first : Bool
+  pub found : IsPieceAt first (chars lexed.text.now) lexed.piece
+  pub utf8 : IsUtf8 lexed.text.now
+  pub room : lexed.at + lexed.piece.chars < 2 ^ 32
 
--- the sink has taken what stands before the position, from which on the source has this text
-abbrev pub IsTakenTo : {S T : Type 0} → (S → Taken T → Type 0) → S → ℕ → List ℕ → Type 0
-IsTakenTo {T = T} took sink at text = (before : Taken T) × took sink before × IsAt before at text
+-- the sink has taken what stands before the piece
+pub record IsTakenTo {S T : Type 0} (took : S → Taken T → Type 0) (sink : S) (lexed : Lexed) : Type 0 where
+  pub is : IsLexed lexed
+  pub before : Taken T
+  pub takes : took sink before
+  pub at : lexed.at ≡ position before
+  pub source : before.source ≡ before.passed ++ chars lexed.text.now
 
--- the step took the piece at the front of the text, which stands at the position
-abbrev pub TakesPiece : {S T : Type 0} → (S → Taken T → Type 0) → S → S → Piece → List ℕ → ℕ → Type 0
-TakesPiece {T = T} took old new piece text at =
-    (before : Taken T) (front rest : List ℕ) → took old before → IsAt before at text → text ≡ front ++ rest
-    → piece.chars ≡ length front
-    → took new (past before front before.opened (events_onto at (kind_of piece.kind front) front []))
+-- the sink has taken what stands before the piece, which is of this kind
+abbrev pub CanTake : {S T : Type 0} → (S → Taken T → Type 0) → S → Lexed → PieceKind → Type 0
+CanTake took sink lexed kind = IsTakenTo took sink lexed × (lexed.piece.kind ≡ kind)
+
+-- the sink has taken what stands before the piece, which is no token
+abbrev pub CanSkip : {S T : Type 0} → (S → Taken T → Type 0) → S → Lexed → Type 0
+CanSkip took sink lexed =
+    IsTakenTo took sink lexed × ((lexed.piece.kind ≡ kinds.FrontMark) ⊎ (lexed.piece.kind ≡ kinds.Gap))
+
+-- the step took the piece as one of this kind
+abbrev pub HasTaken : {S T : Type 0} → (S → Taken T → Type 0) → S → S → Lexed → PieceKind → Type 0
+HasTaken took old new lexed kind =
+    (to : IsTakenTo took old lexed) → took new (past to.before to.is.found.front to.before.opened
+    (events_onto lexed.at (kind_of kind to.is.found.front) to.is.found.front []))
+
+-- the sink has taken what stands before the text, which begins with exactly so many white characters of ASCII
+pub record CanPass {S T : Type 0} (took : S → Taken T → Type 0) (sink : S) (text : List ℕ) (size : ℕ) : Type 0 where
+  pub rest : List ℕ
+  pub white : IsPastWhite text rest size
+  pub before : Taken T
+  pub takes : took sink before
+  pub source : before.source ≡ before.passed ++ text
+  pub room : position before + size < 2 ^ 32
+
+-- the step passed the white characters at the front of the text
+abbrev pub HasPassed : {S T : Type 0} → (S → Taken T → Type 0) → S → S → List ℕ → ℕ → Type 0
+HasPassed took old new text size =
+    (can : CanPass took old text size) → took new (past can.before can.white.front can.before.opened [])
+
+-- the sink has taken what stands before the piece, which is an opener of one character
+pub record CanOpen {S T : Type 0} (took : S → Taken T → Type 0) (sink : S) (lexed : Lexed)
+    (delimiter : Delimiter) : Type 0 where
+  pub to : IsTakenTo took sink lexed
+  pub front : to.is.found.front ≡ opening delimiter
+  pub one : length to.is.found.front ≡ 1
+
+-- the step took the piece as the opener of this group
+abbrev pub HasOpened : {S T : Type 0} → (T → Waiting) → (S → Taken T → Type 0) → S → S → Lexed → Delimiter → T → Type 0
+HasOpened opens took old new lexed delimiter group =
+    (opens group ≡ (delimiter, lexed.at))
+    × ((can : CanOpen took old lexed delimiter) → took new (past can.to.before can.to.is.found.front
+    (group ∷ can.to.before.opened) (Opens delimiter lexed.at ∷ [])))
+
+-- the sink has taken what stands before the piece, which is the closer of the innermost open group, of one character
+pub record CanClose {S T : Type 0} (opens : T → Waiting) (took : S → Taken T → Type 0) (sink : S) (lexed : Lexed)
+    (delimiter : Delimiter) (group : T) : Type 0 where
+  pub to : IsTakenTo took sink lexed
+  pub front : to.is.found.front ≡ closing delimiter
+  pub one : length to.is.found.front ≡ 1
+  pub fits : (opens group).0 ≡ delimiter
+  pub outer : List T
+  pub innermost : to.before.opened ≡ group ∷ outer
+
+-- the step took the piece as the closer of this group
+abbrev pub HasClosed : {S T : Type 0} → (T → Waiting) → (S → Taken T → Type 0) → S → S → Lexed → Delimiter → T → Type 0
+HasClosed opens took old new lexed delimiter group =
+    (can : CanClose opens took old lexed delimiter group) → took new (past can.to.before can.to.is.found.front
+    can.outer (Closes delimiter (lexed.at + 1) ∷ []))

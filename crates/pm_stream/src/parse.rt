@@ -1,5 +1,5 @@
 //! The parser: from the pieces of a text to its token trees.
-ghost use Rattle.std.specs.Prelude.{◌≡◌, ◌+◌, ◌<◌, ◌^◌, ◌↔◌, [], ◌∷◌, length};
+ghost use Rattle.std.specs.Prelude.{◌≡◌, ◌+◌, ◌<◌, ◌≤◌, ◌^◌, ◌↔◌, ◌++◌, [], ◌∷◌, drop, length, take};
 ghost use Rattle.std.specs.Prelude.{OnOk, IfOk, IfErr, IsTrue, if◌then◌else◌};
 ghost use Rattle.std.specs.Str.{chars};
 ghost use Rattle.lexical.specs.Mark.{is_mark};
@@ -15,11 +15,11 @@ ghost use Rattle.pm_stream.specs.HeldSpans.{HoldsAll};
 ghost use Rattle.pm_stream.specs.ParserState.{Adds, Parses};
 ghost use Rattle.pm_stream.specs.Parsing.{ParsesTo, FaultAt, HasNoFault, IsOnlyFault};
 ghost use Rattle.pm_stream.specs.Trees.{alone, forest, GoesInside};
+ghost use Rattle.pm_stream.specs.declared.stream.TokenTree.TheVariants as trees;
 
 use crate::doc::doc_group;
-use crate::reading::{TokenSink, read};
+use crate::reading::{Lexed, TokenSink, read};
 use crate::stream::{Group, TokenStream, TokenTree};
-use lexical::Piece;
 use pm_span::parts::{add_file, allocator, fits, fits_new, span_of};
 use pm_span::{SourceMap, Span};
 use pm_token::parts::{ident, literal, punct};
@@ -145,78 +145,49 @@ impl TokenSink for Parser {
     }
 
     #[inline(always)]
-    fn mark(
-        &mut self,
-        mark: char,
-        joint: bool,
-        piece: Piece<'_>,
-        _text: &str,
-        at: u32,
-    ) -> Result<(), AllocError> {
-        self.push_mark(mark, joint, span_of(at, at + piece.chars as u32))
+    fn mark(&mut self, lexed: Lexed<'_>, joint: bool, mark: char) -> Result<(), AllocError> {
+        self.push_mark(mark, joint, lexed.span())
     }
 
     #[inline(always)]
-    fn name(
-        &mut self,
-        raw: bool,
-        name: &str,
-        piece: Piece<'_>,
-        text: &str,
-        at: u32,
-    ) -> Result<(), AllocError> {
-        // Proofs learn by it that the text is UTF-8.
-        let _ = text;
-        let name = ident(self.alloc, name, raw, span_of(at, at + piece.chars as u32))?;
+    fn name(&mut self, lexed: Lexed<'_>, raw: bool, name: &str) -> Result<(), AllocError> {
+        let name = ident(self.alloc, name, raw, lexed.span())?;
         self.push(TokenTree::Ident(name))
     }
 
     #[inline(always)]
-    fn literal(&mut self, piece: Piece<'_>, text: &str, at: u32) -> Result<(), AllocError> {
-        self.push_literal(&text[..piece.bytes], span_of(at, at + piece.chars as u32))
+    fn literal(&mut self, lexed: Lexed<'_>) -> Result<(), AllocError> {
+        self.push_literal(lexed.own_text(), lexed.span())
     }
 
     #[inline(always)]
-    fn doc(
-        &mut self,
-        inner: bool,
-        said: &str,
-        piece: Piece<'_>,
-        _text: &str,
-        at: u32,
-    ) -> Result<(), AllocError> {
-        self.push_doc(inner, said, span_of(at, at + piece.chars as u32))
+    fn doc(&mut self, lexed: Lexed<'_>, inner: bool, said: &str) -> Result<(), AllocError> {
+        self.push_doc(inner, said, lexed.span())
     }
 
     #[inline(always)]
-    fn gap(&mut self, _piece: Piece<'_>, _text: &str, _at: u32) {}
+    fn gap(&mut self, _lexed: Lexed<'_>) {}
 
     #[inline(always)]
     fn white(&mut self, _text: &str, _size: usize) {}
 
     #[inline(always)]
-    fn open(&mut self, delimiter: Delimiter, _text: &str, at: u32) -> Result<Frame, AllocError> {
-        let before = self.trees.len();
+    fn open(&mut self, lexed: Lexed<'_>, delimiter: Delimiter) -> Result<Frame, AllocError> {
         Ok(Frame {
-            before,
+            before: self.trees.len(),
             delimiter,
-            lo: at,
+            lo: lexed.at,
         })
     }
 
-    #[inline(never)]
+    #[inline(always)]
     fn close(
         &mut self,
-        frame: Frame,
+        lexed: Lexed<'_>,
         delimiter: Delimiter,
-        _text: &str,
-        at: u32,
+        frame: Frame,
     ) -> Result<(), AllocError> {
-        let trees = self.trees.split_off(frame.before)?;
-        let stream = TokenStream::from_vec(self.alloc, trees)?;
-        let group = Group::from_parts(delimiter, stream, span_of(frame.lo, at + 1));
-        self.trees.push(TokenTree::Group(group))?;
-        Ok(())
+        self.push_group(frame.before, delimiter, span_of(frame.lo, lexed.at + 1))
     }
 }
 
@@ -264,6 +235,26 @@ impl Parser {
         }
         let group = doc_group(self.alloc, text, span)?;
         self.push(TokenTree::Group(group))
+    }
+
+    /// Puts a group in the place of the trees from this one on, which become those inside it.
+    #[inline(never)]
+    fn push_group(
+        &mut self,
+        first: usize,
+        delimiter: Delimiter,
+        span: Span,
+    ) -> Result<(), AllocError>
+        requires within { first ≤ length self.old.trees.items }
+        requires built { IsBuilt (forest (drop first self.old.trees.items)) }
+        ensures { OnOk result (self.new.trees.items ≡ take first self.old.trees.items ++ (trees.Group (record
+            { delimiter = delimiter; stream = forest (drop first self.old.trees.items); span = span }) ∷ [])) }
+    {
+        let inside = self.trees.split_off(first)?;
+        let stream = TokenStream::from_vec(self.alloc, inside)?;
+        let group = Group::from_parts(delimiter, stream, span);
+        self.trees.push(TokenTree::Group(group))?;
+        Ok(())
     }
 
     /// The stream of what was read, where no group is open.

@@ -1,17 +1,17 @@
 //! Where each tree of a text stands, with no trees made of it.
-ghost use Rattle.std.specs.Prelude.{◌≡◌, ◌+◌, ◌<◌, ◌≤◌, ◌^◌, ◌↔◌, ◌++◌, ℕ, Bool, List, [], ◌∷◌, length};
+ghost use Rattle.std.specs.Prelude.{◌≡◌, ◌+◌, ◌<◌, ◌≤◌, ◌^◌, ◌↔◌, ◌++◌, [], ◌∷◌, length, true};
 ghost use Rattle.std.specs.Prelude.{OnOk, IfOk, IfErr};
 ghost use Rattle.std.specs.Str.{chars};
-ghost use Rattle.lexical.specs.Found.{IsPieceAt};
 ghost use Rattle.pm_span.specs.Files.{Fits, new_map, next_lo};
+ghost use Rattle.pm_span.specs.Line.{is_one_line};
 ghost use Rattle.pm_token.specs.Outcome.{IfLex};
 ghost use Rattle.pm_stream.specs.Fault.{IsFault};
 ghost use Rattle.pm_stream.specs.Parsing.{FaultAt, HasNoFault, IsOnlyFault};
 ghost use Rattle.pm_stream.specs.Places.{ArePlaced, moved_past};
 ghost use Rattle.pm_stream.specs.PlacerState.{Places, doc_places};
+ghost use Rattle.pm_stream.specs.Taken.{IsLexed, IsTakenTo};
 
-use crate::reading::{TokenSink, read};
-use lexical::Piece;
+use crate::reading::{Lexed, TokenSink, read};
 use pm_span::parts::fits_new;
 use pm_token::{Delimiter, ParseError};
 use std::alloc::{AllocError, Global};
@@ -94,30 +94,6 @@ fn place_trees_at(alloc: Global, base: u32, text: &str) -> Result<Vec<PlacedTree
     Ok(placer.trees)
 }
 
-/// The place so many characters further on in its line.
-#[inline(always)]
-fn along(start: Place, chars: u32) -> Place
-    requires { start.column + chars < 2 ^ 32 }
-    ensures { result ≡ record { line = start.line; column = start.column + chars } }
-{
-    Place {
-        line: start.line,
-        column: start.column + chars,
-    }
-}
-
-/// The place after the piece at the front of the text, which begins at this one.
-#[inline(always)]
-fn end_of(start: Place, piece: Piece, text: &str) -> Place
-    requires stands { (first : Bool) × IsPieceAt first (chars text.now) piece }
-    requires lines { start.line + piece.chars < 2 ^ 32 }
-    requires columns { start.column + piece.chars < 2 ^ 32 }
-    ensures { (front rest : List ℕ) → chars text.now ≡ front ++ rest → piece.entry.chars ≡ length front
-        → result ≡ moved_past start front }
-{
-    past(start, &text[..piece.bytes])
-}
-
 /// The place after a text that begins at this one.
 fn past(start: Place, text: &str) -> Place
     requires lines { start.line + length (chars text.now) < 2 ^ 32 }
@@ -186,49 +162,28 @@ impl TokenSink for Placer {
     }
 
     #[inline(always)]
-    fn mark(
-        &mut self,
-        _mark: char,
-        _joint: bool,
-        piece: Piece<'_>,
-        _text: &str,
-        _at: u32,
-    ) -> Result<(), AllocError> {
-        self.push(along(self.here, piece.chars as u32), TreeKind::Punct)
+    fn mark(&mut self, lexed: Lexed<'_>, _joint: bool, _mark: char) -> Result<(), AllocError> {
+        self.push(self.along(lexed), TreeKind::Punct)
     }
 
     #[inline(always)]
-    fn name(
-        &mut self,
-        _raw: bool,
-        _name: &str,
-        piece: Piece<'_>,
-        _text: &str,
-        _at: u32,
-    ) -> Result<(), AllocError> {
-        self.push(along(self.here, piece.chars as u32), TreeKind::Ident)
+    fn name(&mut self, lexed: Lexed<'_>, _raw: bool, _name: &str) -> Result<(), AllocError> {
+        self.push(self.along(lexed), TreeKind::Ident)
     }
 
     #[inline(always)]
-    fn literal(&mut self, piece: Piece<'_>, text: &str, _at: u32) -> Result<(), AllocError> {
-        self.push(end_of(self.here, piece, text), TreeKind::Literal)
+    fn literal(&mut self, lexed: Lexed<'_>) -> Result<(), AllocError> {
+        self.push(self.past(lexed), TreeKind::Literal)
     }
 
     #[inline(always)]
-    fn doc(
-        &mut self,
-        inner: bool,
-        _said: &str,
-        piece: Piece<'_>,
-        text: &str,
-        _at: u32,
-    ) -> Result<(), AllocError> {
-        self.push_doc(inner, end_of(self.here, piece, text))
+    fn doc(&mut self, lexed: Lexed<'_>, inner: bool, _said: &str) -> Result<(), AllocError> {
+        self.push_doc(inner, self.past(lexed))
     }
 
     #[inline(always)]
-    fn gap(&mut self, piece: Piece<'_>, text: &str, _at: u32) {
-        self.here = end_of(self.here, piece, text);
+    fn gap(&mut self, lexed: Lexed<'_>) {
+        self.here = self.past(lexed);
     }
 
     #[inline(always)]
@@ -237,23 +192,15 @@ impl TokenSink for Placer {
     }
 
     #[inline(always)]
-    fn open(
-        &mut self,
-        delimiter: Delimiter,
-        _text: &str,
-        at: u32,
-    ) -> Result<OpenGroup, AllocError> {
+    fn open(&mut self, lexed: Lexed<'_>, delimiter: Delimiter) -> Result<OpenGroup, AllocError> {
         let start = self.here;
+        let end = self.along(lexed);
         let index = self.trees.len();
-        self.trees.push(PlacedTree {
-            start,
-            end: start,
-            kind: TreeKind::Group,
-        })?;
-        self.here = along(start, 1);
+        self.add(start, TreeKind::Group)?;
+        self.here = end;
         Ok(OpenGroup {
             delimiter,
-            lo: at,
+            lo: lexed.at,
             start,
             index,
         })
@@ -262,12 +209,11 @@ impl TokenSink for Placer {
     #[inline(always)]
     fn close(
         &mut self,
-        group: OpenGroup,
+        lexed: Lexed<'_>,
         _delimiter: Delimiter,
-        _text: &str,
-        _at: u32,
+        group: OpenGroup,
     ) -> Result<(), AllocError> {
-        let end = along(self.here, 1);
+        let end = self.along(lexed);
         self.trees[group.index] = PlacedTree {
             start: group.start,
             end,
@@ -279,11 +225,33 @@ impl TokenSink for Placer {
 }
 
 impl Placer {
+    /// The place after the piece, which is on one line.
+    #[inline(always)]
+    fn along(&self, lexed: Lexed<'_>) -> Place
+        requires { IsTakenTo Places self.now lexed }
+        ensures { (is : IsLexed lexed.entry) → is_one_line is.found.front ≡ true
+            → result ≡ moved_past self.now.here is.found.front }
+    {
+        Place {
+            line: self.here.line,
+            column: self.here.column + lexed.piece.chars as u32,
+        }
+    }
+
+    /// The place after the piece.
+    #[inline(always)]
+    fn past(&self, lexed: Lexed<'_>) -> Place
+        requires { IsTakenTo Places self.now lexed }
+        ensures { (is : IsLexed lexed.entry) → result ≡ moved_past self.now.here is.found.front }
+    {
+        past(self.here, lexed.own_text())
+    }
+
     /// Adds a tree of this kind, from where it was read to `end`.
     #[inline(always)]
     fn push(&mut self, end: Place, kind: TreeKind) -> Result<(), AllocError>
         ensures { OnOk result ((self.new.here ≡ end) × (self.new.trees.items
-            ≡ self.old.trees.items ++ (record { start = self.old.here; end = end; kind = kind } ∷ []))) }
+            ≡ self.old.trees.items ++ (record { start = self.old.here; end = self.new.here; kind = kind } ∷ []))) }
     {
         self.add(end, kind)?;
         self.here = end;
@@ -294,7 +262,7 @@ impl Placer {
     #[inline(never)]
     fn push_doc(&mut self, inner: bool, end: Place) -> Result<(), AllocError>
         ensures { OnOk result ((self.new.here ≡ end)
-            × (self.new.trees.items ≡ self.old.trees.items ++ doc_places inner self.old.here end)) }
+            × (self.new.trees.items ≡ self.old.trees.items ++ doc_places inner self.old.here self.new.here)) }
     {
         self.add(end, TreeKind::Punct)?;
         if inner {

@@ -1,33 +1,62 @@
 //! The one loop over the pieces of a text. Delimiters are matched here, and nowhere else.
 //!
 //! What makes something of a text's tokens is a [`TokenSink`], and [`read`] gives it the tokens in order.
-ghost use Rattle.std.specs.Prelude.{◌≡◌, ◌≢◌, ◌≤◌, ◌+◌, ◌<◌, ◌^◌, ◌⊎◌, ◌++◌, ℕ};
-ghost use Rattle.std.specs.Prelude.{Bool, List, [], ◌∷◌, length, reverse, map};
+ghost use Rattle.std.specs.Prelude.{◌≡◌, ◌≢◌, ◌≤◌, ◌+◌, ◌<◌, ◌^◌, ℕ, Bool, List, [], ◌∷◌, length, reverse, map};
 ghost use Rattle.std.specs.Prelude.{IfErr, IfNone, IfOk, IfSome, MatchOption, OnOk, false, true};
 ghost use Rattle.std.specs.Str.{chars};
-ghost use Rattle.lexical.specs.Found.{IsPieceAt, kind_of};
-ghost use Rattle.lexical.specs.Piece.{HasNoPiece, IsPiece};
-ghost use Rattle.lexical.specs.WhiteRun.{IsPastWhite};
+ghost use Rattle.lexical.specs.Found.{IsPieceAt};
+ghost use Rattle.lexical.specs.Piece.{HasNoPiece};
 ghost use Rattle.lexical.specs.declared.piece.PieceKind.TheVariants as kinds;
-ghost use Rattle.pm_stream.specs.Delimited.{closing, delimiter_of, opening};
-ghost use Rattle.pm_stream.specs.Events.{Closes, Opens, events_onto};
+ghost use Rattle.pm_stream.specs.Delimited.{delimiter_of};
 ghost use Rattle.pm_stream.specs.Fault.{IsFault, IsFaultFor, IsOpenFault, IsStray};
-ghost use Rattle.pm_stream.specs.Forest.{Forest};
 ghost use Rattle.pm_stream.specs.OpenGroups.{FitsInnermost, Opened};
-ghost use Rattle.pm_stream.specs.Reading.{ReadsAll, ReadsEvents, ReadsTo, Reading, openers_of};
-ghost use Rattle.pm_stream.specs.Taken.{IsAt, IsTakenTo, Taken, TakesPiece, Waiting, nothing, past, position};
+ghost use Rattle.pm_stream.specs.Reading.{CanRead, HasRead, ReadsAll, ReadsTo, openers_of};
+ghost use Rattle.pm_stream.specs.Taken.{CanClose, CanOpen, CanPass, CanSkip, CanTake, HasClosed, HasOpened};
+ghost use Rattle.pm_stream.specs.Taken.{HasPassed, HasTaken, IsLexed, Taken, Waiting, nothing};
 
 use lexical::{Piece, PieceKind, past_white, piece_at};
+use pm_span::Span;
 use pm_span::parts::span_of;
 use pm_token::parts::fault;
 use pm_token::{Delimiter, ParseError};
 use std::alloc::{AllocError, Global};
 
+/// A piece of a text, and where it stands.
+#[derive(Clone, Copy)]
+pub struct Lexed<'t> {
+    /// What kind of piece it is, and its size in bytes and in characters.
+    pub piece: Piece<'t>,
+    /// The text from the piece on to the end of the source.
+    pub text: &'t str,
+    /// The position of the piece: in characters, from the position on where the source begins.
+    pub at: u32,
+}
+
+impl<'t> Lexed<'t> {
+    /// The text of the piece.
+    #[inline(always)]
+    pub fn own_text(self) -> &'t str
+        requires { IsLexed self }
+        ensures { (is : IsLexed self.entry) → chars result.now ≡ is.found.front }
+    {
+        &self.text[..self.piece.bytes]
+    }
+
+    /// From where the piece begins to where it ends.
+    #[inline(always)]
+    pub fn span(self) -> Span
+        requires { IsLexed self }
+        ensures { (is : IsLexed self.entry)
+            → result ≡ record { lo = self.entry.at; hi = self.entry.at + length is.found.front } }
+    {
+        span_of(self.at, self.at + self.piece.chars as u32)
+    }
+}
+
 /// What makes something of the tokens of a text, which [`read`] gives it one after the other.
 ///
-/// A call gets the text from where its piece stands to the end of the source, and `at`, the position of that place: in
-/// characters, from the position on where the source begins. A piece has its size in bytes and in characters, so the
-/// tail after it is `text[piece.bytes..]`, at the position `at + piece.chars`.
+/// A call gets the piece that the token was read from. The tail after it is `text[piece.bytes..]`, at the position
+/// `at + piece.chars`.
 ///
 /// `opens` is what the loop knows of an open group, and `took` what a sink has taken: each call says what it makes true
 /// of the sink after, for all that was true before.
@@ -46,111 +75,51 @@ pub trait TokenSink {
         ensures { result ≡ opens group.now };
 
     /// Takes a punctuation mark.
-    fn mark(
-        &mut self,
-        mark: char,
-        joint: bool,
-        piece: Piece<'_>,
-        text: &str,
-        at: u32,
-    ) -> Result<(), AllocError>
-        requires stands { (first : Bool) × IsPieceAt first (chars text.now) piece }
-        requires kind { piece.kind ≡ kinds.Mark joint mark }
-        requires room { at + piece.chars < 2 ^ 32 }
-        requires took { IsTakenTo took self.old at (chars text.now) }
-        ensures { OnOk result (TakesPiece took self.old self.new piece.entry (chars text.now) at) };
+    fn mark(&mut self, lexed: Lexed<'_>, joint: bool, mark: char) -> Result<(), AllocError>
+        requires { CanTake took self.old lexed (kinds.Mark joint mark) }
+        ensures { OnOk result (HasTaken took self.old self.new lexed.entry (kinds.Mark joint mark)) };
 
     /// Takes an identifier, whose name goes without the `r#` of a raw one.
-    fn name(
-        &mut self,
-        raw: bool,
-        name: &str,
-        piece: Piece<'_>,
-        text: &str,
-        at: u32,
-    ) -> Result<(), AllocError>
-        requires stands { (first : Bool) × IsPieceAt first (chars text.now) piece }
-        requires kind { piece.kind ≡ kinds.Name raw name }
-        requires room { at + piece.chars < 2 ^ 32 }
-        requires took { IsTakenTo took self.old at (chars text.now) }
-        ensures { OnOk result (TakesPiece took self.old self.new piece.entry (chars text.now) at) };
+    fn name(&mut self, lexed: Lexed<'_>, raw: bool, name: &str) -> Result<(), AllocError>
+        requires { CanTake took self.old lexed (kinds.Name raw name) }
+        ensures { OnOk result (HasTaken took self.old self.new lexed.entry (kinds.Name raw name.entry)) };
 
     /// Takes a literal, whose text is the piece's.
-    fn literal(&mut self, piece: Piece<'_>, text: &str, at: u32) -> Result<(), AllocError>
-        requires stands { (first : Bool) × IsPieceAt first (chars text.now) piece }
-        requires kind { piece.kind ≡ kinds.Literal }
-        requires room { at + piece.chars < 2 ^ 32 }
-        requires took { IsTakenTo took self.old at (chars text.now) }
-        ensures { OnOk result (TakesPiece took self.old self.new piece.entry (chars text.now) at) };
+    fn literal(&mut self, lexed: Lexed<'_>) -> Result<(), AllocError>
+        requires { CanTake took self.old lexed kinds.Literal }
+        ensures { OnOk result (HasTaken took self.old self.new lexed.entry kinds.Literal) };
 
     /// Takes a doc comment with what it says, for all of the tokens that it stands for.
-    fn doc(
-        &mut self,
-        inner: bool,
-        said: &str,
-        piece: Piece<'_>,
-        text: &str,
-        at: u32,
-    ) -> Result<(), AllocError>
-        requires stands { (first : Bool) × IsPieceAt first (chars text.now) piece }
-        requires kind { piece.kind ≡ kinds.Doc inner said }
-        requires room { at + piece.chars < 2 ^ 32 }
-        requires took { IsTakenTo took self.old at (chars text.now) }
-        ensures { OnOk result (TakesPiece took self.old self.new piece.entry (chars text.now) at) };
+    fn doc(&mut self, lexed: Lexed<'_>, inner: bool, said: &str) -> Result<(), AllocError>
+        requires { CanTake took self.old lexed (kinds.Doc inner said) }
+        ensures { OnOk result (HasTaken took self.old self.new lexed.entry (kinds.Doc inner said.entry)) };
 
     /// Passes a comment that is no doc comment, or the front mark: pieces that are no tokens. White characters right
     /// after a piece come in [`white`](TokenSink::white), those at the front of the source one by one here.
-    fn gap(&mut self, piece: Piece<'_>, text: &str, at: u32)
-        requires stands { (first : Bool) × IsPieceAt first (chars text.now) piece }
-        requires kind { (piece.kind ≡ kinds.FrontMark) ⊎ (piece.kind ≡ kinds.Gap) }
-        requires room { at + piece.chars < 2 ^ 32 }
-        requires took { IsTakenTo took self.old at (chars text.now) }
-        ensures { TakesPiece took self.old self.new piece.entry (chars text.now) at };
+    fn gap(&mut self, lexed: Lexed<'_>)
+        requires { CanSkip took self.old lexed }
+        ensures { HasTaken took self.old self.new lexed.entry kinds.Gap };
 
     /// Passes so many white characters of one byte each, which may be none. It comes after each piece's call, with
     /// the text behind that piece.
     fn white(&mut self, text: &str, size: usize)
-        requires stands { (rest : List ℕ) × IsPastWhite (chars text.now) rest size }
-        requires took { (before : Taken Self.Opened) × took self.old before
-            × (before.source ≡ before.passed ++ chars text.now) × (position before + size < 2 ^ 32) }
-        ensures { (before : Taken Self.Opened) (front rest : List ℕ) → took self.old before
-            → before.source ≡ before.passed ++ chars text.now → chars text.now ≡ front ++ rest → size ≡ length front
-            → took self.new (past before front before.opened []) };
+        requires { CanPass took self.old (chars text.now) size }
+        ensures { HasPassed took self.old self.new (chars text.now) size };
 
-    /// Takes an opener, the one character at the front of the text. What it answers comes back with the closer of the
-    /// group.
-    fn open(
-        &mut self,
-        delimiter: Delimiter,
-        text: &str,
-        at: u32,
-    ) -> Result<Self::Opened, AllocError>
-        requires stands { (rest : List ℕ) × (chars text.now ≡ opening delimiter ++ rest) }
-        requires one { length (opening delimiter) ≡ 1 }
-        requires room { at + 1 < 2 ^ 32 }
-        requires took { IsTakenTo took self.old at (chars text.now) }
-        ensures { IfOk result (λ group. (opens group ≡ (delimiter, at))
-            × ((before : Taken Self.Opened) → took self.old before → IsAt before at (chars text.now)
-            → took self.new (past before (opening delimiter) (group ∷ before.opened) (Opens delimiter at ∷ [])))) };
+    /// Takes an opener. What it answers comes back with the closer of the group.
+    fn open(&mut self, lexed: Lexed<'_>, delimiter: Delimiter) -> Result<Self::Opened, AllocError>
+        requires { CanOpen took self.old lexed delimiter }
+        ensures { IfOk result (HasOpened opens took self.old self.new lexed.entry delimiter) };
 
-    /// Takes the closer of the innermost open group, the one character at the front of the text. A closer of no such
-    /// group is a fault, and isn't given to the sink.
+    /// Takes the closer of the innermost open group. A closer of no such group is a fault, and isn't given to the sink.
     fn close(
         &mut self,
-        group: Self::Opened,
+        lexed: Lexed<'_>,
         delimiter: Delimiter,
-        text: &str,
-        at: u32,
+        group: Self::Opened,
     ) -> Result<(), AllocError>
-        requires stands { (rest : List ℕ) × (chars text.now ≡ closing delimiter ++ rest) }
-        requires one { length (closing delimiter) ≡ 1 }
-        requires room { at + 1 < 2 ^ 32 }
-        requires fits { (opens group).0 ≡ delimiter }
-        requires took { (before : Taken Self.Opened) × (outer : List Self.Opened) × took self.old before
-            × IsAt before at (chars text.now) × (before.opened ≡ group ∷ outer) }
-        ensures { OnOk result ((before : Taken Self.Opened) (outer : List Self.Opened) → took self.old before
-            → IsAt before at (chars text.now) → before.opened ≡ group ∷ outer
-            → took self.new (past before (closing delimiter) outer (Closes delimiter (at + 1) ∷ []))) };
+        requires { CanClose opens took self.old lexed delimiter group }
+        ensures { OnOk result (HasClosed opens took self.old self.new lexed.entry delimiter group) };
 }
 
 /// Where reading stopped, and what was open there.
@@ -195,7 +164,12 @@ pub fn walk<'t, S: TokenSink>(
     let mut at = base;
     // A flag for the first piece would take a register in all loops that this becomes part of.
     while let Some(piece) = piece_at(rest, rest.len() == text.len()) {
-        if !take(sink, &mut opened, piece, rest, at)? {
+        let lexed = Lexed {
+            piece,
+            text: rest,
+            at,
+        };
+        if !take(sink, &mut opened, lexed)? {
             return Ok(Ending {
                 rest,
                 at,
@@ -239,35 +213,25 @@ pub fn read<S: TokenSink>(
     end::<S>(ending.opened, ending.rest, ending.at)
 }
 
-/// Takes the piece at the front of the text, which begins at `at`, and answers whether it could: a closer that doesn't
-/// close the innermost open group isn't taken.
+/// Takes the piece, and answers whether it could: a closer that doesn't close the innermost open group isn't taken.
 #[inline(always)]
 fn take<S: TokenSink>(
     sink: &mut S,
     opened: &mut Vec<S::Opened>,
-    piece: Piece,
-    text: &str,
-    at: u32,
+    lexed: Lexed<'_>,
 ) -> Result<bool, AllocError>
-    requires stands { (first : Bool) × IsPieceAt first (chars text.now) piece }
-    requires room { at + piece.chars < 2 ^ 32 }
-    requires reads { (base : ℕ) × (source passed : List ℕ) × (waiting : List Opened) × (trees : Forest)
-        × Reading S.opens S.took base source passed sink.old opened.old.items waiting trees
-        × (at ≡ base + length passed) × (source ≡ passed ++ chars text.now) }
-    ensures ok { IfOk result (λ taken. taken ≡ true → (first : Bool) (front rest : List ℕ)
-        → chars text.now ≡ front ++ rest
-        → piece.entry.chars ≡ length front → IsPiece first (kind_of piece.entry.kind front) front rest
-        → ReadsEvents S.opens S.took at (chars text.now) front sink.old sink.new opened.old.items opened.new.items
-        (events_onto at (kind_of piece.entry.kind front) front [])) }
+    requires { CanRead S.opens S.took sink.old opened.old.items lexed }
+    ensures ok { IfOk result (λ taken. taken ≡ true
+        → HasRead S.opens S.took sink.old sink.new opened.old.items opened.new.items lexed.entry) }
     ensures stray { IfOk result (λ taken. taken ≡ false → (sink.new ≡ sink.old) × (opened.new ≡ opened.old)
         × ((waiting : List Opened) → map S.opens (reverse opened.old.items) ≡ openers_of waiting
-        → IsStray piece.entry.kind waiting)) }
+        → IsStray lexed.entry.piece.kind waiting)) }
     ensures memory { IfErr result (λ _. (waiting : List Opened)
-        → map S.opens (reverse opened.old.items) ≡ openers_of waiting → IsStray piece.entry.kind waiting → ⊥) }
+        → map S.opens (reverse opened.old.items) ≡ openers_of waiting → IsStray lexed.entry.piece.kind waiting → ⊥) }
 {
-    match piece.kind {
+    match lexed.piece.kind {
         PieceKind::Opener(c) => {
-            let group = sink.open(delimiter(c), text, at)?;
+            let group = sink.open(lexed, delimiter(c))?;
             opened.push(group)?;
         }
         PieceKind::Closer(c) => {
@@ -275,13 +239,13 @@ fn take<S: TokenSink>(
             let Some(group) = innermost::<S>(opened, delimiter) else {
                 return Ok(false);
             };
-            sink.close(group, delimiter, text, at)?;
+            sink.close(lexed, delimiter, group)?;
         }
-        PieceKind::Doc { inner, text: said } => sink.doc(inner, said, piece, text, at)?,
-        PieceKind::Mark { joint, mark } => sink.mark(mark, joint, piece, text, at)?,
-        PieceKind::Name { raw, name } => sink.name(raw, name, piece, text, at)?,
-        PieceKind::Literal => sink.literal(piece, text, at)?,
-        PieceKind::FrontMark | PieceKind::Gap => sink.gap(piece, text, at),
+        PieceKind::Doc { inner, text } => sink.doc(lexed, inner, text)?,
+        PieceKind::Mark { joint, mark } => sink.mark(lexed, joint, mark)?,
+        PieceKind::Name { raw, name } => sink.name(lexed, raw, name)?,
+        PieceKind::Literal => sink.literal(lexed)?,
+        PieceKind::FrontMark | PieceKind::Gap => sink.gap(lexed),
     }
     Ok(true)
 }

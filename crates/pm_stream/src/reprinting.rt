@@ -15,8 +15,7 @@ ghost use Rattle.pm_stream.specs.PrinterState.{Prints, PrintsEvents, doc_front};
 ghost use Rattle.pm_stream.specs.PrintsText.{PrintsText};
 
 use crate::display::is_brace;
-use crate::reading::{TokenSink, read};
-use lexical::Piece;
+use crate::reading::{Lexed, TokenSink, read};
 use pm_span::parts::fits_new;
 use pm_token::parts::TextBuilder;
 use pm_token::{Delimiter, ParseError};
@@ -92,72 +91,54 @@ impl TokenSink for Printer {
     }
 
     #[inline(always)]
-    fn mark(
-        &mut self,
-        mark: char,
-        joint: bool,
-        _piece: Piece<'_>,
-        _text: &str,
-        _at: u32,
-    ) -> Result<(), AllocError> {
-        self.push_mark(mark, joint)
+    fn mark(&mut self, _lexed: Lexed<'_>, joint: bool, mark: char) -> Result<(), AllocError> {
+        self.write_char(mark)?;
+        self.gap = !joint;
+        Ok(())
     }
 
     #[inline(always)]
-    fn name(
-        &mut self,
-        _raw: bool,
-        _name: &str,
-        piece: Piece<'_>,
-        text: &str,
-        _at: u32,
-    ) -> Result<(), AllocError> {
-        self.push_token(&text[..piece.bytes], true)
+    fn name(&mut self, lexed: Lexed<'_>, _raw: bool, _name: &str) -> Result<(), AllocError> {
+        self.write(lexed.own_text())?;
+        self.gap = true;
+        Ok(())
     }
 
     #[inline(always)]
-    fn literal(&mut self, piece: Piece<'_>, text: &str, _at: u32) -> Result<(), AllocError> {
-        self.push_token(&text[..piece.bytes], true)
+    fn literal(&mut self, lexed: Lexed<'_>) -> Result<(), AllocError> {
+        self.write(lexed.own_text())?;
+        self.gap = true;
+        Ok(())
     }
 
     #[inline(always)]
-    fn doc(
-        &mut self,
-        inner: bool,
-        said: &str,
-        _piece: Piece<'_>,
-        _text: &str,
-        _at: u32,
-    ) -> Result<(), AllocError> {
+    fn doc(&mut self, _lexed: Lexed<'_>, inner: bool, said: &str) -> Result<(), AllocError> {
         self.push_doc(inner, said)
     }
 
     #[inline(always)]
-    fn gap(&mut self, _piece: Piece<'_>, _text: &str, _at: u32) {}
+    fn gap(&mut self, _lexed: Lexed<'_>) {}
 
     #[inline(always)]
     fn white(&mut self, _text: &str, _size: usize) {}
 
     #[inline(always)]
-    fn open(
-        &mut self,
-        delimiter: Delimiter,
-        _text: &str,
-        at: u32,
-    ) -> Result<OpenGroup, AllocError> {
+    fn open(&mut self, lexed: Lexed<'_>, delimiter: Delimiter) -> Result<OpenGroup, AllocError> {
         self.write_opening(delimiter)?;
         self.gap = is_brace(delimiter);
-        Ok(OpenGroup { delimiter, lo: at })
+        Ok(OpenGroup {
+            delimiter,
+            lo: lexed.at,
+        })
     }
 
     // Out of line, so that less is kept in registers for the pieces that come more often.
     #[inline(never)]
     fn close(
         &mut self,
-        _group: OpenGroup,
+        _lexed: Lexed<'_>,
         delimiter: Delimiter,
-        _text: &str,
-        _at: u32,
+        _group: OpenGroup,
     ) -> Result<(), AllocError> {
         push_ending(&mut self.draft, delimiter)?;
         self.gap = true;
@@ -184,25 +165,6 @@ impl Printer {
             self.draft.push(' ')?;
         }
         self.draft.push(c)
-    }
-
-    /// Prints a mark.
-    fn push_mark(&mut self, mark: char, joint: bool) -> Result<(), AllocError>
-        ensures ok { OnOk result ((lo hi : ℕ) → PrintsEvents self.old self.new (One (Mark mark joint) lo hi ∷ [])) }
-    {
-        self.write_char(mark)?;
-        self.gap = !joint;
-        Ok(())
-    }
-
-    /// Prints a token of this text. `gap` says whether a space goes after it.
-    fn push_token(&mut self, text: &str, gap: bool) -> Result<(), AllocError>
-        ensures ok { OnOk result ((token : Token) (lo hi : ℕ) → chars text.now ≡ token_text token
-            → gap ≡ parts token → PrintsEvents self.old self.new (One token lo hi ∷ [])) }
-    {
-        self.write(text)?;
-        self.gap = gap;
-        Ok(())
     }
 
     /// Prints a doc comment: the mark `#`, the mark `!` if it is inner, and the group of its text.

@@ -521,7 +521,16 @@
 //! - <a id="pm_stream.Places.ArePlaced"></a>**ArePlaced**: the trees, with their places, are those of the
 //!   stream that the source parses to
 //! - <a id="pm_stream.InOrder.BeginsWithGroup"></a>**BeginsWithGroup**: the first of the trees is a group
-//! - <a id="pm_stream.Events.Closes"></a>**Closes**: a group's closer, with the position where the group ends
+//! - <a id="pm_stream.Taken.CanClose"></a>**CanClose**: the sink has taken what stands before the piece, which
+//!   is the closer of the innermost open group, of one character
+//! - <a id="pm_stream.Taken.CanOpen"></a>**CanOpen**: the sink has taken what stands before the piece, which is
+//!   an opener of one character
+//! - <a id="pm_stream.Taken.CanPass"></a>**CanPass**: the sink has taken what stands before the text, which
+//!   begins with exactly so many white characters of ASCII
+//! - <a id="pm_stream.Taken.CanSkip"></a>**CanSkip**: the sink has taken what stands before the piece, which is
+//!   no token
+//! - <a id="pm_stream.Taken.CanTake"></a>**CanTake**: the sink has taken what stands before the piece, which is
+//!   of this kind
 //! - <a id="pm_stream.Steps.Enter"></a>**Enter**: into this group; the other trees are those that follow it
 //! - <a id="pm_stream.Steps.EntersNext"></a>**EntersNext**: the first of the steps goes into a group
 //! - <a id="pm_stream.Parsing.FaultAt"></a>**FaultAt**: `fault`: the one position where a source fails to parse
@@ -534,13 +543,16 @@
 //! - <a id="pm_stream.Building.GivesAnItem"></a>**GivesAnItem**: what is iterated over gives at least one item
 //! - <a id="pm_stream.Trees.GoesInside"></a>**GoesInside**: the tree may be put into a stream: a literal that
 //!   has no `-` before it, or any other tree
+//! - <a id="pm_stream.Taken.HasClosed"></a>**HasClosed**: the step took the piece as the closer of this group
 //! - <a id="pm_stream.Parsing.HasNoFault"></a>**HasNoFault**: no position of the source is a fault
+//! - <a id="pm_stream.Taken.HasOpened"></a>**HasOpened**: the step took the piece as the opener of this group
+//! - <a id="pm_stream.Taken.HasPassed"></a>**HasPassed**: the step passed the white characters at the front of
+//!   the text
+//! - <a id="pm_stream.Taken.HasTaken"></a>**HasTaken**: the step took the piece as one of this kind
 //! - <a id="pm_stream.HeldSpans.HoldsAll"></a>**HoldsAll**: the map holds the span of each tree of the stream,
 //!   at any depth
 //! - <a id="pm_stream.HeldSpans.HoldsEach"></a>**HoldsEach**: the map holds the span of each tree of the list,
 //!   at any depth
-//! - <a id="pm_stream.Taken.IsAt"></a>**IsAt**: it is read up to the position, from which on the source has
-//!   this text
 //! - <a id="pm_stream.Forest.IsBuilt"></a>**IsBuilt**: `built`: each token is one of the grammar's, and no span
 //!   ends before it begins. Every stream is built
 //! - <a id="pm_stream.DocGroup.IsDocOf"></a>**IsDocOf**: the group is printed as `[doc = `, the text of a
@@ -549,20 +561,19 @@
 //!   memory
 //! - <a id="pm_stream.Fault.IsFaultFor"></a>**IsFaultFor**: a fault at the position, for this reason, or want
 //!   of memory where there is no such reason
+//! - <a id="pm_stream.Taken.IsLexed"></a>**IsLexed**: the piece stands at the front of the text, and after it
+//!   there is room for positions
 //! - <a id="pm_stream.Parsing.IsOnlyFault"></a>**IsOnlyFault**: the source doesn't parse, and no other position
 //!   is a fault
 //! - <a id="pm_stream.Fault.IsOpenFault"></a>**IsOpenFault**: a fault where the innermost of the open groups
 //!   begins, or want of memory where none is open
 //! - <a id="pm_stream.Fault.IsStray"></a>**IsStray**: the piece is a closer that doesn't close the innermost of
 //!   the groups
-//! - <a id="pm_stream.Taken.IsTakenTo"></a>**IsTakenTo**: the sink has taken what stands before the position,
-//!   from which on the source has this text
 //! - <a id="pm_stream.WellSpaced.IsWellSpaced"></a>**IsWellSpaced**: `well-spaced`: spacings fit what follows
 //!   and each group has delimiters, so that the printed text reads back
 //! - <a id="pm_stream.Steps.Leave"></a>**Leave**: out of this group; the other trees are those that follow it
 //! - <a id="pm_stream.OpenGroups.Opened"></a>**Opened**: a group that isn't closed: the trees before it, how it
 //!   is delimited, and where it begins
-//! - <a id="pm_stream.Events.Opens"></a>**Opens**: a group's opener, with the position where the group begins
 //! - <a id="pm_stream.Parsing.ParsesTo"></a>**ParsesTo**: `parses-to`: the stream's flattening is the expansion
 //!   of a cover of the source
 //! - <a id="pm_stream.PrintsText.PrintsText"></a>**PrintsText**: the bytes are the printed text of the stream
@@ -576,13 +587,7 @@
 //! - <a id="pm_stream.Building.RefusesAnItem"></a>**RefusesAnItem**: some items were put in, and the one that
 //!   came after them was refused
 //! - <a id="pm_stream.Same.Same"></a>**Same**: `same`: the streams are equal but for their spans
-//! - <a id="pm_stream.Taken.Taken"></a>**Taken**: the position where the source begins, the source, its
-//!   characters before the place up to which it is read, the groups that are open, the innermost first, and the
-//!   events of all tokens
-//! - <a id="pm_stream.Taken.TakesPiece"></a>**TakesPiece**: the step took the piece at the front of the text,
-//!   which stands at the position
 //! - <a id="pm_stream.Trees.alone"></a>**alone**: the stream of this tree alone
-//! - <a id="pm_stream.Delimited.closing"></a>**closing**: what a group ends with
 //! - <a id="pm_stream.DelimSpan.closing_span"></a>**closing_span**: `close-span`: the last character of a
 //!   group, or nothing where the group has none
 //! - <a id="pm_stream.DocGroup.doc_of"></a>**doc_of**: the literal of the group of a doc comment, `[doc =
@@ -607,11 +612,8 @@
 //! - <a id="pm_stream.Forest.nil"></a>**nil**: no trees
 //! - <a id="pm_stream.Taken.nothing"></a>**nothing**: nothing yet, of a source that begins at this position
 //! - <a id="pm_stream.Reading.openers_of"></a>**openers_of**: the openers of groups
-//! - <a id="pm_stream.Delimited.opening"></a>**opening**: what a group begins with
 //! - <a id="pm_stream.DelimSpan.opening_span"></a>**opening_span**: `open-span`: the first character of a
 //!   group, or nothing where the group has none
-//! - <a id="pm_stream.Taken.past"></a>**past**: past a front, with these groups open and these events more
-//! - <a id="pm_stream.Taken.position"></a>**position**: up to where it is read
 //! - <a id="pm_stream.Printed.printed"></a>**printed**: `printed`: the text of a stream
 //! - <a id="pm_stream.Rule.ruled"></a>**ruled**: what the trees print, one after another
 //! - <a id="pm_stream.Building.split"></a>**split**: `split`: the trees that stand in a stream for one that is

@@ -7,7 +7,7 @@ use crate::explain::stuck::reason_at;
 use crate::lexical::Piece;
 use crate::lexical::parts::Cursor;
 use crate::pm_span::parts::{bounds, fits_new, span_of};
-use crate::pm_stream::reading::{Ending, TokenSink, walk};
+use crate::pm_stream::reading::{Ending, Lexed, TokenSink, walk};
 use crate::pm_token::Delimiter;
 use crate::shim::alloc::AllocError;
 
@@ -86,59 +86,38 @@ impl<'a> TokenSink for Openers<'a> {
     }
 
     #[cfg_attr(not(debug_assertions), inline(always))]
-    fn mark(
-        &mut self,
-        _mark: char,
-        _joint: bool,
-        _piece: Piece<'_>,
-        _text: &str,
-        _at: u32,
-    ) -> Result<(), AllocError> {
+    fn mark(&mut self, _lexed: Lexed<'_>, _joint: bool, _mark: char) -> Result<(), AllocError> {
         Ok(())
     }
 
     #[cfg_attr(not(debug_assertions), inline(always))]
-    fn name(
-        &mut self,
-        _raw: bool,
-        _name: &str,
-        _piece: Piece<'_>,
-        _text: &str,
-        _at: u32,
-    ) -> Result<(), AllocError> {
+    fn name(&mut self, _lexed: Lexed<'_>, _raw: bool, _name: &str) -> Result<(), AllocError> {
         Ok(())
     }
 
     #[cfg_attr(not(debug_assertions), inline(always))]
-    fn literal(&mut self, _piece: Piece<'_>, _text: &str, _at: u32) -> Result<(), AllocError> {
+    fn literal(&mut self, _lexed: Lexed<'_>) -> Result<(), AllocError> {
         Ok(())
     }
 
     #[cfg_attr(not(debug_assertions), inline(always))]
-    fn doc(
-        &mut self,
-        _inner: bool,
-        _said: &str,
-        _piece: Piece<'_>,
-        _text: &str,
-        _at: u32,
-    ) -> Result<(), AllocError> {
+    fn doc(&mut self, _lexed: Lexed<'_>, _inner: bool, _said: &str) -> Result<(), AllocError> {
         Ok(())
     }
 
     #[cfg_attr(not(debug_assertions), inline(always))]
-    fn gap(&mut self, _piece: Piece<'_>, _text: &str, _at: u32) {}
+    fn gap(&mut self, _lexed: Lexed<'_>) {}
 
     #[cfg_attr(not(debug_assertions), inline(always))]
     fn white(&mut self, _text: &str, _size: usize) {}
 
     #[cfg_attr(not(debug_assertions), inline(always))]
-    fn open(&mut self, delimiter: Delimiter, text: &str, at: u32) -> Result<Opener, AllocError> {
-        let start = self.text.len() - text.len();
+    fn open(&mut self, lexed: Lexed<'_>, delimiter: Delimiter) -> Result<Opener, AllocError> {
+        let start = self.text.len() - lexed.text.len();
         let at = Stretch {
             start,
-            end: start + 1,
-            span: span_of(at, at + 1),
+            end: start + lexed.piece.bytes,
+            span: lexed.span(),
         };
         Ok(Opener { delimiter, at })
     }
@@ -146,10 +125,9 @@ impl<'a> TokenSink for Openers<'a> {
     #[cfg_attr(not(debug_assertions), inline(always))]
     fn close(
         &mut self,
-        _opener: Opener,
+        _lexed: Lexed<'_>,
         _delimiter: Delimiter,
-        _text: &str,
-        _at: u32,
+        _opener: Opener,
     ) -> Result<(), AllocError> {
         Ok(())
     }

@@ -4,9 +4,8 @@
 use crate::shim::prelude::{Grow, GrowList};
 
 use crate::pm_stream::doc::doc_group;
-use crate::pm_stream::reading::{TokenSink, read};
+use crate::pm_stream::reading::{Lexed, TokenSink, read};
 use crate::pm_stream::stream::{Group, TokenStream, TokenTree};
-use crate::lexical::Piece;
 use crate::pm_span::parts::{add_file, fits, fits_new, span_of};
 use crate::pm_span::{SourceMap, Span};
 use crate::pm_token::parts::{ident, literal, punct};
@@ -161,78 +160,49 @@ impl TokenSink for Parser {
     }
 
     #[cfg_attr(not(debug_assertions), inline(always))]
-    fn mark(
-        &mut self,
-        mark: char,
-        joint: bool,
-        piece: Piece<'_>,
-        _text: &str,
-        at: u32,
-    ) -> Result<(), AllocError> {
-        self.push_mark(mark, joint, span_of(at, at + piece.chars as u32))
+    fn mark(&mut self, lexed: Lexed<'_>, joint: bool, mark: char) -> Result<(), AllocError> {
+        self.push_mark(mark, joint, lexed.span())
     }
 
     #[cfg_attr(not(debug_assertions), inline(always))]
-    fn name(
-        &mut self,
-        raw: bool,
-        name: &str,
-        piece: Piece<'_>,
-        text: &str,
-        at: u32,
-    ) -> Result<(), AllocError> {
-        // Proofs learn by it that the text is UTF-8.
-        let _ = text;
-        let name = ident(name, raw, span_of(at, at + piece.chars as u32))?;
+    fn name(&mut self, lexed: Lexed<'_>, raw: bool, name: &str) -> Result<(), AllocError> {
+        let name = ident(name, raw, lexed.span())?;
         self.push(TokenTree::Ident(name))
     }
 
     #[cfg_attr(not(debug_assertions), inline(always))]
-    fn literal(&mut self, piece: Piece<'_>, text: &str, at: u32) -> Result<(), AllocError> {
-        self.push_literal(&text[..piece.bytes], span_of(at, at + piece.chars as u32))
+    fn literal(&mut self, lexed: Lexed<'_>) -> Result<(), AllocError> {
+        self.push_literal(lexed.own_text(), lexed.span())
     }
 
     #[cfg_attr(not(debug_assertions), inline(always))]
-    fn doc(
-        &mut self,
-        inner: bool,
-        said: &str,
-        piece: Piece<'_>,
-        _text: &str,
-        at: u32,
-    ) -> Result<(), AllocError> {
-        self.push_doc(inner, said, span_of(at, at + piece.chars as u32))
+    fn doc(&mut self, lexed: Lexed<'_>, inner: bool, said: &str) -> Result<(), AllocError> {
+        self.push_doc(inner, said, lexed.span())
     }
 
     #[cfg_attr(not(debug_assertions), inline(always))]
-    fn gap(&mut self, _piece: Piece<'_>, _text: &str, _at: u32) {}
+    fn gap(&mut self, _lexed: Lexed<'_>) {}
 
     #[cfg_attr(not(debug_assertions), inline(always))]
     fn white(&mut self, _text: &str, _size: usize) {}
 
     #[cfg_attr(not(debug_assertions), inline(always))]
-    fn open(&mut self, delimiter: Delimiter, _text: &str, at: u32) -> Result<Frame, AllocError> {
-        let before = self.trees.len();
+    fn open(&mut self, lexed: Lexed<'_>, delimiter: Delimiter) -> Result<Frame, AllocError> {
         Ok(Frame {
-            before,
+            before: self.trees.len(),
             delimiter,
-            lo: at,
+            lo: lexed.at,
         })
     }
 
-    #[inline(never)]
+    #[cfg_attr(not(debug_assertions), inline(always))]
     fn close(
         &mut self,
-        frame: Frame,
+        lexed: Lexed<'_>,
         delimiter: Delimiter,
-        _text: &str,
-        at: u32,
+        frame: Frame,
     ) -> Result<(), AllocError> {
-        let trees = self.trees.split_off_fallibly(frame.before)?;
-        let stream = TokenStream::from_vec(trees)?;
-        let group = Group::from_parts(delimiter, stream, span_of(frame.lo, at + 1));
-        self.trees.push_fallibly(TokenTree::Group(group))?;
-        Ok(())
+        self.push_group(frame.before, delimiter, span_of(frame.lo, lexed.at + 1))
     }
 }
 
@@ -273,6 +243,22 @@ impl Parser {
         }
         let group = doc_group(text, span)?;
         self.push(TokenTree::Group(group))
+    }
+
+    /// Puts a group in the place of the trees from this one on, which become those inside it.
+    #[inline(never)]
+    fn push_group(
+        &mut self,
+        first: usize,
+        delimiter: Delimiter,
+        span: Span,
+    ) -> Result<(), AllocError>
+    {
+        let inside = self.trees.split_off_fallibly(first)?;
+        let stream = TokenStream::from_vec(inside)?;
+        let group = Group::from_parts(delimiter, stream, span);
+        self.trees.push_fallibly(TokenTree::Group(group))?;
+        Ok(())
     }
 
     /// The stream of what was read, where no group is open.

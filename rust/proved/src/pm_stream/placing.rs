@@ -3,8 +3,7 @@
 
 use crate::shim::prelude::Grow;
 
-use crate::pm_stream::reading::{TokenSink, read};
-use crate::lexical::Piece;
+use crate::pm_stream::reading::{Lexed, TokenSink, read};
 use crate::pm_span::parts::fits_new;
 use crate::pm_token::{Delimiter, ParseError};
 use crate::shim::alloc::AllocError;
@@ -101,23 +100,6 @@ fn place_trees_at(base: u32, text: &str) -> Result<Vec<PlacedTree>, ParseError>
     Ok(placer.trees)
 }
 
-/// The place so many characters further on in its line.
-#[cfg_attr(not(debug_assertions), inline(always))]
-fn along(start: Place, chars: u32) -> Place
-{
-    Place {
-        line: start.line,
-        column: start.column + chars,
-    }
-}
-
-/// The place after the piece at the front of the text, which begins at this one.
-#[cfg_attr(not(debug_assertions), inline(always))]
-fn end_of(start: Place, piece: Piece, text: &str) -> Place
-{
-    past(start, &text[..piece.bytes])
-}
-
 /// The place after a text that begins at this one.
 fn past(start: Place, text: &str) -> Place
 {
@@ -174,49 +156,28 @@ impl TokenSink for Placer {
     }
 
     #[cfg_attr(not(debug_assertions), inline(always))]
-    fn mark(
-        &mut self,
-        _mark: char,
-        _joint: bool,
-        piece: Piece<'_>,
-        _text: &str,
-        _at: u32,
-    ) -> Result<(), AllocError> {
-        self.push(along(self.here, piece.chars as u32), TreeKind::Punct)
+    fn mark(&mut self, lexed: Lexed<'_>, _joint: bool, _mark: char) -> Result<(), AllocError> {
+        self.push(self.along(lexed), TreeKind::Punct)
     }
 
     #[cfg_attr(not(debug_assertions), inline(always))]
-    fn name(
-        &mut self,
-        _raw: bool,
-        _name: &str,
-        piece: Piece<'_>,
-        _text: &str,
-        _at: u32,
-    ) -> Result<(), AllocError> {
-        self.push(along(self.here, piece.chars as u32), TreeKind::Ident)
+    fn name(&mut self, lexed: Lexed<'_>, _raw: bool, _name: &str) -> Result<(), AllocError> {
+        self.push(self.along(lexed), TreeKind::Ident)
     }
 
     #[cfg_attr(not(debug_assertions), inline(always))]
-    fn literal(&mut self, piece: Piece<'_>, text: &str, _at: u32) -> Result<(), AllocError> {
-        self.push(end_of(self.here, piece, text), TreeKind::Literal)
+    fn literal(&mut self, lexed: Lexed<'_>) -> Result<(), AllocError> {
+        self.push(self.past(lexed), TreeKind::Literal)
     }
 
     #[cfg_attr(not(debug_assertions), inline(always))]
-    fn doc(
-        &mut self,
-        inner: bool,
-        _said: &str,
-        piece: Piece<'_>,
-        text: &str,
-        _at: u32,
-    ) -> Result<(), AllocError> {
-        self.push_doc(inner, end_of(self.here, piece, text))
+    fn doc(&mut self, lexed: Lexed<'_>, inner: bool, _said: &str) -> Result<(), AllocError> {
+        self.push_doc(inner, self.past(lexed))
     }
 
     #[cfg_attr(not(debug_assertions), inline(always))]
-    fn gap(&mut self, piece: Piece<'_>, text: &str, _at: u32) {
-        self.here = end_of(self.here, piece, text);
+    fn gap(&mut self, lexed: Lexed<'_>) {
+        self.here = self.past(lexed);
     }
 
     #[cfg_attr(not(debug_assertions), inline(always))]
@@ -225,23 +186,15 @@ impl TokenSink for Placer {
     }
 
     #[cfg_attr(not(debug_assertions), inline(always))]
-    fn open(
-        &mut self,
-        delimiter: Delimiter,
-        _text: &str,
-        at: u32,
-    ) -> Result<OpenGroup, AllocError> {
+    fn open(&mut self, lexed: Lexed<'_>, delimiter: Delimiter) -> Result<OpenGroup, AllocError> {
         let start = self.here;
+        let end = self.along(lexed);
         let index = self.trees.len();
-        self.trees.push_fallibly(PlacedTree {
-            start,
-            end: start,
-            kind: TreeKind::Group,
-        })?;
-        self.here = along(start, 1);
+        self.add(start, TreeKind::Group)?;
+        self.here = end;
         Ok(OpenGroup {
             delimiter,
-            lo: at,
+            lo: lexed.at,
             start,
             index,
         })
@@ -250,12 +203,11 @@ impl TokenSink for Placer {
     #[cfg_attr(not(debug_assertions), inline(always))]
     fn close(
         &mut self,
-        group: OpenGroup,
+        lexed: Lexed<'_>,
         _delimiter: Delimiter,
-        _text: &str,
-        _at: u32,
+        group: OpenGroup,
     ) -> Result<(), AllocError> {
-        let end = along(self.here, 1);
+        let end = self.along(lexed);
         self.trees[group.index] = PlacedTree {
             start: group.start,
             end,
@@ -267,6 +219,23 @@ impl TokenSink for Placer {
 }
 
 impl Placer {
+    /// The place after the piece, which is on one line.
+    #[cfg_attr(not(debug_assertions), inline(always))]
+    fn along(&self, lexed: Lexed<'_>) -> Place
+    {
+        Place {
+            line: self.here.line,
+            column: self.here.column + lexed.piece.chars as u32,
+        }
+    }
+
+    /// The place after the piece.
+    #[cfg_attr(not(debug_assertions), inline(always))]
+    fn past(&self, lexed: Lexed<'_>) -> Place
+    {
+        past(self.here, lexed.own_text())
+    }
+
     /// Adds a tree of this kind, from where it was read to `end`.
     #[cfg_attr(not(debug_assertions), inline(always))]
     fn push(&mut self, end: Place, kind: TreeKind) -> Result<(), AllocError>

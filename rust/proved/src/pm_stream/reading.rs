@@ -6,16 +6,60 @@
 use crate::shim::prelude::Grow;
 
 use crate::lexical::{Piece, PieceKind, past_white, piece_at};
+use crate::pm_span::Span;
 use crate::pm_span::parts::span_of;
 use crate::pm_token::parts::fault;
 use crate::pm_token::{Delimiter, ParseError};
 use crate::shim::alloc::AllocError;
 
+/// A piece of a text, and where it stands.
+#[derive(Clone, Copy)]
+pub struct Lexed<'t> {
+    /// What kind of piece it is, and its size in bytes and in characters.
+    pub piece: Piece<'t>,
+    /// The text from the piece on to the end of the source.
+    pub text: &'t str,
+    /// The position of the piece: in characters, from the position on where the source begins.
+    pub at: u32,
+}
+
+impl<'t> Lexed<'t> {
+    /// The text of the piece.
+    ///
+    /// # Contract
+    ///
+    /// - `requires`: <code>[IsLexed] self</code>
+    /// - `ensures`: <code>(is : [IsLexed] self.entry) → [chars] result.now ≡ is.found.front</code>
+    ///
+    /// [IsLexed]: crate::contracts#pm_stream.Taken.IsLexed
+    /// [chars]: crate::contracts#std.chars
+    #[cfg_attr(not(debug_assertions), inline(always))]
+    pub fn own_text(self) -> &'t str
+    {
+        &self.text[..self.piece.bytes]
+    }
+
+    /// From where the piece begins to where it ends.
+    ///
+    /// # Contract
+    ///
+    /// - `requires`: <code>[IsLexed] self</code>
+    /// - `ensures`: <code>(is : [IsLexed] self.entry) → result ≡ record { lo = self.entry.at; hi = self.entry.at +
+    ///   [length] is.found.front }</code>
+    ///
+    /// [IsLexed]: crate::contracts#pm_stream.Taken.IsLexed
+    /// [length]: crate::contracts#std.length
+    #[cfg_attr(not(debug_assertions), inline(always))]
+    pub fn span(self) -> Span
+    {
+        span_of(self.at, self.at + self.piece.chars as u32)
+    }
+}
+
 /// What makes something of the tokens of a text, which [`read`] gives it one after the other.
 ///
-/// A call gets the text from where its piece stands to the end of the source, and `at`, the position of that place: in
-/// characters, from the position on where the source begins. A piece has its size in bytes and in characters, so the
-/// tail after it is `text[piece.bytes..]`, at the position `at + piece.chars`.
+/// A call gets the piece that the token was read from. The tail after it is `text[piece.bytes..]`, at the position
+/// `at + piece.chars`.
 ///
 /// `opens` is what the loop knows of an open group, and `took` what a sink has taken: each call says what it makes true
 /// of the sink after, for all that was true before.
@@ -38,198 +82,106 @@ pub trait TokenSink {
     ///
     /// # Contract
     ///
-    /// - `requires stands`: <code>(first : [Bool]) × [IsPieceAt] first ([chars] text.now) piece</code>
-    /// - `requires kind`: <code>piece.kind ≡ kinds.Mark joint mark</code>
-    /// - `requires room`: <code>at + piece.chars &lt; 2 ^ 32</code>
-    /// - `requires took`: <code>[IsTakenTo] took self.old at ([chars] text.now)</code>
-    /// - `ensures`: <code>[OnOk] result ([TakesPiece] took self.old self.new piece.entry ([chars] text.now)
-    ///   at)</code>
+    /// - `requires`: <code>[CanTake] took self.old lexed (kinds.Mark joint mark)</code>
+    /// - `ensures`: <code>[OnOk] result ([HasTaken] took self.old self.new lexed.entry (kinds.Mark joint
+    ///   mark))</code>
     ///
-    /// [Bool]: crate::contracts#std.Bool
-    /// [IsPieceAt]: crate::contracts#lexical.Found.IsPieceAt
-    /// [chars]: crate::contracts#std.chars
-    /// [IsTakenTo]: crate::contracts#pm_stream.Taken.IsTakenTo
+    /// [CanTake]: crate::contracts#pm_stream.Taken.CanTake
     /// [OnOk]: crate::contracts#std.OnOk
-    /// [TakesPiece]: crate::contracts#pm_stream.Taken.TakesPiece
-    fn mark(
-        &mut self,
-        mark: char,
-        joint: bool,
-        piece: Piece<'_>,
-        text: &str,
-        at: u32,
-    ) -> Result<(), AllocError>;
+    /// [HasTaken]: crate::contracts#pm_stream.Taken.HasTaken
+    fn mark(&mut self, lexed: Lexed<'_>, joint: bool, mark: char) -> Result<(), AllocError>;
 
     /// Takes an identifier, whose name goes without the `r#` of a raw one.
     ///
     /// # Contract
     ///
-    /// - `requires stands`: <code>(first : [Bool]) × [IsPieceAt] first ([chars] text.now) piece</code>
-    /// - `requires kind`: <code>piece.kind ≡ kinds.Name raw name</code>
-    /// - `requires room`: <code>at + piece.chars &lt; 2 ^ 32</code>
-    /// - `requires took`: <code>[IsTakenTo] took self.old at ([chars] text.now)</code>
-    /// - `ensures`: <code>[OnOk] result ([TakesPiece] took self.old self.new piece.entry ([chars] text.now)
-    ///   at)</code>
+    /// - `requires`: <code>[CanTake] took self.old lexed (kinds.Name raw name)</code>
+    /// - `ensures`: <code>[OnOk] result ([HasTaken] took self.old self.new lexed.entry (kinds.Name raw
+    ///   name.entry))</code>
     ///
-    /// [Bool]: crate::contracts#std.Bool
-    /// [IsPieceAt]: crate::contracts#lexical.Found.IsPieceAt
-    /// [chars]: crate::contracts#std.chars
-    /// [IsTakenTo]: crate::contracts#pm_stream.Taken.IsTakenTo
+    /// [CanTake]: crate::contracts#pm_stream.Taken.CanTake
     /// [OnOk]: crate::contracts#std.OnOk
-    /// [TakesPiece]: crate::contracts#pm_stream.Taken.TakesPiece
-    fn name(
-        &mut self,
-        raw: bool,
-        name: &str,
-        piece: Piece<'_>,
-        text: &str,
-        at: u32,
-    ) -> Result<(), AllocError>;
+    /// [HasTaken]: crate::contracts#pm_stream.Taken.HasTaken
+    fn name(&mut self, lexed: Lexed<'_>, raw: bool, name: &str) -> Result<(), AllocError>;
 
     /// Takes a literal, whose text is the piece's.
     ///
     /// # Contract
     ///
-    /// - `requires stands`: <code>(first : [Bool]) × [IsPieceAt] first ([chars] text.now) piece</code>
-    /// - `requires kind`: <code>piece.kind ≡ kinds.Literal</code>
-    /// - `requires room`: <code>at + piece.chars &lt; 2 ^ 32</code>
-    /// - `requires took`: <code>[IsTakenTo] took self.old at ([chars] text.now)</code>
-    /// - `ensures`: <code>[OnOk] result ([TakesPiece] took self.old self.new piece.entry ([chars] text.now)
-    ///   at)</code>
+    /// - `requires`: <code>[CanTake] took self.old lexed kinds.Literal</code>
+    /// - `ensures`: <code>[OnOk] result ([HasTaken] took self.old self.new lexed.entry kinds.Literal)</code>
     ///
-    /// [Bool]: crate::contracts#std.Bool
-    /// [IsPieceAt]: crate::contracts#lexical.Found.IsPieceAt
-    /// [chars]: crate::contracts#std.chars
-    /// [IsTakenTo]: crate::contracts#pm_stream.Taken.IsTakenTo
+    /// [CanTake]: crate::contracts#pm_stream.Taken.CanTake
     /// [OnOk]: crate::contracts#std.OnOk
-    /// [TakesPiece]: crate::contracts#pm_stream.Taken.TakesPiece
-    fn literal(&mut self, piece: Piece<'_>, text: &str, at: u32) -> Result<(), AllocError>;
+    /// [HasTaken]: crate::contracts#pm_stream.Taken.HasTaken
+    fn literal(&mut self, lexed: Lexed<'_>) -> Result<(), AllocError>;
 
     /// Takes a doc comment with what it says, for all of the tokens that it stands for.
     ///
     /// # Contract
     ///
-    /// - `requires stands`: <code>(first : [Bool]) × [IsPieceAt] first ([chars] text.now) piece</code>
-    /// - `requires kind`: <code>piece.kind ≡ kinds.Doc inner said</code>
-    /// - `requires room`: <code>at + piece.chars &lt; 2 ^ 32</code>
-    /// - `requires took`: <code>[IsTakenTo] took self.old at ([chars] text.now)</code>
-    /// - `ensures`: <code>[OnOk] result ([TakesPiece] took self.old self.new piece.entry ([chars] text.now)
-    ///   at)</code>
+    /// - `requires`: <code>[CanTake] took self.old lexed (kinds.Doc inner said)</code>
+    /// - `ensures`: <code>[OnOk] result ([HasTaken] took self.old self.new lexed.entry (kinds.Doc inner
+    ///   said.entry))</code>
     ///
-    /// [Bool]: crate::contracts#std.Bool
-    /// [IsPieceAt]: crate::contracts#lexical.Found.IsPieceAt
-    /// [chars]: crate::contracts#std.chars
-    /// [IsTakenTo]: crate::contracts#pm_stream.Taken.IsTakenTo
+    /// [CanTake]: crate::contracts#pm_stream.Taken.CanTake
     /// [OnOk]: crate::contracts#std.OnOk
-    /// [TakesPiece]: crate::contracts#pm_stream.Taken.TakesPiece
-    fn doc(
-        &mut self,
-        inner: bool,
-        said: &str,
-        piece: Piece<'_>,
-        text: &str,
-        at: u32,
-    ) -> Result<(), AllocError>;
+    /// [HasTaken]: crate::contracts#pm_stream.Taken.HasTaken
+    fn doc(&mut self, lexed: Lexed<'_>, inner: bool, said: &str) -> Result<(), AllocError>;
 
     /// Passes a comment that is no doc comment, or the front mark: pieces that are no tokens. White characters right
     /// after a piece come in [`white`](TokenSink::white), those at the front of the source one by one here.
     ///
     /// # Contract
     ///
-    /// - `requires stands`: <code>(first : [Bool]) × [IsPieceAt] first ([chars] text.now) piece</code>
-    /// - `requires kind`: <code>(piece.kind ≡ kinds.FrontMark) ⊎ (piece.kind ≡ kinds.Gap)</code>
-    /// - `requires room`: <code>at + piece.chars &lt; 2 ^ 32</code>
-    /// - `requires took`: <code>[IsTakenTo] took self.old at ([chars] text.now)</code>
-    /// - `ensures`: <code>[TakesPiece] took self.old self.new piece.entry ([chars] text.now) at</code>
+    /// - `requires`: <code>[CanSkip] took self.old lexed</code>
+    /// - `ensures`: <code>[HasTaken] took self.old self.new lexed.entry kinds.Gap</code>
     ///
-    /// [Bool]: crate::contracts#std.Bool
-    /// [IsPieceAt]: crate::contracts#lexical.Found.IsPieceAt
-    /// [chars]: crate::contracts#std.chars
-    /// [IsTakenTo]: crate::contracts#pm_stream.Taken.IsTakenTo
-    /// [TakesPiece]: crate::contracts#pm_stream.Taken.TakesPiece
-    fn gap(&mut self, piece: Piece<'_>, text: &str, at: u32);
+    /// [CanSkip]: crate::contracts#pm_stream.Taken.CanSkip
+    /// [HasTaken]: crate::contracts#pm_stream.Taken.HasTaken
+    fn gap(&mut self, lexed: Lexed<'_>);
 
     /// Passes so many white characters of one byte each, which may be none. It comes after each piece's call, with
     /// the text behind that piece.
     ///
     /// # Contract
     ///
-    /// - `requires stands`: <code>(rest : [List] ℕ) × [IsPastWhite] ([chars] text.now) rest size</code>
-    /// - `requires took`: <code>(before : [Taken] Self.Opened) × took self.old before × (before.source ≡
-    ///   before.passed ++ [chars] text.now) × ([position] before + size &lt; 2 ^ 32)</code>
-    /// - `ensures`: <code>(before : [Taken] Self.Opened) (front rest : [List] ℕ) → took self.old before →
-    ///   before.source ≡ before.passed ++ [chars] text.now → [chars] text.now ≡ front ++ rest → size ≡ [length]
-    ///   front → took self.new ([past] before front before.opened \[\])</code>
+    /// - `requires`: <code>[CanPass] took self.old ([chars] text.now) size</code>
+    /// - `ensures`: <code>[HasPassed] took self.old self.new ([chars] text.now) size</code>
     ///
-    /// [List]: crate::contracts#std.List
-    /// [IsPastWhite]: crate::contracts#lexical.WhiteRun.IsPastWhite
+    /// [CanPass]: crate::contracts#pm_stream.Taken.CanPass
     /// [chars]: crate::contracts#std.chars
-    /// [Taken]: crate::contracts#pm_stream.Taken.Taken
-    /// [position]: crate::contracts#pm_stream.Taken.position
-    /// [length]: crate::contracts#std.length
-    /// [past]: crate::contracts#pm_stream.Taken.past
+    /// [HasPassed]: crate::contracts#pm_stream.Taken.HasPassed
     fn white(&mut self, text: &str, size: usize);
 
-    /// Takes an opener, the one character at the front of the text. What it answers comes back with the closer of the
-    /// group.
+    /// Takes an opener. What it answers comes back with the closer of the group.
     ///
     /// # Contract
     ///
-    /// - `requires stands`: <code>(rest : [List] ℕ) × ([chars] text.now ≡ [opening] delimiter ++ rest)</code>
-    /// - `requires one`: <code>[length] ([opening] delimiter) ≡ 1</code>
-    /// - `requires room`: <code>at + 1 &lt; 2 ^ 32</code>
-    /// - `requires took`: <code>[IsTakenTo] took self.old at ([chars] text.now)</code>
-    /// - `ensures`: <code>[IfOk] result (λ group. (opens group ≡ (delimiter, at)) × ((before : [Taken] Self.Opened)
-    ///   → took self.old before → [IsAt] before at ([chars] text.now) → took self.new ([past] before ([opening]
-    ///   delimiter) (group ∷ before.opened) ([Opens] delimiter at ∷ \[\]))))</code>
+    /// - `requires`: <code>[CanOpen] took self.old lexed delimiter</code>
+    /// - `ensures`: <code>[IfOk] result ([HasOpened] opens took self.old self.new lexed.entry delimiter)</code>
     ///
-    /// [List]: crate::contracts#std.List
-    /// [chars]: crate::contracts#std.chars
-    /// [opening]: crate::contracts#pm_stream.Delimited.opening
-    /// [length]: crate::contracts#std.length
-    /// [IsTakenTo]: crate::contracts#pm_stream.Taken.IsTakenTo
+    /// [CanOpen]: crate::contracts#pm_stream.Taken.CanOpen
     /// [IfOk]: crate::contracts#std.IfOk
-    /// [Taken]: crate::contracts#pm_stream.Taken.Taken
-    /// [IsAt]: crate::contracts#pm_stream.Taken.IsAt
-    /// [past]: crate::contracts#pm_stream.Taken.past
-    /// [Opens]: crate::contracts#pm_stream.Events.Opens
-    fn open(
-        &mut self,
-        delimiter: Delimiter,
-        text: &str,
-        at: u32,
-    ) -> Result<Self::Opened, AllocError>;
+    /// [HasOpened]: crate::contracts#pm_stream.Taken.HasOpened
+    fn open(&mut self, lexed: Lexed<'_>, delimiter: Delimiter) -> Result<Self::Opened, AllocError>;
 
-    /// Takes the closer of the innermost open group, the one character at the front of the text. A closer of no such
-    /// group is a fault, and isn't given to the sink.
+    /// Takes the closer of the innermost open group. A closer of no such group is a fault, and isn't given to the sink.
     ///
     /// # Contract
     ///
-    /// - `requires stands`: <code>(rest : [List] ℕ) × ([chars] text.now ≡ [closing] delimiter ++ rest)</code>
-    /// - `requires one`: <code>[length] ([closing] delimiter) ≡ 1</code>
-    /// - `requires room`: <code>at + 1 &lt; 2 ^ 32</code>
-    /// - `requires fits`: <code>(opens group).0 ≡ delimiter</code>
-    /// - `requires took`: <code>(before : [Taken] Self.Opened) × (outer : [List] Self.Opened) × took self.old
-    ///   before × [IsAt] before at ([chars] text.now) × (before.opened ≡ group ∷ outer)</code>
-    /// - `ensures`: <code>[OnOk] result ((before : [Taken] Self.Opened) (outer : [List] Self.Opened) → took
-    ///   self.old before → [IsAt] before at ([chars] text.now) → before.opened ≡ group ∷ outer → took self.new
-    ///   ([past] before ([closing] delimiter) outer ([Closes] delimiter (at + 1) ∷ \[\])))</code>
+    /// - `requires`: <code>[CanClose] opens took self.old lexed delimiter group</code>
+    /// - `ensures`: <code>[OnOk] result ([HasClosed] opens took self.old self.new lexed.entry delimiter
+    ///   group)</code>
     ///
-    /// [List]: crate::contracts#std.List
-    /// [chars]: crate::contracts#std.chars
-    /// [closing]: crate::contracts#pm_stream.Delimited.closing
-    /// [length]: crate::contracts#std.length
-    /// [Taken]: crate::contracts#pm_stream.Taken.Taken
-    /// [IsAt]: crate::contracts#pm_stream.Taken.IsAt
+    /// [CanClose]: crate::contracts#pm_stream.Taken.CanClose
     /// [OnOk]: crate::contracts#std.OnOk
-    /// [past]: crate::contracts#pm_stream.Taken.past
-    /// [Closes]: crate::contracts#pm_stream.Events.Closes
+    /// [HasClosed]: crate::contracts#pm_stream.Taken.HasClosed
     fn close(
         &mut self,
-        group: Self::Opened,
+        lexed: Lexed<'_>,
         delimiter: Delimiter,
-        text: &str,
-        at: u32,
+        group: Self::Opened,
     ) -> Result<(), AllocError>;
 }
 
@@ -291,7 +243,12 @@ pub fn walk<'t, S: TokenSink>(
     let mut at = base;
     // A flag for the first piece would take a register in all loops that this becomes part of.
     while let Some(piece) = piece_at(rest, rest.len() == text.len()) {
-        if !take(sink, &mut opened, piece, rest, at)? {
+        let lexed = Lexed {
+            piece,
+            text: rest,
+            at,
+        };
+        if !take(sink, &mut opened, lexed)? {
             return Ok(Ending {
                 rest,
                 at,
@@ -345,20 +302,17 @@ pub fn read<S: TokenSink>(
     end::<S>(ending.opened, ending.rest, ending.at)
 }
 
-/// Takes the piece at the front of the text, which begins at `at`, and answers whether it could: a closer that doesn't
-/// close the innermost open group isn't taken.
+/// Takes the piece, and answers whether it could: a closer that doesn't close the innermost open group isn't taken.
 #[cfg_attr(not(debug_assertions), inline(always))]
 fn take<S: TokenSink>(
     sink: &mut S,
     opened: &mut Vec<S::Opened>,
-    piece: Piece,
-    text: &str,
-    at: u32,
+    lexed: Lexed<'_>,
 ) -> Result<bool, AllocError>
 {
-    match piece.kind {
+    match lexed.piece.kind {
         PieceKind::Opener(c) => {
-            let group = sink.open(delimiter(c), text, at)?;
+            let group = sink.open(lexed, delimiter(c))?;
             opened.push_fallibly(group)?;
         }
         PieceKind::Closer(c) => {
@@ -366,13 +320,13 @@ fn take<S: TokenSink>(
             let Some(group) = innermost::<S>(opened, delimiter) else {
                 return Ok(false);
             };
-            sink.close(group, delimiter, text, at)?;
+            sink.close(lexed, delimiter, group)?;
         }
-        PieceKind::Doc { inner, text: said } => sink.doc(inner, said, piece, text, at)?,
-        PieceKind::Mark { joint, mark } => sink.mark(mark, joint, piece, text, at)?,
-        PieceKind::Name { raw, name } => sink.name(raw, name, piece, text, at)?,
-        PieceKind::Literal => sink.literal(piece, text, at)?,
-        PieceKind::FrontMark | PieceKind::Gap => sink.gap(piece, text, at),
+        PieceKind::Doc { inner, text } => sink.doc(lexed, inner, text)?,
+        PieceKind::Mark { joint, mark } => sink.mark(lexed, joint, mark)?,
+        PieceKind::Name { raw, name } => sink.name(lexed, raw, name)?,
+        PieceKind::Literal => sink.literal(lexed)?,
+        PieceKind::FrontMark | PieceKind::Gap => sink.gap(lexed),
     }
     Ok(true)
 }

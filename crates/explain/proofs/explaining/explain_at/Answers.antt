@@ -1,7 +1,5 @@
-use Rattle.std.proofs.Common.{subst}
-use Rattle.explain.specs.Open.{WaitsAs}
 use Rattle.explain.proofs.ExplainingLemmas.{left_answer, opened_by, read, read_at, read_whole, refused_explained}
-use Rattle.explain.proofs.ExplainingLemmas.{refuses_piece, stops_at, stops_there, stuck_explained}
+use Rattle.explain.proofs.ExplainingLemmas.{stops_at, stops_there, stuck_explained}
 use Rattle.explain.proofs.StandLemmas.{all_lost, all_reverse}
 use Rattle.explain.proofs.explaining.explain_at.Goals as goal
 
@@ -18,10 +16,7 @@ returns-in-Some c =
     let x = c.refused.result in
     let whole = read_whole _ _ _ _ _ _ h in
     let place = read_at _ _ _ _ _ _ h in
-    refused_explained _ _ _ _ _ _ h x c.in-Some.closer stop.0
-    (refuses_piece c.in-Some.closer.kind x.reason x.innermost x.outer.items h.groups
-    (subst (λ w. WaitsAs w x.innermost x.outer.items) h.around c.refused.ensures.open) c.refused.ensures.reason
-    (stop.1 h.groups h.around))
+    refused_explained _ _ _ _ _ _ h x c.in-Some.closer stop.0 (stop.1 h.groups h.around) c.refused.ensures.reason
     c.refused.ensures.open
     (all_lost _ _ x.innermost x.outer.items c.refused.ensures.kept (all_reverse _ _ all.takes.takes.stand))
     (c.refused.ensures.before _ (read _ _ _ _ _ _ h) whole place)

@@ -1,10 +1,14 @@
+use Rattle.std.proofs.Common.{subst}
+use Rattle.std.specs.List.{AllByRecursion}
 use Rattle.explain.specs.Explained.{IsOpenerOf}
-use Rattle.explain.proofs.StandLemmas.{all_closed}
 use Rattle.explain.proofs.explaining.OpenersTokenSink.close.Goals as goal
 
 pub returns : goal.returns
-returns c = λ before outer h e was. record {
-  text = h.text;
-  utf8 = h.utf8;
-  stand = all_closed (IsOpenerOf before.base before.source) c.args._opener outer before.opened was h.stand;
-}
+returns c = λ can.
+    let before = can.to.before in
+    let takes = can.to.takes in
+    record {
+      text = takes.text;
+      utf8 = takes.utf8;
+      stand = (subst (AllByRecursion (IsOpenerOf before.base before.source)) can.innermost takes.stand).1;
+    }

@@ -1,34 +1,10 @@
-use Rattle.std.proofs.Common.{◌+◌, [], ◌∷◌, length, sym, ap, ap₂, ◌∙◌, arith}
-use Rattle.std.specs.Str.{chars}
-use Rattle.lexical.specs.Found.{kind_of}
-use Rattle.lexical.specs.Token.{Mark}
-use Rattle.pm_stream.specs.Events.{events_onto}
-use Rattle.pm_stream.specs.Forest.{leaf, nil}
-use Rattle.pm_stream.specs.Places.{moved_past}
-use Rattle.pm_stream.specs.declared.placing.TreeKind.TheVariants.{Punct}
-use Rattle.pm_stream.proofs.PieceLemmas.{same_fronts}
-use Rattle.pm_stream.proofs.PlaceLemmas.{mark_moves, placed_room, placed_trees}
+use Rattle.std.proofs.Common.{◌∙◌}
+use Rattle.lexical.specs.declared.piece.PieceKind.TheVariants as pieces
+use Rattle.pm_stream.proofs.PlaceLemmas.{mark_line, placed_token}
 use Rattle.pm_stream.proofs.ReadingLemmas.{on_ok}
 use Rattle.pm_stream.proofs.placing.PlacerTokenSink.mark.Goals as goal
 
-pub along-requires : goal.along-requires
-along-requires c =
-    let took = c.requires.took in
-    omega (arith, (placed_room c.args.self.now took.0 took.1).1, took.2, c.requires.room)
-
 pub returns : goal.returns
 returns c =
-    let old = c.args.self.now in
-    let new = c.push.new.self in
-    let found = c.requires.stands.1 in
-    let text = chars c.args._text.now in
-    on_ok c.push.result (λ now before front rest h e whole size.
-    let same = same_fronts found.front front found.rest rest (sym found.whole ∙ whole) (sym found.chars ∙ size) in
-    let moved = now.0 ∙ (c.along.ensures ∙ (mark_moves _ text old.here c.args.piece c.args._joint c.args._mark found
-    c.requires.kind ∙ ap (moved_past old.here) same)) in
-    placed_trees old new before text front rest c.args._at h e whole moved
-    (record { start = old.here; end = c.along.result; kind = Punct } ∷ [])
-    (leaf (Mark c.args._mark c.args._joint) c.args._at (c.args._at + length front) nil) _
-    (ap (λ k. events_onto c.args._at (kind_of k front) front []) c.requires.kind) now.1
-    (λ place starts ends. ap₂ (λ s t. record { start = s; end = t; kind = Punct } ∷ []) starts (sym now.0 ∙ ends)))
-    c.push.ensures
+    on_ok c.push.result (λ now. placed_token c.args.lexed (pieces.Mark c.args._joint c.args._mark) tt
+    (λ is. now.0 ∙ c.along.ensures is (mark_line is _ _ c.requires.1)) now.1) c.push.ensures

@@ -1,11 +1,9 @@
-use Rattle.std.proofs.Common.{◌+◌, true, refl}
-use Rattle.pm_stream.specs.Events.{Closes}
+use Rattle.std.proofs.Common.{true, refl}
 use Rattle.pm_stream.specs.PrintedTree.{ending}
 use Rattle.pm_stream.proofs.ReprintLemmas.{prints_one}
 use Rattle.pm_stream.proofs.reprinting.PrinterTokenSink.close.Goals as goal
 
 pub returns : goal.returns
-returns c = λ before outer h e is.
-    prints_one c.args.self.now (record { draft = c.push_ending.new.draft; gap = true })
-    (Closes c.args.delimiter (c.args._at + 1)) (ending c.args.delimiter) c.in_ok-push_ending.ensures refl refl
-    before.events h
+returns c = λ can.
+    prints_one c.args.self.now (record { draft = c.push_ending.new.draft; gap = true }) _ (ending c.args.delimiter)
+    c.in_ok-push_ending.ensures refl refl can.to.before.events can.to.takes

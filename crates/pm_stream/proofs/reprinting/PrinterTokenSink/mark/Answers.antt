@@ -1,13 +1,8 @@
-use Rattle.std.proofs.Common.{◌+◌, ◌++◌, [], length, sym, subst}
-use Rattle.lexical.specs.Found.{kind_of}
-use Rattle.pm_stream.specs.Events.{events_onto}
-use Rattle.pm_stream.proofs.ReadingLemmas.{on_ok}
-use Rattle.pm_stream.specs.PrinterState.{Prints}
+use Rattle.std.proofs.Common.{refl}
+use Rattle.pm_stream.proofs.ReprintLemmas.{prints_one}
 use Rattle.pm_stream.proofs.reprinting.PrinterTokenSink.mark.Goals as goal
 
 pub returns : goal.returns
-returns c =
-    on_ok c.push_mark.result (λ step before front rest h e whole size.
-    let lo = c.args._at in
-    subst (λ k. Prints c.push_mark.new.self (before.events ++ events_onto lo (kind_of k front) front []))
-    (sym c.requires.kind) (step lo (lo + length front) before.events h)) c.push_mark.ensures.ok
+returns c = λ to.
+    prints_one c.args.self.now (record { draft = c.write_char.new.self.draft; gap = _ }) _ _
+    c.in_ok-write_char.ensures.ok refl refl to.before.events to.takes
