@@ -1,53 +1,61 @@
--- What was put into a buffer while its text is read: groups that stay open, and the trees of the innermost.
-use Rattle.std.specs.Prelude.{ℕ, ◌≡◌, List, [], ◌∷◌, ◌++◌, length, reverse}
-use Rattle.pm_stream.specs.Events.{Event}
-use Rattle.pm_stream.specs.Forest.{Forest}
-use Rattle.pm_stream.specs.OpenGroups.{Opened, unclosed_onto}
-use Rattle.token_buffer.specs.Held.{Holds}
+-- What was put into a buffer while its text is read.
+use Rattle.std.specs.Prelude.{ℕ, Bool, true, false, ◌≡◌, ◌<◌, ◌^◌, List, [], ◌∷◌, ◌++◌, length}
+use Rattle.std.specs.Str.{chars, IsUtf8}
+use Rattle.pm_token.specs.declared.delimiters.Delimiter.TheVariants.{Bracket}
+use Rattle.pm_stream.specs.Taken.{Taken}
+use Rattle.token_buffer.specs.Entries.{events_of}
+use Rattle.token_buffer.specs.Left.{HoldsOwn}
 use Rattle.token_buffer.specs.declared.entry.Entry.{Entry}
 use Rattle.token_buffer.specs.declared.entry.Entry.TheVariants as entries
-use Rattle.token_buffer.specs.declared.filling.OpenGroup.{OpenGroup}
 use Rattle.token_buffer.specs.declared.filling.Filling.{Filling}
+use Rattle.token_buffer.specs.declared.filling.OpenGroup.{OpenGroup}
 
--- the entries are those before the opener of the group, the opener, which says nothing yet of what is inside, and the
--- entries of its trees
-pub record IsInnermost (text : List ℕ) (frame : OpenGroup) (group : Opened) (trees : Forest)
-    (all before inner : List Entry) : Type 0 where
+-- the entries are the tokens of trees, if they are few enough that each count is right
+abbrev pub AreTrees : List ℕ → List Entry → Type 0
+AreTrees text all = length all < 2 ^ 32 → HoldsOwn text all
+
+-- the entries are some before the group, its opener, which has no count yet, and those of the trees inside
+pub record IsInnermost (text : List ℕ) (group : OpenGroup) (all before inner : List Entry) : Type 0 where
   pub whole : all ≡ before ++ (entries.Open group.delimiter group.lo 0 ∷ inner)
-  pub delimiter : frame.delimiter ≡ group.delimiter
-  pub lo : frame.lo ≡ group.lo
-  pub index : frame.index ≡ length before
-  pub holds : Holds text inner trees
+  pub index : group.index ≡ length before
+  pub trees : AreTrees text inner
 
--- the entries are those of the open groups, the innermost first, and of its trees
-abbrev pub AreEntries : List ℕ → List OpenGroup → List Opened → List Entry → Forest → Type 0
-AreEntries text [] [] all trees = Holds text all trees
-AreEntries text [] (group ∷ groups) all trees = ⊥
-AreEntries text (frame ∷ frames) [] all trees = ⊥
-AreEntries text (frame ∷ frames) (group ∷ groups) all trees =
-    (before : List Entry) × (inner : List Entry) × IsInnermost text frame group trees all before inner
-    × AreEntries text frames groups before group.outer
+-- the entries are those of trees and of the open groups among them, the innermost first
+abbrev pub AreEntries : List ℕ → List OpenGroup → List Entry → Type 0
+AreEntries text [] all = AreTrees text all
+AreEntries text (group ∷ groups) all =
+    (before : List Entry) × (inner : List Entry) × IsInnermost text group all before inner
+    × AreEntries text groups before
 
--- these open groups and trees were put into the buffer
-abbrev pub Fills : List ℕ → Filling → List Opened → Forest → Type 0
-Fills text filling groups trees = AreEntries text (reverse filling.groups.items) groups filling.entries.items trees
+-- these are the entries of what was taken of the text
+pub record HasEntries (text : List ℕ) (all : List Entry) (taken : Taken OpenGroup) : Type 0 where
+  pub source : taken.source ≡ chars text
+  pub utf8 : IsUtf8 text
+  pub bytes : length text < 2 ^ 32
+  pub entries : AreEntries text taken.opened all
+  pub events : events_of text all ≡ taken.events
 
--- and then more, with these events
-pub record FillsMore (text : List ℕ) (filling : Filling) (groups : List Opened) (trees : Forest)
-    (events : List Event) : Type 0 where
-  pub groups_now : List Opened
-  pub trees_now : Forest
-  pub fills : Fills text filling groups_now trees_now
-  pub grows : unclosed_onto groups_now trees_now [] ≡ unclosed_onto groups trees events
+-- the buffer has the entries of what was taken
+abbrev pub Fills : Filling → Taken OpenGroup → Type 0
+Fills filling taken = HasEntries filling.text.now filling.entries.items taken
 
--- the step put the tokens and delimiters of these events into the buffer
-abbrev pub FillsEvents : List ℕ → Filling → Filling → List Event → Type 0
-FillsEvents text old new events = (groups : List Opened) (trees : Forest) → Fills text old groups trees
-    → FillsMore text new groups trees events
+-- the step put in these entries, and no others
+pub record Puts (old new : Filling) (more : List Entry) : Type 0 where
+  pub text : new.text ≡ old.text
+  pub entries : new.entries.items ≡ old.entries.items ++ more
 
--- some open groups and trees were put into the buffer
-pub record IsFilling (filling : Filling) : Type 0 where
-  pub text : List ℕ
-  pub groups : List Opened
-  pub trees : Forest
-  pub fills : Fills text filling groups trees
+-- the entries of the group `[doc = ..]`, with that of its text
+abbrev pub doc_group_entries : Entry → ℕ → ℕ → List Entry
+doc_group_entries text at end =
+    entries.Open Bracket at 3
+    ∷ entries.DocName at end
+    ∷ entries.Mark false 61 at end
+    ∷ text
+    ∷ entries.Close Bracket end
+    ∷ []
+
+-- the entries of a doc comment: the mark `#`, the mark `!` if it is inner, and the group
+abbrev pub doc_entries : Bool → Entry → ℕ → ℕ → List Entry
+doc_entries true text at end =
+    entries.Mark false 35 at end ∷ entries.Mark false 33 at end ∷ doc_group_entries text at end
+doc_entries false text at end = entries.Mark false 35 at end ∷ doc_group_entries text at end

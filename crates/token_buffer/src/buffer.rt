@@ -3,7 +3,6 @@ ghost use Rattle.std.specs.Prelude.{◌≡◌, ◌≤◌, ◌+◌, ◌<◌, ◌^
 ghost use Rattle.std.specs.Str.{chars};
 ghost use Rattle.pm_span.specs.Files.{Fits, new_map, next_lo};
 ghost use Rattle.pm_token.specs.Outcome.{IfLex};
-ghost use Rattle.pm_stream.specs.Fault.{IsFault};
 ghost use Rattle.pm_stream.specs.Forest.{flattening};
 ghost use Rattle.pm_stream.specs.Parsing.{FaultAt, HasNoFault, IsOnlyFault, ParsesTo};
 ghost use Rattle.token_buffer.specs.Reads.{left};
@@ -14,8 +13,8 @@ use crate::cursor::Cursor;
 use crate::entry::Entry;
 use crate::errors::BufferError;
 use crate::filling::Filling;
-use lexical::{past_white, piece_at};
 use pm_span::parts::fits_new;
+use pm_stream::reading::read;
 use pm_token::ParseError;
 use std::alloc::Global;
 use std::marker::Model;
@@ -54,9 +53,9 @@ impl<'a> TokenBuffer<'a> {
     /// The tokens of a text: those of the stream that it parses to (`parses-to`).
     ///
     /// Positions, and faults, are those of a new map, where the text begins at 1, as `TokenStream::parse_unmapped` has
-    /// them. `TooLong` is answered of a text with more than 4294967295 bytes, and of one with more tokens, each end of
-    /// a group counted as one; of a shorter one `Parse(MapFull)` exactly where it has too many characters for a new map
-    /// (`fits`).
+    /// them. `TooLong` is answered of a text with more than 4294967295 bytes, and of one without a fault that has more
+    /// tokens, each end of a group counted as one; of a shorter one `Parse(MapFull)` exactly where it has too many
+    /// characters for a new map (`fits`).
     ///
     /// `a += (b)` has the identifier `a`, the marks `+` and `=`, and the group of `b`.
     pub fn new(alloc: Global, text: &'a str) -> Result<TokenBuffer<'a>, BufferError>
@@ -78,7 +77,17 @@ impl<'a> TokenBuffer<'a> {
         let Some(lo) = fits_new(text) else {
             return Err(BufferError::Parse(ParseError::MapFull));
         };
-        buffer_at(alloc, lo, text)
+        let mut filling = Filling {
+            text,
+            // A token of code has some four bytes, with the white characters after it.
+            entries: Vec::with_capacity(alloc, text.len() / 4)?,
+        };
+        read(alloc, lo, text, &mut filling)?;
+        let Filling { text, entries } = filling;
+        if entries.len() > u32::MAX as usize {
+            return Err(BufferError::TooLong);
+        }
+        Ok(TokenBuffer { text, entries })
     }
 
     /// A cursor over all its trees.
@@ -87,31 +96,4 @@ impl<'a> TokenBuffer<'a> {
     {
         Cursor::over(self.text, self.entries.as_slice())
     }
-}
-
-/// The tokens of a text that begins at the position `base`.
-fn buffer_at(alloc: Global, base: u32, text: &str) -> Result<TokenBuffer<'_>, BufferError>
-    requires bytes { length text.now < 2 ^ 32 }
-    requires room { base + length (chars text.now) < 2 ^ 32 }
-    ensures ok { IfOk result (λ buffer. ParsesTo base (chars text.now) buffer) }
-    ensures lex { IfErr result (λ error. IfParse error (IsFault base (chars text.now))) }
-    ensures few { IfOk result (λ buffer. length (flattening buffer) < 2 ^ 32) }
-    ensures many { IfErr result (λ error. IfTooLong error (HasManyTokens base (chars text.now))) }
-{
-    let mut filling = Filling::with_room(alloc, text.len())?;
-    let mut rest = text;
-    let mut at = base;
-    let mut first = true;
-    while let Some(piece) = piece_at(rest, first) {
-        let lo = (text.len() - rest.len()) as u32;
-        filling.take(piece, lo, at)?;
-        let tail = &rest[piece.bytes..];
-        // White characters are gaps, which are no tokens, and are passed over all at once.
-        let (after, white) = past_white(tail);
-        rest = after;
-        at += (piece.chars + white) as u32;
-        first = false;
-    }
-    let entries = filling.end(rest, at)?;
-    Ok(TokenBuffer { text, entries })
 }

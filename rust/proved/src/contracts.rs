@@ -405,7 +405,6 @@
 //! - <a id="lexical.Class.is_white"></a>**is_white**: `white`: white space, and the two marks of direction
 //! - <a id="lexical.Mark.joint_before"></a>**joint_before**: `joint`: whether a mark before r is Joint, as a
 //!   mark follows that begins no comment
-//! - <a id="lexical.Found.kind_of"></a>**kind_of**: the kind of the piece p that the lexer calls so
 //! - <a id="lexical.Quoted.letters"></a>**letters**: the letters that are an escape by themselves after a
 //!   backslash, in strings of this kind
 //! - <a id="lexical.Literal.literal"></a>**literal**: `literal`: the rule of one between quotes, or of a number
@@ -559,14 +558,10 @@
 //!   literal, and `]`
 //! - <a id="pm_stream.Fault.IsFault"></a>**IsFault**: the one fault of a source, by an empty span, or want of
 //!   memory
-//! - <a id="pm_stream.Fault.IsFaultFor"></a>**IsFaultFor**: a fault at the position, for this reason, or want
-//!   of memory where there is no such reason
 //! - <a id="pm_stream.Taken.IsLexed"></a>**IsLexed**: the piece stands at the front of the text, and after it
 //!   there is room for positions
 //! - <a id="pm_stream.Parsing.IsOnlyFault"></a>**IsOnlyFault**: the source doesn't parse, and no other position
 //!   is a fault
-//! - <a id="pm_stream.Fault.IsOpenFault"></a>**IsOpenFault**: a fault where the innermost of the open groups
-//!   begins, or want of memory where none is open
 //! - <a id="pm_stream.Fault.IsStray"></a>**IsStray**: the piece is a closer that doesn't close the innermost of
 //!   the groups
 //! - <a id="pm_stream.WellSpaced.IsWellSpaced"></a>**IsWellSpaced**: `well-spaced`: spacings fit what follows
@@ -592,8 +587,6 @@
 //!   group, or nothing where the group has none
 //! - <a id="pm_stream.DocGroup.doc_of"></a>**doc_of**: the literal of the group of a doc comment, `[doc =
 //!   ".."]`
-//! - <a id="pm_stream.Events.events_onto"></a>**events_onto**: what a piece at a position gives, before other
-//!   events
 //! - <a id="pm_stream.TreeSpan.extent_of"></a>**extent_of**: the span of a tree
 //! - <a id="pm_stream.WellSpaced.fits"></a>**fits**: the token may be there, by the next tree of its list where
 //!   that is a token. `'` is always Joint
@@ -838,19 +831,12 @@
 //!   cursor has
 //! - <a id="token_buffer.Reads.BeginsWithGroup"></a>**BeginsWithGroup**: the group of what the second cursor
 //!   has comes first, and then what the last one has
-//! - <a id="token_buffer.Filled.Fills"></a>**Fills**: these open groups and trees were put into the buffer
-//! - <a id="token_buffer.Filled.FillsEvents"></a>**FillsEvents**: the step put the tokens and delimiters of
-//!   these events into the buffer
 //! - <a id="token_buffer.Many.HasManyTokens"></a>**HasManyTokens**: pieces cover the source up to where the
 //!   rest begins, and give too many events
-//! - <a id="token_buffer.Held.Holds"></a>**Holds**: the entries are the trees' tokens, say how many entries are
-//!   in each group, and may be cut from the text
 //! - <a id="token_buffer.Refused.IfParse"></a>**IfParse**: if the error is that the text doesn't parse, this
 //!   holds of the reason
 //! - <a id="token_buffer.Refused.IfTooLong"></a>**IfTooLong**: if the error is that the text has too many bytes
 //!   or tokens, this holds
-//! - <a id="token_buffer.Filled.IsFilling"></a>**IsFilling**: some open groups and trees were put into the
-//!   buffer
 //! - <a id="token_buffer.Entries.IsWithin"></a>**IsWithin**: what the entry says may be cut from the text, and
 //!   its token ends at a position that a span may have
 //! - <a id="token_buffer.Arguments.after_arguments"></a>**after_arguments**: what is left after the generic
