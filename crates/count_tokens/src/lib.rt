@@ -1,0 +1,113 @@
+//! How many tokens of each kind a text has: an example of a reader of one's own.
+//!
+//! The loop over a text's tokens is [`read`], and what it gives them to is a [`TokenSink`], here [`Counts`].
+#![tactic(auto)]
+
+ghost use Rattle.std.specs.Prelude.{◌≡◌, ◌↔◌, Err, IfErr, IfOk, length};
+ghost use Rattle.std.specs.Str.{chars};
+ghost use Rattle.pm_span.specs.Files.{Fits, new_map, next_lo};
+ghost use Rattle.pm_token.specs.Outcome.{IfLex};
+ghost use Rattle.pm_stream.specs.Forest.{Forest, flattening};
+ghost use Rattle.pm_stream.specs.Parsing.{FaultAt, ParsesTo};
+ghost use Rattle.count_tokens.specs.Counted.{Counted, counts_of};
+
+use pm_span::parts::fits_new;
+use pm_stream::reading::{Lexed, TokenSink, read};
+use pm_token::{Delimiter, ParseError};
+use std::alloc::{AllocError, Global};
+
+#[cfg(test)]
+mod tests;
+
+/// How many tokens of each kind a text has. A doc comment counts as the tokens that it stands for.
+#[derive(Clone, Copy, Debug, PartialEq)]
+pub struct Counts {
+    /// Identifiers, and the names of lifetimes.
+    pub names: u64,
+    /// Punctuation marks.
+    pub marks: u64,
+    /// Literals.
+    pub literals: u64,
+    /// Groups.
+    pub groups: u64,
+}
+
+/// How many tokens of each kind a text has, if it parses.
+///
+/// `Lex` has the position of the text's fault (`fault`), counted as in a new map. `MapFull` is answered exactly where
+/// the text doesn't fit a new map (`fits`).
+///
+/// Of `f(1) // a` the counts are one name, no mark, one literal and one group.
+pub fn count_tokens(alloc: Global, text: &str) -> Result<Counts, ParseError>
+    ensures ok { IfOk result (λ counts. (stream : Forest) × ParsesTo (next_lo new_map) (chars text.now) stream
+        × (counts ≡ counts_of (flattening stream))) }
+    ensures lex { IfErr result (λ error. IfLex error (λ fault.
+        FaultAt (next_lo new_map) (chars text.now) fault.lo)) }
+    ensures map_full { (result ≡ Err ParseError.MapFull) ↔ (Fits new_map (length (chars text.now)) → ⊥) }
+{
+    let Some(lo) = fits_new(text) else {
+        return Err(ParseError::MapFull);
+    };
+    let mut counts = Counts {
+        names: 0,
+        marks: 0,
+        literals: 0,
+        groups: 0,
+    };
+    read(alloc, lo, text, &mut counts)?;
+    Ok(counts)
+}
+
+impl TokenSink for Counts {
+    type Opened = (Delimiter, u32);
+
+    ghost opens = { λ group. group };
+
+    ghost took = { λ counts taken. Counted counts taken };
+
+    fn opener(group: &Self::Opened) -> (Delimiter, u32) {
+        *group
+    }
+
+    fn mark(&mut self, _lexed: Lexed<'_>, _joint: bool, _mark: char) -> Result<(), AllocError> {
+        self.marks += 1;
+        Ok(())
+    }
+
+    fn name(&mut self, _lexed: Lexed<'_>, _raw: bool, _name: &str) -> Result<(), AllocError> {
+        self.names += 1;
+        Ok(())
+    }
+
+    fn literal(&mut self, _lexed: Lexed<'_>) -> Result<(), AllocError> {
+        self.literals += 1;
+        Ok(())
+    }
+
+    fn doc(&mut self, _lexed: Lexed<'_>, inner: bool, _said: &str) -> Result<(), AllocError> {
+        // `#[doc = ".."]`, or `#![doc = ".."]`.
+        self.marks += if inner { 3 } else { 2 };
+        self.groups += 1;
+        self.names += 1;
+        self.literals += 1;
+        Ok(())
+    }
+
+    fn gap(&mut self, _lexed: Lexed<'_>) {}
+
+    fn white(&mut self, _text: &str, _size: usize) {}
+
+    fn open(&mut self, lexed: Lexed<'_>, delimiter: Delimiter) -> Result<Self::Opened, AllocError> {
+        self.groups += 1;
+        Ok((delimiter, lexed.at))
+    }
+
+    fn close(
+        &mut self,
+        _lexed: Lexed<'_>,
+        _delimiter: Delimiter,
+        _group: Self::Opened,
+    ) -> Result<(), AllocError> {
+        Ok(())
+    }
+}
