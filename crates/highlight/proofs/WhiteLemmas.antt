@@ -1,15 +1,19 @@
--- Runs of white characters of ASCII, each of them a gap that stands bare.
-use Rattle.std.proofs.Common.{◌≡◌, ◌∙◌, ◌==◌, ℕ, Bool, true, false, List, [], ◌∷◌, ◌++◌, ◌&&◌, ap, arith, length}
-use Rattle.std.proofs.Common.{Option, append-nil, append_assoc, encode_utf8, inl, refl, subst, sym}
+-- Runs of white characters, each of them a gap that stands bare.
+use Rattle.std.proofs.Common.{◌≡◌, ◌∙◌, ◌==◌, ◌≤◌, ℕ, Bool, true, false, List, [], ◌∷◌, ◌++◌, ◌&&◌, ap, ap₂, inl, inr}
+use Rattle.std.proofs.Common.{Option, None, Some, append-nil, append_assoc, arith, encode_utf8, length, refl, subst}
+use Rattle.std.proofs.Common.{sym}
 use Rattle.std.specs.List.{list_all}
-use Rattle.std.specs.Str.{chars, encode_utf8_all}
-use Rattle.std.proofs.lemmas.Bool.{and_parts, both_ways, eqb-true, false_from_ne_true, ltb-true, ne_eqb}
-use Rattle.std.proofs.lemmas.Str.{encode_ascii}
+use Rattle.std.specs.Str.{chars, encode_utf8_all, IsUtf8}
+use Rattle.std.proofs.lemmas.Bool.{and_parts, both_ways, cases_lt, ne_eqb}
+use Rattle.std.proofs.lemmas.Str.{encode_ascii, encodes-chars}
 use Rattle.lexical.specs.Class.{is_white}
-use Rattle.lexical.specs.Piece.{Gap, Piece}
-use Rattle.lexical.specs.Walk.{PassesWhite}
-use Rattle.lexical.specs.WhiteRun.{ascii_white}
+use Rattle.lexical.specs.Piece.{Piece}
+use Rattle.lexical.specs.Walk.{IsSpaced}
+use Rattle.lexical.specs.declared.walk.Spaced.{Spaced}
 use Rattle.lexical.specs.declared.walk.PieceWalk.{PieceWalk}
+use Rattle.lexical.specs.declared.walk.PlacedPiece.{PlacedPiece}
+use Rattle.lexical.proofs.TextLemmas.{first_byte}
+use Rattle.lexical.proofs.SpacedLemmas.{gaps, next_there, no_longer, none_passed, none_there, piece_of, still}
 use Rattle.highlight.specs.Delimiters.{Waiting, delimiter_styles}
 use Rattle.highlight.specs.Mark.{Styled}
 use Rattle.highlight.specs.Page.{escaped, line_past, marked_piece, marked_pieces}
@@ -21,43 +25,48 @@ use Rattle.highlight.specs.declared.format.Format.TheVariants.{Html, Term}
 use Rattle.highlight.specs.declared.style.Style.{Style}
 use Rattle.highlight.specs.declared.style.Style.TheVariants.{Bare}
 use Rattle.highlight.proofs.EscapeLemmas.{escaped-append, line_after-append}
-
--- the pieces of a run
-abbrev pub gaps : List ℕ → List Piece
-gaps [] = []
-gaps (c ∷ white) = (Gap, c ∷ []) ∷ gaps white
-
--- what holds as long as nothing is passed holds after an empty run, and after no other
-still : (b : Bool) → (b && true) ≡ b
-still true = refl
-still false = refl
-
-no_longer : (b : Bool) (c : ℕ) (white : List ℕ) → (b && (length (c ∷ white) == 0)) ≡ false
-no_longer true c white =
-    false_from_ne_true _ (λ e. let clash : length (c ∷ white) ≡ 0 = eqb-true _ 0 e in omega arith)
-no_longer false c white = refl
+use Rattle.highlight.proofs.PieceLemmas.{all_from}
 
 -- ---- they come first of all pieces
 
-gaps_first : (first : Bool) (white after : List ℕ) (more : List Piece) (rest : List ℕ)
-    → list_all ascii_white white ≡ true → AreAllPieces (first && (length white == 0)) after more rest
+gaps_first : (first : Bool) (white after : List ℕ) (more : List Piece) (rest : List ℕ) → list_all is_white white ≡ true
+    → AreAllPieces (first && (length white == 0)) after more rest
     → AreAllPieces first (white ++ after) (gaps white ++ more) rest
 gaps_first first [] after more rest each are = subst (λ b. AreAllPieces b after more rest) (still first) are
 gaps_first first (c ∷ white) after more rest each are =
     let parts = and_parts _ _ each in (
       white ++ after,
       refl,
-      inl (c, refl, (and_parts _ _ parts.0).1),
+      inl (c, refl, parts.0),
       gaps_first false white after more rest parts.1
           (subst (λ b. AreAllPieces b after more rest) (no_longer first c white) are),
     )
 
-pub all_past : (at : PieceWalk) (white : List ℕ) (to : PieceWalk) (more : List Piece) (rest : List ℕ)
-    → PassesWhite at white to → AreAllPieces to.at_front (chars to.rest.now) more rest
-    → AreAllPieces at.at_front (chars at.rest.now) (gaps white ++ more) rest
-all_past at white to more rest passes are =
-    rw passes.whole (gaps_first at.at_front white (chars to.rest.now) more rest passes.stands.each
-    (subst (λ b. AreAllPieces b (chars to.rest.now) more rest) passes.behind are))
+all_white : (at : PieceWalk) (next : Spaced) (to : PieceWalk) (is : IsSpaced at next to) (more : List Piece)
+    (rest : List ℕ) → AreAllPieces is.here.at_front (chars is.here.rest.now) more rest
+    → AreAllPieces at.at_front (chars at.rest.now) (gaps (chars next.white.now) ++ more) rest
+all_white at next to is more rest are =
+    let white = next.white.now in
+    let splits = is.passes.splits in
+    let front = is.passes.behind ∙ ap (λ none. at.at_front && none) (none_passed white splits.white_utf8) in
+    rw splits.whole (gaps_first at.at_front (chars white) (chars is.here.rest.now) more rest splits.stands.each
+    (subst (λ b. AreAllPieces b (chars is.here.rest.now) more rest) front are))
+
+-- and a piece after them
+pub all_past : (at : PieceWalk) (next : Spaced) (to : PieceWalk) (is : IsSpaced at next to) (piece : PlacedPiece)
+    → next.piece ≡ Some piece → (more : List Piece) (rest : List ℕ)
+    → AreAllPieces to.at_front (chars to.rest.now) more rest
+    → AreAllPieces at.at_front (chars at.rest.now) (gaps (chars next.white.now) ++ (piece_of piece ∷ more)) rest
+all_past at next to is piece some more rest are =
+    all_white at next to is (piece_of piece ∷ more) rest
+    (all_from is.here piece to more rest (next_there at next to is piece some) are)
+
+-- or none, where the rest begins
+pub all_end : (at : PieceWalk) (next : Spaced) (to : PieceWalk) → IsSpaced at next to → next.piece ≡ None
+    → AreAllPieces at.at_front (chars at.rest.now) (gaps (chars next.white.now) ++ []) (chars next.rest.now)
+all_end at next to is none =
+    subst (λ r. AreAllPieces at.at_front (chars at.rest.now) (gaps (chars next.white.now) ++ []) (chars r))
+    (sym is.rest) (all_white at next to is [] (chars is.here.rest.now) (refl, none_there at next to is none))
 
 -- ---- no delimiter stands among them
 
@@ -69,27 +78,44 @@ styles_past_gaps whole styles waiting (c ∷ white) more = styles_past_gaps whol
 
 -- ---- they stand bare
 
-no_slash : (c : ℕ) → is_white c ≡ true → gap_style (c ∷ []) ≡ Bare
-no_slash c white =
-    rw (ne_eqb c 47 (λ e. both_ways (is_white 47) refl (subst (λ x. is_white x ≡ true) e white))) refl
+no_slash : (c : ℕ) → is_white c ≡ true → gap_style (encode_utf8_all (c ∷ [])) ≡ Bare
+no_slash c white = elim (cases_lt c 128) [
+  | inl low ↦
+      rw (
+        encode_ascii c low,
+        ne_eqb c 47 (λ e. both_ways (is_white 47) refl (subst (λ x. is_white x ≡ true) e white)),
+      ) refl
+  | inr past ↦ let cell = first_byte c past in rw (cell.2, ne_eqb cell.0 47 (λ e. omega (arith, e, cell.3))) refl
+]
 
-bare_one : (format : Format) (line c : ℕ) (white : List ℕ) → marked_piece format line (Styled Bare, c ∷ white)
-    ≡ marked_piece format line (Styled Bare, c ∷ []) ++ marked_piece format (line_past format line (c ∷ []))
-    (Styled Bare, white)
-bare_one Html line c [] = sym (append-nil (escaped line (c ∷ [])))
-bare_one Html line c (d ∷ white) = escaped-append line (c ∷ []) (d ∷ white)
-bare_one Term line c [] = refl
-bare_one Term line c (d ∷ white) = refl
+-- what is bare is written without a mark, whatever stands in it
+bare_text : (line : ℕ) (text : List ℕ) → marked_piece Html line (Styled Bare, text) ≡ escaped line text
+bare_text line [] = refl
+bare_text line (c ∷ text) = refl
 
-line_past_one : (format : Format) (line c : ℕ) (white : List ℕ)
-    → line_past format line (c ∷ white) ≡ line_past format (line_past format line (c ∷ [])) white
-line_past_one Html line c white = line_after-append line (c ∷ []) white
-line_past_one Term line c white = refl
+bare_term : (line : ℕ) (text : List ℕ) → marked_piece Term line (Styled Bare, text) ≡ text
+bare_term line [] = refl
+bare_term line (c ∷ text) = refl
+
+bare-append : (format : Format) (line : ℕ) (text more : List ℕ) → marked_piece format line (Styled Bare, text ++ more)
+    ≡ marked_piece format line (Styled Bare, text)
+    ++ marked_piece format (line_past format line text) (Styled Bare, more)
+bare-append Html line text more =
+    bare_text line (text ++ more) ∙ (escaped-append line text more
+    ∙ sym (ap₂ (λ a b. a ++ b) (bare_text line text) (bare_text (line_past Html line text) more)))
+bare-append Term line text more =
+    bare_term line (text ++ more) ∙ sym (ap₂ (λ a b. a ++ b) (bare_term line text) (bare_term line more))
+
+line_past-append : (format : Format) (line : ℕ) (text more : List ℕ)
+    → line_past format line (text ++ more) ≡ line_past format (line_past format line text) more
+line_past-append Html line text more = line_after-append line text more
+line_past-append Term line text more = refl
 
 shown_gaps : (format : Format) (line : ℕ) (answer : Option Explained) (delimiters : List Style) (quote : Bool)
-    (white : List ℕ) (more : List Piece) (rest : List ℕ) → list_all ascii_white white ≡ true
+    (white : List ℕ) (more : List Piece) (rest : List ℕ) → list_all is_white white ≡ true
     → marked_pieces format line (shown_from answer delimiters quote (gaps white ++ more) rest)
-    ≡ marked_piece format line (Styled Bare, white) ++ marked_pieces format (line_past format line white)
+    ≡ marked_piece format line (Styled Bare, encode_utf8_all white)
+    ++ marked_pieces format (line_past format line (encode_utf8_all white))
     (shown_from answer delimiters (quote && (length white == 0)) more rest)
 shown_gaps Html line answer delimiters quote [] more rest each =
     ap (λ q. marked_pieces Html line (shown_from answer delimiters q more rest)) (sym (still quote))
@@ -97,35 +123,40 @@ shown_gaps Term line answer delimiters quote [] more rest each =
     ap (λ q. marked_pieces Term line (shown_from answer delimiters q more rest)) (sym (still quote))
 shown_gaps format line answer delimiters quote (c ∷ white) more rest each =
     let parts = and_parts _ _ each in
-    let ascii = and_parts _ _ parts.0 in
-    let one : encode_utf8_all (c ∷ []) ≡ c ∷ [] =
-    append-nil (encode_utf8 c) ∙ encode_ascii c (ltb-true c 128 ascii.0) in
-    let next = line_past format line (c ∷ []) in
-    let end = marked_pieces format (line_past format line (c ∷ white)) (shown_from answer delimiters false more rest) in
+    let one : encode_utf8_all (c ∷ []) ≡ encode_utf8 c = append-nil (encode_utf8 c) in
+    let next = line_past format line (encode_utf8 c) in
+    let all = encode_utf8_all (c ∷ white) in
+    let end = marked_pieces format (line_past format line all) (shown_from answer delimiters false more rest) in
     let front : marked_pieces format line (shown_from answer delimiters quote (gaps (c ∷ white) ++ more) rest)
-    ≡ marked_piece format line (Styled Bare, c ∷ [])
+    ≡ marked_piece format line (Styled Bare, encode_utf8 c)
     ++ marked_pieces format next (shown_from answer delimiters false (gaps white ++ more) rest) =
-    rw (one, no_slash c ascii.1) refl in
+    rw (no_slash c parts.0, one) refl in
     front
-    ∙ ap (λ l. marked_piece format line (Styled Bare, c ∷ []) ++ l)
+    ∙ (ap (λ l. marked_piece format line (Styled Bare, encode_utf8 c) ++ l)
     (shown_gaps format next answer delimiters false white more rest parts.1
-    ∙ ap (λ n. marked_piece format next (Styled Bare, white)
-    ++ marked_pieces format n (shown_from answer delimiters false more rest)) (sym (line_past_one format line c white)))
-    ∙ sym (append_assoc (marked_piece format line (Styled Bare, c ∷ [])) (marked_piece format next (Styled Bare, white))
-    end)
-    ∙ ap (λ l. l ++ end) (sym (bare_one format line c white))
-    ∙ ap (λ q. marked_piece format line (Styled Bare, c ∷ white) ++ marked_pieces format
-    (line_past format line (c ∷ white)) (shown_from answer delimiters q more rest)) (sym (no_longer quote c white))
+    ∙ ap (λ n. marked_piece format next (Styled Bare, encode_utf8_all white)
+    ++ marked_pieces format n (shown_from answer delimiters false more rest))
+    (sym (line_past-append format line (encode_utf8 c) (encode_utf8_all white))))
+    ∙ (sym (append_assoc (marked_piece format line (Styled Bare, encode_utf8 c))
+    (marked_piece format next (Styled Bare, encode_utf8_all white)) end)
+    ∙ (ap (λ l. l ++ end) (sym (bare-append format line (encode_utf8 c) (encode_utf8_all white)))
+    ∙ ap (λ q. marked_piece format line (Styled Bare, all) ++ marked_pieces format
+    (line_past format line all) (shown_from answer delimiters q more rest)) (sym (no_longer quote c white)))))
 
 pub marked_white : (format given : Format) (answer : Option Explained) (line next : ℕ) (before out whole : List ℕ)
-    (delimiters left : List Style) (quote quoted : Bool) (at : PieceWalk) (white : List ℕ) (to : PieceWalk)
-    (more : List Piece) (rest : List ℕ)
-    → PassesWhite at white to → given ≡ format → left ≡ delimiters → quoted ≡ (quote && (length white == 0))
+    (delimiters : List Style) (quote : Bool) (white : List ℕ) (more : List Piece) (rest : List ℕ)
+    → IsUtf8 white → list_all is_white (chars white) ≡ true → given ≡ format
     → out ≡ before ++ marked_piece given line (Styled Bare, white) → next ≡ line_past given line white
-    → before ++ marked_pieces format line (shown_from answer delimiters quote (gaps white ++ more) rest) ≡ whole
-    → out ++ marked_pieces format next (shown_from answer left quoted more rest) ≡ whole
-marked_white format given answer line next before out whole delimiters left quote quoted at white to more rest passes
-    same lefts quotes is moved all =
-    rw (is, moved, lefts, quotes, same) (append_assoc before (marked_piece format line (Styled Bare, white)) _
-    ∙ ap (λ l. before ++ l)
-    (sym (shown_gaps format line answer delimiters quote white more rest passes.stands.each)) ∙ all)
+    → before ++ marked_pieces format line (shown_from answer delimiters quote (gaps (chars white) ++ more) rest) ≡ whole
+    → out ++ marked_pieces format next (shown_from answer delimiters (quote && (length white == 0)) more rest) ≡ whole
+marked_white format given answer line next before out whole delimiters quote white more rest utf8 each same is moved
+    all =
+    let run : marked_pieces format line (shown_from answer delimiters quote (gaps (chars white) ++ more) rest)
+    ≡ marked_piece format line (Styled Bare, white) ++ marked_pieces format (line_past format line white)
+    (shown_from answer delimiters (quote && (length white == 0)) more rest) =
+    shown_gaps format line answer delimiters quote (chars white) more rest each
+    ∙ ap₂ (λ text none. marked_piece format line (Styled Bare, text) ++ marked_pieces format
+    (line_past format line text) (shown_from answer delimiters (quote && none) more rest))
+    (encodes-chars white utf8) (sym (none_passed white utf8)) in
+    rw (is, moved, same) (append_assoc before (marked_piece format line (Styled Bare, white)) _
+    ∙ (ap (λ l. before ++ l) (sym run) ∙ all))

@@ -1,16 +1,13 @@
 //! A text with its pieces marked.
-ghost use Rattle.std.specs.Prelude.{◌≡◌, ◌==◌, ◌++◌, ◌&&◌, IfOk, List, MatchOption, OnOk, [], true, ℕ, length, reverse};
+ghost use Rattle.std.specs.Prelude.{◌≡◌, IfOk, List, MatchOption, [], true, ℕ, reverse};
 ghost use Rattle.std.specs.Prelude.{string_bytes};
 ghost use Rattle.std.specs.Str.{chars};
 ghost use Rattle.lexical.specs.Found.{kind_of};
 ghost use Rattle.lexical.specs.Piece.{Piece};
-ghost use Rattle.lexical.specs.Walk.{PassesWhite};
 ghost use Rattle.explain.specs.Explained.{IsExplained, Parses};
 ghost use Rattle.highlight.specs.Delimiters.{delimiter_styles};
-ghost use Rattle.highlight.specs.Mark.{Styled};
-ghost use Rattle.highlight.specs.Page.{IsMarked, line_past, marked_piece};
+ghost use Rattle.highlight.specs.Page.{IsMarked};
 ghost use Rattle.highlight.specs.Pieces.{AreAllPieces, first_position, is_nil, is_quote, piece_style, styles_left};
-ghost use Rattle.highlight.specs.declared.style.Style.TheVariants.{Bare};
 
 use crate::format::Format;
 use crate::nesting::Nesting;
@@ -18,8 +15,6 @@ use crate::style::{Style, style_of};
 use crate::unread::push_unread;
 use crate::writing::Sheet;
 use explain::{ExplainError, Explained, explain};
-use lexical::PieceWalk;
-use lexical::parts::pass_white;
 use messages::Failure;
 use proc_macro2::{PieceKind, PlacedPiece, pieces};
 use std::alloc::{AllocError, Global};
@@ -38,34 +33,19 @@ pub fn marked(alloc: Global, format: Format, text: &str) -> Result<String, Failu
     };
     let mut sheet = Sheet::new(alloc, format);
     let mut walk = pieces(text);
-    push_white(&mut walk, &mut styling, &mut sheet)?;
-    while let Some(next) = walk.next_piece() {
-        let style = styling.style_of(next);
-        sheet.push_piece(style, next.text)?;
-        push_white(&mut walk, &mut styling, &mut sheet)?;
+    loop {
+        let next = walk.next_after_white();
+        styling.is_after_quote = styling.is_after_quote & next.white.is_empty();
+        let Some(piece) = next.piece else {
+            sheet.push_piece(Style::Bare, next.white)?;
+            let answer = explained(alloc, next.rest)?;
+            push_unread(alloc, &mut sheet, &answer, next.rest)?;
+            return Ok(sheet.out);
+        };
+        let style = styling.style_of(piece);
+        sheet.push_piece(Style::Bare, next.white)?;
+        sheet.push_piece(style, piece.text)?;
     }
-    let answer = explained(alloc, walk.rest())?;
-    push_unread(alloc, &mut sheet, &answer, walk.rest())?;
-    Ok(sheet.out)
-}
-
-// Appends the white characters of ASCII that stand next, all at once: each is a gap that stands bare.
-fn push_white(
-    walk: &mut PieceWalk<'_>,
-    styling: &mut Styling,
-    sheet: &mut Sheet,
-) -> Result<(), AllocError>
-    ensures ok { OnOk result ((white : List ℕ) × PassesWhite walk.old white walk.new
-        × (string_bytes sheet.new.out
-        ≡ string_bytes sheet.old.out ++ marked_piece sheet.old.format sheet.old.line (Styled Bare, white))
-        × (sheet.new.line ≡ line_past sheet.old.format sheet.old.line white)
-        × (styling.new.is_after_quote ≡ (styling.old.is_after_quote && (length white == 0)))) }
-    ensures delimiters { styling.new.delimiters ≡ styling.old.delimiters }
-    ensures format { sheet.new.format ≡ sheet.old.format }
-{
-    let white = pass_white(walk);
-    styling.is_after_quote = styling.is_after_quote & white.is_empty();
-    sheet.push_piece(Style::Bare, white)
 }
 
 // The styles of the delimiters, the first last.
@@ -76,11 +56,8 @@ fn styles_of_delimiters(alloc: Global, text: &str) -> Result<Vec<Style>, AllocEr
 {
     let mut nesting = Nesting::new(alloc);
     let mut walk = pieces(text);
-    // White space has no delimiters. What is passed would be given as gaps.
-    pass_white(&mut walk);
-    while let Some(next) = walk.next_piece() {
+    while let Some(next) = walk.next_after_white().piece {
         nesting.take(next.piece.kind)?;
-        pass_white(&mut walk);
     }
     let mut styles = nesting.into_styles(walk.rest().is_empty());
     styles.reverse();

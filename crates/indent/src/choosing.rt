@@ -3,7 +3,6 @@ ghost use Rattle.std.specs.Prelude.{IfOk, OnOk};
 ghost use Rattle.std.specs.List.{All};
 ghost use Rattle.indent.specs.Indented.{KeepsLines};
 
-use lexical::parts::{begins, pass_white};
 use lexical::{PieceKind, PlacedPiece, pieces};
 use relayout::White;
 use std::alloc::{AllocError, Global};
@@ -17,17 +16,6 @@ pub enum Step {
     Spaces(u8),
 }
 
-// The white space before a piece.
-#[derive(Clone, Copy, Debug, PartialEq, Eq)]
-enum Run {
-    // None.
-    Nothing,
-    // Some, in which no line ends.
-    WithinLine,
-    // Some, in which a line ends.
-    EndsLine,
-}
-
 /// For each run of white space of a text, what is to stand in its place so that its lines are indented by the groups
 /// that are open.
 ///
@@ -37,43 +25,15 @@ pub fn choices(alloc: Global, text: &str, step: Step) -> Result<Vec<White>, Allo
 {
     let mut choices = Vec::new(alloc);
     let mut open: usize = 0;
-    let mut run = Run::Nothing;
     let mut walk = pieces(text);
-    run = with_white(run, pass_white(&mut walk));
-    let mut here = walk.rest();
-    while let Some(next) = walk.next_piece() {
-        let line = here;
-        // A run of white characters of ASCII is passed over all at once. One past ASCII is given as a piece.
-        if is_white(next) {
-            run = with_white(run, next.text);
-        } else {
-            push_choice(&mut choices, run, line, open, step)?;
-            run = Run::Nothing;
-            open = open_after(next, open);
-        }
-        run = with_white(run, pass_white(&mut walk));
-        here = walk.rest();
-    }
-    push_choice(&mut choices, run, "", 0, step)?;
-    Ok(choices)
-}
-
-// Whether the piece is a white character.
-fn is_white(next: PlacedPiece<'_>) -> bool {
-    match next.piece.kind {
-        PieceKind::Gap => !begins(next.text, "/"),
-        _ => false,
-    }
-}
-
-// The run with more white space.
-fn with_white(run: Run, more: &str) -> Run {
-    if more.is_empty() {
-        run
-    } else if run == Run::EndsLine || more.contains('\n') {
-        Run::EndsLine
-    } else {
-        Run::WithinLine
+    loop {
+        let next = walk.next_after_white();
+        let Some(piece) = next.piece else {
+            push_choice(&mut choices, next.white, "", 0, step)?;
+            return Ok(choices);
+        };
+        push_choice(&mut choices, next.white, next.rest, open, step)?;
+        open = open_after(piece, open);
     }
 }
 
@@ -89,18 +49,22 @@ fn open_after(next: PlacedPiece<'_>, open: usize) -> usize {
 // Chooses what stands in the place of a run, if there is one, before this text, where so many groups are open.
 fn push_choice(
     choices: &mut Vec<White>,
-    run: Run,
+    run: &str,
     rest: &str,
     open: usize,
     step: Step,
 ) -> Result<(), AllocError>
     ensures { All KeepsLines choices.old.items → OnOk result (All KeepsLines choices.new.items) }
 {
-    match run {
-        Run::Nothing => {}
-        Run::WithinLine => choices.push(White::Kept)?,
-        Run::EndsLine => choices.push(indentation(open.saturating_sub(closers(rest)), step))?,
+    if run.is_empty() {
+        return Ok(());
     }
+    let choice = if run.contains('\n') {
+        indentation(open.saturating_sub(closers(rest)), step)
+    } else {
+        White::Kept
+    };
+    choices.push(choice)?;
     Ok(())
 }
 

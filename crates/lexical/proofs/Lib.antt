@@ -40,4 +40,5 @@ pub mod QuickSingleLemmas
 pub mod QuickStringLemmas
 pub mod QuickCommentLemmas
 pub mod WalkLemmas
+pub mod SpacedLemmas
 mod Examples

@@ -1,12 +1,12 @@
 -- The pieces of a text, one after the other.
-use Rattle.std.specs.Prelude.{◌≡◌, ◌+◌, ◌<◌, ◌++◌, ◌&&◌, ◌==◌, List, ℕ, false, length}
+use Rattle.std.specs.Prelude.{◌≡◌, ◌+◌, ◌<◌, ◌++◌, ◌&&◌, ◌==◌, IfNone, IfSome, List, ℕ, false, length}
 use Rattle.std.specs.Str.{chars, IsUtf8}
-use Rattle.lexical.specs.Form.{Run}
 use Rattle.lexical.specs.Found.{kind_of, LendsText}
-use Rattle.lexical.specs.Piece.{IsPiece}
-use Rattle.lexical.specs.WhiteRun.{ascii_white}
+use Rattle.lexical.specs.Piece.{HasNoPiece, IsPiece}
+use Rattle.lexical.specs.WhiteRun.{SplitsWhite}
 use Rattle.lexical.specs.declared.walk.PlacedPiece.{PlacedPiece}
 use Rattle.lexical.specs.declared.walk.PieceWalk.{PieceWalk}
+use Rattle.lexical.specs.declared.walk.Spaced.{Spaced}
 
 -- from one cursor to the other stands this piece, at its byte offset and with its text; only the first stands at byte
 -- offset 0
@@ -24,11 +24,17 @@ pub record IsNext (at : PieceWalk) (next : PlacedPiece) (to : PieceWalk) : Type 
   pub past : to.byte_offset ≡ at.byte_offset + length next.text.now
   pub behind : to.at_front ≡ false
 
--- from one cursor to the other stand these white characters of ASCII, each a gap, and no other follows them
+-- from one cursor to the other stand these white characters, each a gap, and no other follows them
 pub record PassesWhite (at : PieceWalk) (white : List ℕ) (to : PieceWalk) : Type 0 where
-  pub joined : at.rest.now ≡ white ++ to.rest.now
-  pub whole : chars at.rest.now ≡ white ++ chars to.rest.now
-  pub stands : Run ascii_white white (chars to.rest.now)
-  pub utf8 : IsUtf8 white
+  pub splits : SplitsWhite at.rest.now white to.rest.now
   pub past : to.byte_offset ≡ at.byte_offset + length white
   pub behind : to.at_front ≡ (at.at_front && (length white == 0))
+
+-- from one cursor to the other stand these white characters and then this piece, or none stands there
+pub record IsSpaced (at : PieceWalk) (next : Spaced) (to : PieceWalk) : Type 0 where
+  pub here : PieceWalk
+  pub passes : PassesWhite at next.white.now here
+  pub rest : next.rest.now ≡ here.rest.now
+  pub found : IfSome next.piece (λ piece. IsNext here piece to)
+  pub none : IfNone next.piece (HasNoPiece here.at_front (chars here.rest.now))
+  pub unchanged : IfNone next.piece (to ≡ here)

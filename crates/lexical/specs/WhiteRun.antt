@@ -1,5 +1,6 @@
 -- Runs of white characters, each of them a gap.
 use Rattle.std.specs.Prelude.{ℕ, Bool, nat_lt, ◌&&◌, ◌≡◌, List, ◌++◌, length}
+use Rattle.std.specs.Str.{chars, IsUtf8}
 use Rattle.lexical.specs.Class.{is_white}
 use Rattle.lexical.specs.Form.{Run}
 
@@ -13,3 +14,11 @@ pub record IsPastWhite (text rest : List ℕ) (count : ℕ) : Type 0 where
   pub whole : text ≡ front ++ rest
   pub stands : Run ascii_white front rest
   pub chars : count ≡ length front
+
+-- the text begins with these white characters, and the rest, after them, begins with none
+pub record SplitsWhite (text white rest : List ℕ) : Type 0 where
+  pub joined : text ≡ white ++ rest
+  pub whole : chars text ≡ chars white ++ chars rest
+  pub stands : Run is_white (chars white) (chars rest)
+  pub white_utf8 : IsUtf8 white
+  pub rest_utf8 : IsUtf8 rest

@@ -1,11 +1,15 @@
 //! Gaps.
 
-ghost use Rattle.std.specs.Prelude.{◌≤◌, IsTrue, length, take};
+ghost use Rattle.std.specs.Prelude.{◌≡◌, ◌≤◌, IsTrue, length, take};
 ghost use Rattle.std.specs.List.{list_all};
-ghost use Rattle.std.specs.Str.{IsUtf8, chars};
-ghost use Rattle.lexical.specs.WhiteRun.{IsPastWhite, ascii_white};
+ghost use Rattle.std.specs.Str.{IsUtf8, chars, encode_utf8_all};
+ghost use Rattle.lexical.specs.Class.{is_white};
+ghost use Rattle.lexical.specs.Finder.{while_front};
+ghost use Rattle.lexical.specs.WhiteRun.{IsPastWhite, SplitsWhite, ascii_white};
 
-use crate::bytes::{Class, holds_ascii};
+use crate::bytes::{Class, holds_ascii, skip};
+use crate::cursor::Cursor;
+use crate::quick::byte_at;
 
 /// How many spaces stand at the front, as many as go by fours.
 #[inline(always)]
@@ -41,4 +45,27 @@ pub fn past_white(text: &str) -> (&str, usize)
         white += spaces(&bytes[white..]);
     }
     (&text[white..], white)
+}
+
+/// How many bytes the white characters at the front of the text have, those past ASCII too.
+#[inline(never)]
+fn white_size(text: &str) -> usize
+    ensures { result ≡ length (encode_utf8_all (while_front is_white (chars text.now))) }
+{
+    skip(Cursor::new(text), Class::White).bytes_in(text)
+}
+
+/// The white characters at the front of the text, those past ASCII too, and what follows them.
+///
+/// Of two spaces and `a b` they are the two spaces and `a b`.
+#[inline(always)]
+pub fn split_white(text: &str) -> (&str, &str)
+    ensures { SplitsWhite text.now result.0.now result.1.now }
+{
+    let (_, size) = past_white(text);
+    if byte_at(text.as_bytes(), size).is_ascii() {
+        return text.split_at(size);
+    }
+    // This is a call of its own so that the one above can cut the text without looking where a character ends.
+    text.split_at(white_size(text))
 }

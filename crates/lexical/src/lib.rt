@@ -41,4 +41,4 @@ pub use crate::identifiers::is_reserved;
 pub use crate::lexer::{literal_at, name_at, piece_at};
 pub use crate::marks::is_mark;
 pub use crate::piece::{Piece, PieceKind};
-pub use crate::walk::{PieceWalk, PlacedPiece, pieces};
+pub use crate::walk::{PieceWalk, PlacedPiece, Spaced, pieces};

@@ -3,7 +3,7 @@
 ghost use Rattle.std.specs.Prelude.{◌≡◌, ◌+◌, ◌<◌, ◌^◌, length, true};
 ghost use Rattle.std.specs.Str.{IsUtf8, chars};
 
-use crate::gaps::past_white;
+use crate::gaps::split_white;
 use crate::lexer::piece_at;
 use crate::piece::Piece;
 
@@ -16,6 +16,17 @@ pub struct PlacedPiece<'a> {
     pub text: &'a str,
     /// How many bytes of the source stand before it.
     pub byte_offset: usize,
+}
+
+/// A run of white characters, and the piece after it. [`PieceWalk::next_after_white`] gives them.
+#[derive(Clone, Copy, Debug, PartialEq, Eq)]
+pub struct Spaced<'a> {
+    /// The white characters, of ASCII and past it, each a gap. Where none stands it is empty.
+    pub white: &'a str,
+    /// All of the source that follows them: the text from the piece on.
+    pub rest: &'a str,
+    /// The piece, which is no white character. `None` where no piece stands.
+    pub piece: Option<PlacedPiece<'a>>,
 }
 
 /// The pieces of a text that are left. [`pieces`] makes it.
@@ -51,7 +62,7 @@ pub fn pieces(text: &str) -> PieceWalk<'_>
 impl<'a> PieceWalk<'a> {
     ghost use Rattle.std.specs.Prelude.{IfNone, IfSome};
     ghost use Rattle.lexical.specs.Piece.{HasNoPiece};
-    ghost use Rattle.lexical.specs.Walk.{IsNext, PassesWhite};
+    ghost use Rattle.lexical.specs.Walk.{IsNext, IsSpaced, PassesWhite};
 
     /// The piece at the front of the rest, which it then passes: its text and the new rest, joined,
     /// are the old rest.
@@ -80,17 +91,35 @@ impl<'a> PieceWalk<'a> {
         Some(next)
     }
 
-    /// Passes the white characters of ASCII at the front of the rest, each of which is a gap, and answers their text.
+    /// The next piece that is no white character, and the run of white characters before it, which
+    /// [`next_piece`](PieceWalk::next_piece) would give as gaps, each by itself. It then passes both.
+    ///
+    /// Where no piece stands after the white characters, it passes these alone. So `rest` is empty at the end of the
+    /// text, and else it begins no piece. Comments are pieces, and not passed over.
+    /// Of two spaces, U+2028, `+` and an LF it gives the first three characters with the mark, at byte offset 5, and
+    /// then the LF without a piece.
     #[inline(always)]
-    pub(crate) fn pass_white(&mut self) -> &'a str
+    pub fn next_after_white(&mut self) -> Spaced<'a>
+        ensures { IsSpaced self.old result self.new }
+    {
+        let white = self.pass_white();
+        Spaced {
+            white,
+            rest: self.rest,
+            piece: self.next_piece(),
+        }
+    }
+
+    // Passes the white characters at the front of the rest, and answers their text.
+    #[inline(always)]
+    fn pass_white(&mut self) -> &'a str
         ensures { PassesWhite self.old result.now self.new }
     {
-        let (rest, size) = past_white(self.rest);
-        let white = &self.rest[..size];
+        let (white, rest) = split_white(self.rest);
         *self = PieceWalk {
             rest,
-            byte_offset: self.byte_offset + size,
-            at_front: self.at_front & (size == 0),
+            byte_offset: self.byte_offset + white.len(),
+            at_front: self.at_front & white.is_empty(),
         };
         white
     }

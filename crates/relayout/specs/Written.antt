@@ -62,13 +62,6 @@ pub record Placed (choices left : List White) (line : Bool) (front run kept rest
   pub writes : new ++ front_now ≡ (old ++ front) ++ placed (next_choice choices) line run
   pub leaves : left ≡ choices_left choices run
 
--- the run from one end of a text to another is placed
-abbrev pub PlacesRun :
-    List White → List White → Bool → List ℕ → List ℕ → List ℕ → List ℕ → List ℕ → List ℕ → Type 0
-PlacesRun choices left line kept kept_now from to old new =
-    (front run : List ℕ) → kept ≡ front ++ from → from ≡ run ++ to
-    → Placed choices left line front run kept_now to old new
-
 -- ---- a text
 
 -- whether the piece is a white character: a gap where no comment begins

@@ -1,4 +1,3 @@
-mod WhiteLemmas
 mod WordLemmas
 mod ComparingLemmas
 mod TokenLemmas

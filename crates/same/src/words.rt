@@ -5,7 +5,7 @@ ghost use Rattle.lexical.specs.Piece.{Piece};
 ghost use Rattle.lexical.specs.Found.{LendsText, kind_of};
 
 use crate::said::{DocStep, Said, after, alone, delimiter};
-use lexical::parts::{begins, pass_white};
+use lexical::parts::begins;
 use lexical::{PieceKind, PieceWalk, PlacedPiece, pieces};
 use pm_token::Delimiter;
 
@@ -23,7 +23,6 @@ pub struct Words<'a> {
 }
 
 impl<'a> Words<'a> {
-    ghost use Rattle.lexical.specs.Walk.{PassesWhite};
     ghost use Rattle.same.specs.Said.{HasText, Placed, doc_from, doc_left, step_after, word_of};
     ghost use Rattle.same.specs.Words.{ComesFirst, Covers, piece_words, placed_onto, size, words_left};
 
@@ -57,26 +56,13 @@ impl<'a> Words<'a> {
         if let Some(step) = self.step {
             return Some(self.take_step(step));
         }
-        self.pass_white();
-        while let Some(next) = self.walk.next_piece() {
-            if let Some(said) = self.begin(next) {
+        loop {
+            let next = self.walk.next_after_white();
+            self.here = next.rest;
+            if let Some(said) = self.begin(next.piece?) {
                 return Some(said);
             }
-            self.pass_white();
         }
-        None
-    }
-
-    // Passes white characters of ASCII, all at once: they have no words. Then `here` is what is left.
-    #[inline(always)]
-    fn pass_white(&mut self)
-        ensures passed { (white : List ℕ) × PassesWhite self.old.walk white self.new.walk }
-        ensures here { self.new.here.now ≡ self.new.walk.rest.now }
-        ensures step { self.new.step ≡ self.old.step }
-        ensures comments { self.new.comments ≡ self.old.comments }
-    {
-        pass_white(&mut self.walk);
-        self.here = self.walk.rest();
     }
 
     // The first word of the piece, if it has one.

@@ -330,6 +330,8 @@
 //!   byte offset 0
 //! - <a id="lexical.Found.IsPieceAt"></a>**IsPieceAt**: the piece stands at the front of the text, and takes so
 //!   many bytes and characters
+//! - <a id="lexical.Walk.IsSpaced"></a>**IsSpaced**: from one cursor to the other stand these white characters
+//!   and then this piece, or none stands there
 //! - <a id="lexical.Piece.Kind"></a>**Kind**: what kind of piece it is: the front mark U+FEFF, a gap, a doc
 //!   comment with `!` or not and its text, an opener, a closer, a token
 //! - <a id="lexical.Literal.Literal"></a>**Literal**: `literal`: one between quotes, or a number, before a rest
@@ -341,10 +343,10 @@
 //! - <a id="lexical.Number.Number"></a>**Number**: `number`: a float or an integer, before a rest
 //! - <a id="lexical.Rule.One"></a>**One**: one character that passes
 //! - <a id="lexical.Step.Passes"></a>**Passes**: from one cursor to the other stands a piece of the rule
-//! - <a id="lexical.Walk.PassesWhite"></a>**PassesWhite**: from one cursor to the other stand these white
-//!   characters of ASCII, each a gap, and no other follows them
 //! - <a id="lexical.Step.Reads"></a>**Reads**: the step leads past the rule's piece, or fails where none stands
 //! - <a id="lexical.Rule.Run"></a>**Run**: all the characters that pass, up to one that doesn't
+//! - <a id="lexical.WhiteRun.SplitsWhite"></a>**SplitsWhite**: the text begins with these white characters, and
+//!   the rest, after them, begins with none
 //! - <a id="lexical.Rule.Stands"></a>**Stands**: what the rule says: the text p is a piece of it, before r
 //! - <a id="lexical.Quoted.Str"></a>**Str**: `string`: a literal between `"` and `"`, before a rest
 //! - <a id="lexical.PieceStep.Tells"></a>**Tells**: the kind of the comment p is the one that was found, or

@@ -41,4 +41,4 @@ pub use crate::lexical::identifiers::is_reserved;
 pub use crate::lexical::lexer::{literal_at, name_at, piece_at};
 pub use crate::lexical::marks::is_mark;
 pub use crate::lexical::piece::{Piece, PieceKind};
-pub use crate::lexical::walk::{PieceWalk, PlacedPiece, pieces};
+pub use crate::lexical::walk::{PieceWalk, PlacedPiece, Spaced, pieces};

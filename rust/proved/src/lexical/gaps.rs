@@ -1,7 +1,9 @@
 // Made from crates/lexical/src/gaps.rt by rust/erase: change that file, not this one.
 //! Gaps.
 
-use crate::lexical::bytes::{Class, holds_ascii};
+use crate::lexical::bytes::{Class, holds_ascii, skip};
+use crate::lexical::cursor::Cursor;
+use crate::lexical::quick::byte_at;
 
 /// How many spaces stand at the front, as many as go by fours.
 #[cfg_attr(not(debug_assertions), inline(always))]
@@ -42,4 +44,31 @@ pub fn past_white(text: &str) -> (&str, usize)
         white += spaces(&bytes[white..]);
     }
     (&text[white..], white)
+}
+
+/// How many bytes the white characters at the front of the text have, those past ASCII too.
+#[inline(never)]
+fn white_size(text: &str) -> usize
+{
+    skip(Cursor::new(text), Class::White).bytes_in(text)
+}
+
+/// The white characters at the front of the text, those past ASCII too, and what follows them.
+///
+/// Of two spaces and `a b` they are the two spaces and `a b`.
+///
+/// # Contract
+///
+/// - `ensures`: <code>[SplitsWhite] text.now result.0.now result.1.now</code>
+///
+/// [SplitsWhite]: crate::contracts#lexical.WhiteRun.SplitsWhite
+#[cfg_attr(not(debug_assertions), inline(always))]
+pub fn split_white(text: &str) -> (&str, &str)
+{
+    let (_, size) = past_white(text);
+    if byte_at(text.as_bytes(), size).is_ascii() {
+        return text.split_at(size);
+    }
+    // This is a call of its own so that the one above can cut the text without looking where a character ends.
+    text.split_at(white_size(text))
 }

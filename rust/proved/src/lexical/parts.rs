@@ -11,20 +11,3 @@ pub use crate::lexical::quoted::StringKind;
 pub use crate::lexical::search::{skip_to, skip_to_either};
 pub use crate::lexical::skip::one as one_that;
 pub use crate::lexical::text::{before, begins};
-use crate::lexical::walk::PieceWalk;
-
-/// Passes the white characters of ASCII at the front of what a walk has left, and answers their text.
-///
-/// Each of them is a gap, which the walk would give by itself. A loop that asks nothing of such gaps takes less time
-/// so. Where none stands the text is empty, and nothing changes. Of two spaces and `a` it answers the two spaces.
-///
-/// # Contract
-///
-/// - `ensures`: <code>[PassesWhite] walk.old result.now walk.new</code>
-///
-/// [PassesWhite]: crate::contracts#lexical.Walk.PassesWhite
-#[cfg_attr(not(debug_assertions), inline(always))]
-pub fn pass_white<'a>(walk: &mut PieceWalk<'a>) -> &'a str
-{
-    walk.pass_white()
-}

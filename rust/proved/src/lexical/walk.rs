@@ -1,7 +1,7 @@
 // Made from crates/lexical/src/walk.rt by rust/erase: change that file, not this one.
 //! All pieces of a text, one after the other.
 
-use crate::lexical::gaps::past_white;
+use crate::lexical::gaps::split_white;
 use crate::lexical::lexer::piece_at;
 use crate::lexical::piece::Piece;
 
@@ -14,6 +14,17 @@ pub struct PlacedPiece<'a> {
     pub text: &'a str,
     /// How many bytes of the source stand before it.
     pub byte_offset: usize,
+}
+
+/// A run of white characters, and the piece after it. [`PieceWalk::next_after_white`] gives them.
+#[derive(Clone, Copy, Debug, PartialEq, Eq)]
+pub struct Spaced<'a> {
+    /// The white characters, of ASCII and past it, each a gap. Where none stands it is empty.
+    pub white: &'a str,
+    /// All of the source that follows them: the text from the piece on.
+    pub rest: &'a str,
+    /// The piece, which is no white character. `None` where no piece stands.
+    pub piece: Option<PlacedPiece<'a>>,
 }
 
 /// The pieces of a text that are left. [`pieces`] makes it.
@@ -85,16 +96,39 @@ impl<'a> PieceWalk<'a> {
         Some(next)
     }
 
-    /// Passes the white characters of ASCII at the front of the rest, each of which is a gap, and answers their text.
+    /// The next piece that is no white character, and the run of white characters before it, which
+    /// [`next_piece`](PieceWalk::next_piece) would give as gaps, each by itself. It then passes both.
+    ///
+    /// Where no piece stands after the white characters, it passes these alone. So `rest` is empty at the end of the
+    /// text, and else it begins no piece. Comments are pieces, and not passed over.
+    /// Of two spaces, U+2028, `+` and an LF it gives the first three characters with the mark, at byte offset 5, and
+    /// then the LF without a piece.
+    ///
+    /// # Contract
+    ///
+    /// - `ensures`: <code>[IsSpaced] self.old result self.new</code>
+    ///
+    /// [IsSpaced]: crate::contracts#lexical.Walk.IsSpaced
     #[cfg_attr(not(debug_assertions), inline(always))]
-    pub(crate) fn pass_white(&mut self) -> &'a str
+    pub fn next_after_white(&mut self) -> Spaced<'a>
     {
-        let (rest, size) = past_white(self.rest);
-        let white = &self.rest[..size];
+        let white = self.pass_white();
+        Spaced {
+            white,
+            rest: self.rest,
+            piece: self.next_piece(),
+        }
+    }
+
+    // Passes the white characters at the front of the rest, and answers their text.
+    #[cfg_attr(not(debug_assertions), inline(always))]
+    fn pass_white(&mut self) -> &'a str
+    {
+        let (white, rest) = split_white(self.rest);
         *self = PieceWalk {
             rest,
-            byte_offset: self.byte_offset + size,
-            at_front: self.at_front & (size == 0),
+            byte_offset: self.byte_offset + white.len(),
+            at_front: self.at_front & white.is_empty(),
         };
         white
     }

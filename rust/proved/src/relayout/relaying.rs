@@ -3,7 +3,7 @@
 
 use crate::relayout::errors::RelayoutError;
 use crate::relayout::white::{White, push_white};
-use crate::lexical::parts::{before, begins, pass_white};
+use crate::lexical::parts::{before, begins};
 use crate::lexical::{PieceKind, PlacedPiece, pieces};
 use crate::pm_token::parts::TextBuilder;
 use crate::shim::alloc::AllocError;
@@ -38,42 +38,25 @@ pub fn relayout(text: &str, choices: &[White]) -> Result<String, RelayoutError>
     let mut out = TextBuilder::with_room(text.len())?;
     let mut left = choices;
     let mut line = false;
-    // The text from `kept` up to `from` stays, and isn't written yet. It is copied at once, before the next run of
-    // white characters that changes or at the end. Such a run may begin at `from`.
+    // The text from `kept` on stays, as far as it is passed, and isn't written yet. It is copied at once, before the
+    // next run of white characters that changes or at the end.
     let mut kept = text;
-    let mut from = text;
     let mut walk = pieces(text);
-    // White characters of ASCII are passed over all at once. One past ASCII is given as a piece.
-    pass_white(&mut walk);
-    let mut here = walk.rest();
-    while let Some(next) = walk.next_piece() {
-        let to = here;
-        let behind = walk.rest();
-        pass_white(&mut walk);
-        here = walk.rest();
-        if is_white(next) {
-            continue;
-        }
-        let (stays, choices) = push_run(&mut out, left, line, kept, from, to)?;
+    loop {
+        let from = walk.rest();
+        let next = walk.next_after_white();
+        let Some(piece) = next.piece else {
+            if !next.rest.is_empty() {
+                return Err(RelayoutError::NoPiece);
+            }
+            let (stays, _) = push_run(&mut out, left, line, kept, from, next.white, next.rest)?;
+            out.push_text(stays)?;
+            return Ok(out.into_string());
+        };
+        let (stays, choices) = push_run(&mut out, left, line, kept, from, next.white, next.rest)?;
         kept = stays;
         left = choices;
-        line = is_line(next);
-        from = behind;
-    }
-    if !here.is_empty() {
-        return Err(RelayoutError::NoPiece);
-    }
-    let (stays, _) = push_run(&mut out, left, line, kept, from, here)?;
-    out.push_text(stays)?;
-    Ok(out.into_string())
-}
-
-// Whether the piece is a white character.
-fn is_white(next: PlacedPiece<'_>) -> bool
-{
-    match next.piece.kind {
-        PieceKind::Gap => !begins(next.text, "/"),
-        _ => false,
+        line = is_line(piece);
     }
 }
 
@@ -86,9 +69,9 @@ fn is_line(next: PlacedPiece<'_>) -> bool
     }
 }
 
-// Takes the next choice for the run of white characters from `from` up to `to`, if it isn't empty. A run that changes
-// is written as the choice says, after the text that was kept before it. Answers the text that is kept now, up to `to`
-// and on, and the choices for later runs.
+// Takes the next choice for a run of white characters, which stands from `from` up to `to`, if it isn't empty. A run
+// that changes is written as the choice says, after the text that was kept before it. Answers the text that is kept
+// now, up to `to` and on, and the choices for later runs.
 #[cfg_attr(not(debug_assertions), inline(always))]
 fn push_run<'a, 'b>(
     out: &mut TextBuilder,
@@ -96,10 +79,10 @@ fn push_run<'a, 'b>(
     line: bool,
     kept: &'b str,
     from: &str,
+    run: &str,
     to: &'b str,
 ) -> Result<(&'b str, &'a [White]), AllocError>
 {
-    let run = before(from, to);
     if run.is_empty() {
         return Ok((kept, choices));
     }

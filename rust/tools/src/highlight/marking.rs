@@ -7,8 +7,6 @@ use crate::highlight::style::{Style, style_of};
 use crate::highlight::unread::push_unread;
 use crate::highlight::writing::Sheet;
 use proved_tokens::explain::{ExplainError, Explained, explain};
-use proved_tokens::lexical::PieceWalk;
-use proved_tokens::lexical::parts::pass_white;
 use crate::messages::Failure;
 use proved_tokens::proc_macro2::{PieceKind, PlacedPiece, pieces};
 use proved_tokens::shim::alloc::AllocError;
@@ -26,27 +24,19 @@ pub fn marked(format: Format, text: &str) -> Result<String, Failure>
     };
     let mut sheet = Sheet::new(format);
     let mut walk = pieces(text);
-    push_white(&mut walk, &mut styling, &mut sheet)?;
-    while let Some(next) = walk.next_piece() {
-        let style = styling.style_of(next);
-        sheet.push_piece(style, next.text)?;
-        push_white(&mut walk, &mut styling, &mut sheet)?;
+    loop {
+        let next = walk.next_after_white();
+        styling.is_after_quote = styling.is_after_quote & next.white.is_empty();
+        let Some(piece) = next.piece else {
+            sheet.push_piece(Style::Bare, next.white)?;
+            let answer = explained(next.rest)?;
+            push_unread(&mut sheet, &answer, next.rest)?;
+            return Ok(sheet.out);
+        };
+        let style = styling.style_of(piece);
+        sheet.push_piece(Style::Bare, next.white)?;
+        sheet.push_piece(style, piece.text)?;
     }
-    let answer = explained(walk.rest())?;
-    push_unread(&mut sheet, &answer, walk.rest())?;
-    Ok(sheet.out)
-}
-
-// Appends the white characters of ASCII that stand next, all at once: each is a gap that stands bare.
-fn push_white(
-    walk: &mut PieceWalk<'_>,
-    styling: &mut Styling,
-    sheet: &mut Sheet,
-) -> Result<(), AllocError>
-{
-    let white = pass_white(walk);
-    styling.is_after_quote = styling.is_after_quote & white.is_empty();
-    sheet.push_piece(Style::Bare, white)
 }
 
 // The styles of the delimiters, the first last.
@@ -54,11 +44,8 @@ fn styles_of_delimiters(text: &str) -> Result<Vec<Style>, AllocError>
 {
     let mut nesting = Nesting::new();
     let mut walk = pieces(text);
-    // White space has no delimiters. What is passed would be given as gaps.
-    pass_white(&mut walk);
-    while let Some(next) = walk.next_piece() {
+    while let Some(next) = walk.next_after_white().piece {
         nesting.take(next.piece.kind)?;
-        pass_white(&mut walk);
     }
     let mut styles = nesting.into_styles(walk.rest().is_empty());
     styles.reverse();

@@ -2,7 +2,7 @@
 //! What is compared of a text: its tokens, one after another, and perhaps its comments.
 
 use crate::same::said::{DocStep, Said, after, alone, delimiter};
-use proved_tokens::lexical::parts::{begins, pass_white};
+use proved_tokens::lexical::parts::begins;
 use proved_tokens::lexical::{PieceKind, PieceWalk, PlacedPiece, pieces};
 use proved_tokens::pm_token::Delimiter;
 
@@ -38,22 +38,13 @@ impl<'a> Words<'a> {
         if let Some(step) = self.step {
             return Some(self.take_step(step));
         }
-        self.pass_white();
-        while let Some(next) = self.walk.next_piece() {
-            if let Some(said) = self.begin(next) {
+        loop {
+            let next = self.walk.next_after_white();
+            self.here = next.rest;
+            if let Some(said) = self.begin(next.piece?) {
                 return Some(said);
             }
-            self.pass_white();
         }
-        None
-    }
-
-    // Passes white characters of ASCII, all at once: they have no words. Then `here` is what is left.
-    #[cfg_attr(not(debug_assertions), inline(always))]
-    fn pass_white(&mut self)
-    {
-        pass_white(&mut self.walk);
-        self.here = self.walk.rest();
     }
 
     // The first word of the piece, if it has one.

@@ -7,8 +7,8 @@ use Rattle.highlight.specs.Pieces.{AreAllPieces, shown_from}
 use Rattle.highlight.proofs.marking.marked.Given as goal
 
 -- with the pieces that are left, it is all
-abbrev pub invariant-loop-next : goal.invariant-loop-next
-invariant-loop-next l = record {
+abbrev pub invariant-loop-piece : goal.invariant-loop-piece
+invariant-loop-piece l = record {
   format : l.sheet.format ≡ l.fn.format;
   shown : (answer : Option Explained) (more : List Piece) (rest : List ℕ)
       → AreAllPieces l.walk.at_front (chars l.walk.rest.now) more rest
@@ -18,5 +18,5 @@ invariant-loop-next l = record {
       ≡ marked_pieces l.fn.format 1 (shown_from answer (reverse l.initial.styling.delimiters.items) false all rest));
 }
 
-abbrev pub decreases-loop-next : goal.decreases-loop-next
-decreases-loop-next l = length l.walk.rest.now
+abbrev pub decreases-loop-piece : goal.decreases-loop-piece
+decreases-loop-piece l = length l.walk.rest.now

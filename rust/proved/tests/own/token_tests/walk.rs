@@ -97,3 +97,70 @@ fn an_empty_text_has_no_pieces() {
     let rt = HostRuntime;
     check_walk(&rt, "", &[], "");
 }
+
+/// Asserts which white characters come next, which piece after them, and which text follows them.
+fn check_spaced(
+    rt: &impl Abort,
+    walk: &mut PieceWalk<'_>,
+    white: &str,
+    want: Option<(usize, PieceKind<'_>)>,
+    rest: &str,
+) {
+    let next = walk.next_after_white();
+    let piece = match next.piece {
+        Some(piece) => Some((piece.byte_offset, piece.piece.kind)),
+        None => None,
+    };
+    assert_eq!(next.white, white);
+    assert_eq!(piece, want);
+    assert_eq!(next.rest, rest);
+}
+
+#[test]
+fn white_characters_past_ascii_are_passed_too() {
+    let rt = HostRuntime;
+    let mut walk = pieces("\t\u{2028}     +// b\n\u{85}\u{E9}\u{A0}\"");
+    let plus = mark_of('+', false);
+    let name = PieceKind::Name {
+        raw: false,
+        name: "\u{E9}",
+    };
+    check_spaced(
+        &rt,
+        &mut walk,
+        "\t\u{2028}     ",
+        Some((9, plus)),
+        "+// b\n\u{85}\u{E9}\u{A0}\"",
+    );
+    check_spaced(
+        &rt,
+        &mut walk,
+        "",
+        Some((10, PieceKind::Gap)),
+        "// b\n\u{85}\u{E9}\u{A0}\"",
+    );
+    check_spaced(
+        &rt,
+        &mut walk,
+        "\n\u{85}",
+        Some((17, name)),
+        "\u{E9}\u{A0}\"",
+    );
+    check_spaced(&rt, &mut walk, "\u{A0}", None, "\"");
+    check_spaced(&rt, &mut walk, "", None, "\"");
+}
+
+#[test]
+fn a_front_mark_stands_before_white_characters_alone() {
+    let rt = HostRuntime;
+    let mut walk = pieces("\u{FEFF} ");
+    check_spaced(
+        &rt,
+        &mut walk,
+        "",
+        Some((0, PieceKind::FrontMark)),
+        "\u{FEFF} ",
+    );
+    check_spaced(&rt, &mut walk, " ", None, "");
+    check_spaced(&rt, &mut pieces(" \u{FEFF}"), " ", None, "\u{FEFF}");
+}
