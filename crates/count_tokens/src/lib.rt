@@ -35,7 +35,7 @@ pub struct Counts {
 /// How many tokens of each kind a text has, if it parses.
 ///
 /// `Lex` has the position of the text's fault (`fault`), counted as in a new map. `MapFull` is answered exactly where
-/// the text doesn't fit a new map (`fits`).
+/// the text doesn't fit a new map (`fits`), and `Memory` if memory runs out.
 ///
 /// Of `f(1) // a` the counts are one name, no mark, one literal and one group.
 pub fn count_tokens(alloc: Global, text: &str) -> Result<Counts, ParseError>

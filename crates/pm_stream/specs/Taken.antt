@@ -14,8 +14,8 @@ use Rattle.pm_stream.specs.declared.reading.Lexed.{Lexed}
 abbrev pub Waiting : Type 0
 Waiting = Delimiter × ℕ
 
--- the position where the source begins, the source, its characters before the place up to which it is read, the groups
--- that are open, the innermost first, and the events of all tokens
+-- the position where the source begins, the source, the characters of it that were read, the open groups, the
+-- innermost first, and the events of all tokens that were read
 pub record Taken (T : Type 0) : Type 0 where
   pub base : ℕ
   pub source : List ℕ

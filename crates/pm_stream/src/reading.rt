@@ -28,7 +28,7 @@ pub struct Lexed<'t> {
     pub piece: Piece<'t>,
     /// The text from the piece on to the end of the source.
     pub text: &'t str,
-    /// The position of the piece: in characters, from the position on where the source begins.
+    /// The position of the piece: that where the source begins, plus the number of characters before the piece.
     pub at: u32,
 }
 
@@ -53,13 +53,13 @@ impl<'t> Lexed<'t> {
     }
 }
 
-/// What makes something of the tokens of a text, which [`read`] gives it one after the other.
+/// Receives the tokens of a text from [`read`], in reading order.
 ///
 /// A call gets the piece that the token was read from. The tail after it is `text[piece.bytes..]`, at the position
 /// `at + piece.chars`.
 ///
-/// `opens` is what the loop knows of an open group, and `took` what a sink has taken: each call says what it makes true
-/// of the sink after, for all that was true before.
+/// `opens` gives an open group's delimiter and position. `took` relates a sink to what was read: it holds before each
+/// call, and the call preserves it.
 pub trait TokenSink {
     /// What is kept of a group until its closer comes.
     type Opened: Drop;
@@ -79,7 +79,8 @@ pub trait TokenSink {
         requires { CanTake took self.old lexed (kinds.Mark joint mark) }
         ensures { OnOk result (HasTaken took self.old self.new lexed.entry (kinds.Mark joint mark)) };
 
-    /// Takes an identifier, whose name goes without the `r#` of a raw one.
+    /// Takes an identifier, or a lifetime's name after the mark `'`. `name` leaves out the `r#` of a raw one, which
+    /// `lexed` has.
     fn name(&mut self, lexed: Lexed<'_>, raw: bool, name: &str) -> Result<(), AllocError>
         requires { CanTake took self.old lexed (kinds.Name raw name) }
         ensures { OnOk result (HasTaken took self.old self.new lexed.entry (kinds.Name raw name.entry)) };
@@ -89,24 +90,24 @@ pub trait TokenSink {
         requires { CanTake took self.old lexed kinds.Literal }
         ensures { OnOk result (HasTaken took self.old self.new lexed.entry kinds.Literal) };
 
-    /// Takes a doc comment with what it says, for all of the tokens that it stands for.
+    /// Takes a doc comment in place of all its tokens. `said` is its text without the comment's marks.
     fn doc(&mut self, lexed: Lexed<'_>, inner: bool, said: &str) -> Result<(), AllocError>
         requires { CanTake took self.old lexed (kinds.Doc inner said) }
         ensures { OnOk result (HasTaken took self.old self.new lexed.entry (kinds.Doc inner said.entry)) };
 
-    /// Passes a comment that is no doc comment, or the front mark: pieces that are no tokens. White characters right
-    /// after a piece come in [`white`](TokenSink::white), those at the front of the source one by one here.
+    /// Passes a piece that is no token: the front mark, a comment that is no doc comment, or a white character. White
+    /// characters of ASCII right after a piece come in [`white`](TokenSink::white) instead.
     fn gap(&mut self, lexed: Lexed<'_>)
         requires { CanSkip took self.old lexed }
         ensures { HasTaken took self.old self.new lexed.entry kinds.Gap };
 
-    /// Passes so many white characters of one byte each, which may be none. It comes after each piece's call, with
-    /// the text behind that piece.
+    /// Passes the first `size` characters of `text`, perhaps none: the white ones of ASCII right after a piece. It is
+    /// called after each piece's call. `text` reaches from that piece's end to the end of the source.
     fn white(&mut self, text: &str, size: usize)
         requires { CanPass took self.old (chars text.now) size }
         ensures { HasPassed took self.old self.new (chars text.now) size };
 
-    /// Takes an opener. What it answers comes back with the closer of the group.
+    /// Takes an opener. The value that it returns is passed to `close` with the group's closer.
     fn open(&mut self, lexed: Lexed<'_>, delimiter: Delimiter) -> Result<Self::Opened, AllocError>
         requires { CanOpen took self.old lexed delimiter }
         ensures { IfOk result (HasOpened opens took self.old self.new lexed.entry delimiter) };
@@ -125,7 +126,7 @@ pub trait TokenSink {
 /// Where reading stopped, and what was open there.
 #[derive(Drop)]
 pub struct Ending<'t, T> {
-    /// What was not read, from the piece on that stopped the reading: empty if all was read.
+    /// What was not read, empty if all was read. It begins with the stray closer, or no piece begins there.
     pub rest: &'t str,
     /// The position of the rest.
     pub at: u32,
@@ -196,7 +197,7 @@ pub fn walk<'t, S: TokenSink>(
 
 /// Gives the sink the tokens of a text that begins at the position `base`, all of them, or else fails.
 ///
-/// `Lex` has the position of the fault (`fault`), and `Memory` is answered where memory runs out. `MapFull` isn't.
+/// `Lex` has the position of the fault (`fault`). `Memory` is returned if memory runs out, and `MapFull` never.
 #[inline(always)]
 pub fn read<S: TokenSink>(
     alloc: Global,

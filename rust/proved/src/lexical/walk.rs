@@ -99,8 +99,8 @@ impl<'a> PieceWalk<'a> {
     /// The next piece that is no white character, and the run of white characters before it, which
     /// [`next_piece`](PieceWalk::next_piece) would give as gaps, each by itself. It then passes both.
     ///
-    /// Where no piece stands after the white characters, it passes these alone. So `rest` is empty at the end of the
-    /// text, and else it begins no piece. Comments are pieces, and not passed over.
+    /// If no piece follows the white characters, it passes these alone. `Spaced::rest` is then empty at the end of the
+    /// text, and otherwise begins no piece. Comments are pieces, and not passed over.
     /// Of two spaces, U+2028, `+` and an LF it gives the first three characters with the mark, at byte offset 5, and
     /// then the LF without a piece.
     ///

@@ -19,7 +19,7 @@ pub struct Lexed<'t> {
     pub piece: Piece<'t>,
     /// The text from the piece on to the end of the source.
     pub text: &'t str,
-    /// The position of the piece: in characters, from the position on where the source begins.
+    /// The position of the piece: that where the source begins, plus the number of characters before the piece.
     pub at: u32,
 }
 
@@ -56,13 +56,13 @@ impl<'t> Lexed<'t> {
     }
 }
 
-/// What makes something of the tokens of a text, which [`read`] gives it one after the other.
+/// Receives the tokens of a text from [`read`], in reading order.
 ///
 /// A call gets the piece that the token was read from. The tail after it is `text[piece.bytes..]`, at the position
 /// `at + piece.chars`.
 ///
-/// `opens` is what the loop knows of an open group, and `took` what a sink has taken: each call says what it makes true
-/// of the sink after, for all that was true before.
+/// `opens` gives an open group's delimiter and position. `took` relates a sink to what was read: it holds before each
+/// call, and the call preserves it.
 pub trait TokenSink {
     /// What is kept of a group until its closer comes.
     type Opened;
@@ -91,7 +91,8 @@ pub trait TokenSink {
     /// [HasTaken]: crate::contracts#pm_stream.Taken.HasTaken
     fn mark(&mut self, lexed: Lexed<'_>, joint: bool, mark: char) -> Result<(), AllocError>;
 
-    /// Takes an identifier, whose name goes without the `r#` of a raw one.
+    /// Takes an identifier, or a lifetime's name after the mark `'`. `name` leaves out the `r#` of a raw one, which
+    /// `lexed` has.
     ///
     /// # Contract
     ///
@@ -116,7 +117,7 @@ pub trait TokenSink {
     /// [HasTaken]: crate::contracts#pm_stream.Taken.HasTaken
     fn literal(&mut self, lexed: Lexed<'_>) -> Result<(), AllocError>;
 
-    /// Takes a doc comment with what it says, for all of the tokens that it stands for.
+    /// Takes a doc comment in place of all its tokens. `said` is its text without the comment's marks.
     ///
     /// # Contract
     ///
@@ -129,8 +130,8 @@ pub trait TokenSink {
     /// [HasTaken]: crate::contracts#pm_stream.Taken.HasTaken
     fn doc(&mut self, lexed: Lexed<'_>, inner: bool, said: &str) -> Result<(), AllocError>;
 
-    /// Passes a comment that is no doc comment, or the front mark: pieces that are no tokens. White characters right
-    /// after a piece come in [`white`](TokenSink::white), those at the front of the source one by one here.
+    /// Passes a piece that is no token: the front mark, a comment that is no doc comment, or a white character. White
+    /// characters of ASCII right after a piece come in [`white`](TokenSink::white) instead.
     ///
     /// # Contract
     ///
@@ -141,8 +142,8 @@ pub trait TokenSink {
     /// [HasTaken]: crate::contracts#pm_stream.Taken.HasTaken
     fn gap(&mut self, lexed: Lexed<'_>);
 
-    /// Passes so many white characters of one byte each, which may be none. It comes after each piece's call, with
-    /// the text behind that piece.
+    /// Passes the first `size` characters of `text`, perhaps none: the white ones of ASCII right after a piece. It is
+    /// called after each piece's call. `text` reaches from that piece's end to the end of the source.
     ///
     /// # Contract
     ///
@@ -154,7 +155,7 @@ pub trait TokenSink {
     /// [HasPassed]: crate::contracts#pm_stream.Taken.HasPassed
     fn white(&mut self, text: &str, size: usize);
 
-    /// Takes an opener. What it answers comes back with the closer of the group.
+    /// Takes an opener. The value that it returns is passed to `close` with the group's closer.
     ///
     /// # Contract
     ///
@@ -187,7 +188,7 @@ pub trait TokenSink {
 
 /// Where reading stopped, and what was open there.
 pub struct Ending<'t, T> {
-    /// What was not read, from the piece on that stopped the reading: empty if all was read.
+    /// What was not read, empty if all was read. It begins with the stray closer, or no piece begins there.
     pub rest: &'t str,
     /// The position of the rest.
     pub at: u32,
@@ -275,7 +276,7 @@ pub fn walk<'t, S: TokenSink>(
 
 /// Gives the sink the tokens of a text that begins at the position `base`, all of them, or else fails.
 ///
-/// `Lex` has the position of the fault (`fault`), and `Memory` is answered where memory runs out. `MapFull` isn't.
+/// `Lex` has the position of the fault (`fault`). `Memory` is returned if memory runs out, and `MapFull` never.
 ///
 /// # Contract
 ///
