@@ -81,13 +81,15 @@ fn choices(text: &str) -> Vec<White> {
     (0..=text.len()).map(|at| turns[at % turns.len()]).collect()
 }
 
-/// Asks a splitter for one part after another, and passes over a tree where there is none.
-fn split<'a, T>(stream: &'a TokenStream, mut part: impl FnMut(&'a [TokenTree]) -> Option<(T, &'a [TokenTree])>) {
+/// Asks a splitter for one part after another. It answers what follows the part, or how many trees there is no part in:
+/// these, at least one, are passed over, so that no tree is read again and again.
+fn split<'a>(stream: &'a TokenStream, mut part: impl FnMut(&'a [TokenTree]) -> Result<&'a [TokenTree], usize>) {
     let mut trees = stream.trees();
-    while let Some((_, after)) = trees.split_first() {
+    while !trees.is_empty() {
         trees = match part(trees) {
-            Some((_, rest)) if rest.len() < trees.len() => rest,
-            _ => after,
+            Ok(rest) if rest.len() < trees.len() => rest,
+            Ok(_) => &trees[1..],
+            Err(passed) => &trees[passed.clamp(1, trees.len())..],
         };
     }
 }
@@ -236,8 +238,12 @@ pub const CALLS: &[Call] = &[
     })),
     ("parse_file", |text| on_stream(text, files)),
     ("fronts", |text| on_stream(text, fronts)),
-    ("split_any_item", |text| on_stream(text, |stream| split(stream, |trees| split_any_item(trees).ok()))),
-    ("split_attribute", |text| on_stream(text, |stream| split(stream, |trees| split_attribute(trees)))),
+    ("split_any_item", |text| on_stream(text, |stream| split(stream, |trees| {
+        split_any_item(trees).map(|(_, rest)| rest).map_err(|fault| fault.at)
+    }))),
+    ("split_attribute", |text| on_stream(text, |stream| split(stream, |trees| {
+        split_attribute(trees).map(|(_, rest)| rest).ok_or(1)
+    }))),
     ("string", |text| count(|| Literal::string(text))),
     ("byte_string", |text| count(|| Literal::byte_string(text.as_bytes()))),
     ("str_value", |text| {
