@@ -297,7 +297,7 @@ reads_start {opens = opens} {took = took} base source sink stack none h first e 
   reads = subst (λ b. Reads base source source base b [] nil) (sym e) (reads_none base source);
 }
 
--- what is left behind a piece and the white characters behind it
+-- the text after a piece and after the white characters that follow it
 pub shorter : {first : Bool} {text bytes rest : List ℕ} {count : ℕ} {piece : Found} → IsUtf8 text
     → IsPieceAt first (chars text) piece → bytes ≡ drop piece.bytes text → IsPastWhite (chars bytes) rest count
     → (piece.chars + count + length rest ≡ length (chars text)) × (length rest < length (chars text))
