@@ -15,6 +15,7 @@ mod owned;
 
 use pm_span::Span;
 use pm_span::parts::bounds;
+use pm_token::parts::discard;
 use pm_token::{Delimiter, Ident, Literal, Punct};
 use std::alloc::{AllocError, Global};
 use std::marker::Model;
@@ -134,12 +135,24 @@ fn take_group(shared: &mut Rc<Vec<TokenTree>>) -> Option<Group>
 fn pop_group(trees: &mut Vec<TokenTree>) -> Option<Group>
     ensures { TakesGroup (forest trees.old.items) result (forest trees.new.items) }
 {
-    while let Some(tree) = trees.pop() {
-        match tree {
-            TokenTree::Group(group) => return Some(group),
-            TokenTree::Ident(ident) => drop(ident),
-            TokenTree::Punct(punct) => drop(punct),
-            TokenTree::Literal(literal) => drop(literal),
+    // Identifiers go a way of their own, in which their fields are not loaded. What is popped there is one.
+    while let Some(last) = trees.last() {
+        if let TokenTree::Ident(_) = last {
+            match trees.pop() {
+                Some(TokenTree::Group(group)) => return Some(group),
+                Some(TokenTree::Ident(ident)) => discard(ident),
+                Some(TokenTree::Punct(punct)) => drop(punct),
+                Some(TokenTree::Literal(literal)) => drop(literal),
+                None => return None,
+            }
+            continue;
+        }
+        match trees.pop() {
+            Some(TokenTree::Group(group)) => return Some(group),
+            Some(TokenTree::Ident(ident)) => drop(ident),
+            Some(TokenTree::Punct(punct)) => drop(punct),
+            Some(TokenTree::Literal(literal)) => drop(literal),
+            None => return None,
         }
     }
     None

@@ -60,6 +60,12 @@ impl Ident {
         })
     }
 
+    /// Drops the identifier, part by part, so that a short name need not be in memory.
+    #[inline(always)]
+    pub(crate) fn discard(self) {
+        self.name.discard();
+    }
+
     /// The identifier of this name, if the name has no fault.
     #[inline(always)]
     fn checked(alloc: Global, name: &str, raw: bool, span: Span) -> Result<Ident, IdentError>

@@ -43,6 +43,15 @@ pub fn is_raw(ident: &Ident) -> bool
     ident.is_raw()
 }
 
+/// Drops the identifier, as `drop` does, but part by part and inlined.
+///
+/// `drop` takes the address of the whole identifier, so that one that was just moved out of a list is first written to
+/// the stack. Here a short name, which owns no memory, costs nothing.
+#[inline(always)]
+pub fn discard(ident: Ident) {
+    ident.discard();
+}
+
 /// The mark of this character.
 pub fn punct(mark: char, spacing: Spacing, span: Span) -> Punct
     requires { IsTrue (is_mark mark) }

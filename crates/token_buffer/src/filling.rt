@@ -10,6 +10,9 @@ use pm_stream::reading::{Lexed, TokenSink};
 use pm_token::Delimiter;
 use std::alloc::AllocError;
 
+/// One more than the largest count of entries that an opener can keep.
+const COUNTS: usize = u32::MAX as usize + 1;
+
 /// What was put into a buffer so far.
 #[derive(Drop)]
 pub struct Filling<'t> {
@@ -127,7 +130,7 @@ impl<'t> TokenSink for Filling<'t> {
             delimiter,
             at: group.lo,
             // The count of a longer group is wrong, but no buffer is made of so many entries.
-            count: inside.min(u32::MAX as usize) as u32,
+            count: (inside % COUNTS) as u32,
         };
         self.push(Entry::Close {
             delimiter,
@@ -138,6 +141,7 @@ impl<'t> TokenSink for Filling<'t> {
 
 impl<'t> Filling<'t> {
     /// Puts in an entry.
+    #[inline(always)]
     fn push(&mut self, entry: Entry) -> Result<(), AllocError>
         ensures { OnOk result (Puts self.old self.new (entry ∷ [])) }
     {

@@ -75,6 +75,15 @@ impl Name {
         Ok(Name { text })
     }
 
+    /// Drops the name, part by part, so that a short one need not be in memory.
+    #[inline(always)]
+    pub(crate) fn discard(self) {
+        match self.text {
+            NameText::Short(text) | NameText::RawShort(text) => drop(text),
+            NameText::Long(text) | NameText::RawLong(text) => drop(text),
+        }
+    }
+
     /// The name, without `r#`.
     #[inline(always)]
     pub fn as_str(&self) -> &str

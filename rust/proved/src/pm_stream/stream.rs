@@ -10,6 +10,7 @@ mod owned;
 
 use crate::pm_span::Span;
 use crate::pm_span::parts::bounds;
+use crate::pm_token::parts::discard;
 use crate::pm_token::{Delimiter, Ident, Literal, Punct};
 use crate::shim::alloc::AllocError;
 use crate::shim::rc::Rc;
@@ -95,12 +96,24 @@ fn take_group(shared: &mut Rc<Vec<TokenTree>>) -> Option<Group>
 #[cfg_attr(not(debug_assertions), inline(always))]
 fn pop_group(trees: &mut Vec<TokenTree>) -> Option<Group>
 {
-    while let Some(tree) = trees.pop() {
-        match tree {
-            TokenTree::Group(group) => return Some(group),
-            TokenTree::Ident(ident) => drop(ident),
-            TokenTree::Punct(punct) => drop(punct),
-            TokenTree::Literal(literal) => drop(literal),
+    // Identifiers go a way of their own, in which their fields are not loaded. What is popped there is one.
+    while let Some(last) = trees.last() {
+        if let TokenTree::Ident(_) = last {
+            match trees.pop() {
+                Some(TokenTree::Group(group)) => return Some(group),
+                Some(TokenTree::Ident(ident)) => discard(ident),
+                Some(TokenTree::Punct(punct)) => drop(punct),
+                Some(TokenTree::Literal(literal)) => drop(literal),
+                None => return None,
+            }
+            continue;
+        }
+        match trees.pop() {
+            Some(TokenTree::Group(group)) => return Some(group),
+            Some(TokenTree::Ident(ident)) => drop(ident),
+            Some(TokenTree::Punct(punct)) => drop(punct),
+            Some(TokenTree::Literal(literal)) => drop(literal),
+            None => return None,
         }
     }
     None

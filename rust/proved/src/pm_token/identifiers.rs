@@ -36,6 +36,12 @@ impl Ident {
         })
     }
 
+    /// Drops the identifier, part by part, so that a short name need not be in memory.
+    #[cfg_attr(not(debug_assertions), inline(always))]
+    pub(crate) fn discard(self) {
+        self.name.discard();
+    }
+
     /// The identifier of this name, if the name has no fault.
     #[cfg_attr(not(debug_assertions), inline(always))]
     fn checked(name: &str, raw: bool, span: Span) -> Result<Ident, IdentError>

@@ -1,22 +1,24 @@
 use Rattle.pm_stream.proofs.TakenLemmas.{takes_group, takes_nothing, takes_tree}
 use Rattle.pm_stream.proofs.stream.pop_group.Goals as goal
 
-pub loop-tree-init : goal.loop-tree-init
-loop-tree-init c = takes_nothing _
+pub loop-last-init : goal.loop-last-init
+loop-last-init c = takes_nothing _
 
-pub returns-in-Group : goal.returns-in-Group
-returns-in-Group c =
-    takes_group _ _ _ c.pop.result c.in-Some.tree c.in-Group.group c.loop-tree.invariant c.pop.ensures.items
-    c.in-Some.is c.in-Group.is
+pub loop-last-preserved-in-Some-Ident : goal.loop-last-preserved-in-Some-Ident
+loop-last-preserved-in-Some-Ident c =
+    takes_tree _ _ _ c.pop.result c.in-Some-Ident.field-0 c.loop-last.invariant c.pop.ensures.items c.in-Some-Ident.is
 
-pub loop-tree-preserved-in-Ident : goal.loop-tree-preserved-in-Ident
-loop-tree-preserved-in-Ident c =
-    takes_tree _ _ _ c.pop.result c.in-Some.tree c.loop-tree.invariant c.pop.ensures.items c.in-Some.is
+pub returns-in-Some-Group-pop : goal.returns-in-Some-Group-pop
+returns-in-Some-Group-pop c =
+    takes_group _ _ _ c.pop-in-Some.result c.in-Some-Group-pop.field-0 c.in-Some-Group-pop.group c.loop-last.invariant
+    c.pop-in-Some.ensures.items c.in-Some-Group-pop.is c.in-Some-Group-pop.field-0-is
 
-pub loop-tree-preserved-in-Punct : goal.loop-tree-preserved-in-Punct
-loop-tree-preserved-in-Punct c =
-    takes_tree _ _ _ c.pop.result c.in-Some.tree c.loop-tree.invariant c.pop.ensures.items c.in-Some.is
+pub loop-last-preserved-in-Some-Punct-pop : goal.loop-last-preserved-in-Some-Punct-pop
+loop-last-preserved-in-Some-Punct-pop c =
+    takes_tree _ _ _ c.pop-in-Some.result c.in-Some-Punct-pop.field-0 c.loop-last.invariant c.pop-in-Some.ensures.items
+    c.in-Some-Punct-pop.is
 
-pub loop-tree-preserved : goal.loop-tree-preserved
-loop-tree-preserved c =
-    takes_tree _ _ _ c.pop.result c.in-Some.tree c.loop-tree.invariant c.pop.ensures.items c.in-Some.is
+pub loop-last-preserved : goal.loop-last-preserved
+loop-last-preserved c =
+    takes_tree _ _ _ c.pop-in-Some.result c.in-Some-Literal-pop.field-0 c.loop-last.invariant
+    c.pop-in-Some.ensures.items c.in-Some-Literal-pop.is

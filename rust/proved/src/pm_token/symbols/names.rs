@@ -65,6 +65,15 @@ impl Name {
         Ok(Name { text })
     }
 
+    /// Drops the name, part by part, so that a short one need not be in memory.
+    #[cfg_attr(not(debug_assertions), inline(always))]
+    pub(crate) fn discard(self) {
+        match self.text {
+            NameText::Short(text) | NameText::RawShort(text) => drop(text),
+            NameText::Long(text) | NameText::RawLong(text) => drop(text),
+        }
+    }
+
     /// The name, without `r#`.
     ///
     /// # Contract

@@ -1,4 +1,4 @@
-use Rattle.std.proofs.Common.{◌≡◌, ◌+◌, ◌++◌, [], ◌∷◌, length, sym, ap, subst, ◌∙◌, arith, rules}
+use Rattle.std.proofs.Common.{◌≡◌, ◌+◌, ◌-◌, ◌%◌, ◌++◌, ℕ, [], ◌∷◌, length, sym, ap, subst, ◌∙◌, arith, rules}
 use Rattle.std.proofs.Math.ListN.{set}
 use Rattle.pm_stream.specs.Events.{Closes}
 use Rattle.pm_stream.specs.Taken.{past}
@@ -14,11 +14,12 @@ returns c =
     let x = c.args.group in
     let hi = c.args.lexed.at + 1 in
     let size : c.len.result ≡ length old.entries.items = search rules in
+    let count : ℕ = (c.len.result - x.index - 1) % 4294967296 in
     on_ok c.push.result (λ step can.
     let before = can.to.before in
     let inside = index_fits old before x can.outer can.to.takes can.innermost in
     subst (λ d. Fills c.push.new.self (past before can.to.is.found.front can.outer (Closes d hi ∷ []))) can.fits
     (fills_close old before x can.outer can.to.takes can.innermost c.push.new.self can.to.is.found.front hi
-    c.min.result (λ few. omega (arith, c.min.ensures, size, inside, few)) step.text
-    (step.entries ∙ ap (λ d. set old.entries.items x.index (entries.Open d x.lo c.min.result)
+    count (λ few. omega (arith, size, inside, few)) step.text
+    (step.entries ∙ ap (λ d. set old.entries.items x.index (entries.Open d x.lo count)
     ++ (entries.Close d hi ∷ [])) (sym can.fits)))) c.push.ensures
