@@ -8,6 +8,9 @@ use crate::pm_stream::reading::{Lexed, TokenSink};
 use crate::pm_token::Delimiter;
 use crate::shim::alloc::AllocError;
 
+/// One more than the largest count of entries that an opener can keep.
+const COUNTS: usize = u32::MAX as usize + 1;
+
 /// What was put into a buffer so far.
 pub struct Filling<'t> {
     /// The whole text.
@@ -118,7 +121,7 @@ impl<'t> TokenSink for Filling<'t> {
             delimiter,
             at: group.lo,
             // The count of a longer group is wrong, but no buffer is made of so many entries.
-            count: inside.min(u32::MAX as usize) as u32,
+            count: (inside % COUNTS) as u32,
         };
         self.push(Entry::Close {
             delimiter,
@@ -129,6 +132,7 @@ impl<'t> TokenSink for Filling<'t> {
 
 impl<'t> Filling<'t> {
     /// Puts in an entry.
+    #[cfg_attr(not(debug_assertions), inline(always))]
     fn push(&mut self, entry: Entry) -> Result<(), AllocError>
     {
         self.entries.push_fallibly(entry)?;
