@@ -693,7 +693,7 @@ def memory(file):
 def errors(file):
     """Leaves the errors of the library open to more cases, and `Error` to native/errors.rs, which tells what is inside.
 
-        pub enum AError { One } impl Error for AError {} pub enum B { One }
+        pub enum AError { One } impl Error for AError {} pub enum B { One } impl<'a> Error for C<'a> {}
         => #[non_exhaustive] pub enum AError { One } pub enum B { One }
     """
     if file.package.below:
@@ -701,7 +701,12 @@ def errors(file):
     goes, edits = set(), {}
     for at, token in enumerate(file.tokens):
         name = file.tokens[following(file.tokens, following(file.tokens, following(file.tokens, at)))].text
-        for words in (f'impl Error for {name} {{ }}', 'use std : : error : : Error ;'):
+        last = at
+        for _ in range(6):
+            last = following(file.tokens, last)
+        borrowing = file.tokens[last].text
+        for words in (f'impl Error for {name} {{ }}', f"impl < 'a > Error for {borrowing} < 'a > {{ }}",
+                      'use std : : error : : Error ;'):
             for end in found(file.tokens, at, words):
                 goes |= set(range(at, end + 1))
                 file.count('errors')

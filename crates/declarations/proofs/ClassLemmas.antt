@@ -1,10 +1,11 @@
 -- What holds of all classes in the list holds of each.
-use Rattle.std.proofs.Common.{◌≡◌, refl, subst, ℕ, zero, suc, Bool, true, List, [], ◌∷◌, Option, Some, None}
+use Rattle.std.proofs.Common.{◌≡◌, refl, sym, ◌∙◌, ap, subst, eqb-true, ℕ, zero, suc, Bool, true, List, [], ◌∷◌}
+use Rattle.std.proofs.Common.{Option, Some, None}
 use Rattle.std.proofs.Common.{inl, inr}
 use Rattle.std.proofs.lemmas.Bool.{and_parts, or_cases, both_ways}
 use Rattle.grammars.specs.Deterministic.{Passes}
 use Rattle.grammars.specs.Tests.{IsAny, IsEvery}
-use Rattle.declarations.specs.rules.Classes.{code, classes, all_of, every, any_of, any}
+use Rattle.declarations.specs.rules.Classes.{code, classes, all_of, every, any_of, any, is}
 use Rattle.declarations.specs.declared.class.Class.{Class}
 use Rattle.declarations.specs.declared.class.Class.TheVariants as signs
 use Rattle.declarations.specs.declared.class.Word.TheVariants as words
@@ -38,3 +39,10 @@ some_of p (x ∷ xs) h = elim (or_cases (p x) (any_of p xs) h) [ inl y ↦ (x, y
 
 pub any_passes : IsAny any
 any_passes p h = some_of p classes h
+
+-- a class with the number of another is that one
+pub same_class : (x c : Class) → is x c ≡ true → c ≡ x
+same_class x c h =
+    let numbers : code x ≡ code c = eqb-true (code x) (code c) h in
+    let both : Some c ≡ Some x = sym (at_code c) ∙ (ap (at classes) (sym numbers) ∙ at_code x) in
+    cc

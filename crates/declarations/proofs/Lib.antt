@@ -26,3 +26,9 @@ pub mod SpotLemmas
 pub mod EndLemmas
 pub mod TableLemmas
 pub mod FormLemmas
+pub mod ReaderLemmas
+pub mod LoopLemmas
+pub mod RuleFormLemmas
+pub mod TableReaderLemmas
+pub mod EntryLemmas
+pub mod EntryCheckLemmas

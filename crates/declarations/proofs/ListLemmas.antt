@@ -36,7 +36,7 @@ pub past_mark : (trees left : List TokenTree) (tree : TokenTree) (mark : Mark) �
     → mark.mark ≡ 44 → IsPastComma trees left
 past_mark trees left tree mark whole is comma = rw (whole, is) (comma, refl)
 
-past_fewer : (rest left : List TokenTree) → IsPastComma rest left → length left ≤ length rest
+pub past_fewer : (rest left : List TokenTree) → IsPastComma rest left → length left ≤ length rest
 past_fewer [] left past = rw past (omega arith)
 past_fewer (Punct mark ∷ rest) left past = rw past.1 (omega arith)
 past_fewer (Group g ∷ rest) left past = absurd past
@@ -45,7 +45,7 @@ past_fewer (Literal l ∷ rest) left past = absurd past
 
 -- ---- a part has a tree at least
 
-first_some : (trees : List TokenTree) (sign : Sign) (after : List Sign) → signs trees ≡ sign ∷ after
+pub first_some : (trees : List TokenTree) (sign : Sign) (after : List Sign) → signs trees ≡ sign ∷ after
     → 0 < length sign.trees
 first_some [] sign after read = cc
 first_some (first ∷ []) sign after read =

@@ -29,7 +29,7 @@ trees-append (sign ∷ front) back =
     ∙ sym (append_assoc sign.trees (trees_of front) (trees_of back))
 
 -- as many signs at the front of the same are the same
-same_front : (p q r s : List Sign) → p ++ r ≡ q ++ s → classes_of p ≡ classes_of q → p ≡ q
+pub same_front : (p q r s : List Sign) → p ++ r ≡ q ++ s → classes_of p ≡ classes_of q → p ≡ q
 same_front [] [] r s whole same = refl
 same_front [] (b ∷ q) r s whole same = cc
 same_front (a ∷ p) [] r s whole same = cc

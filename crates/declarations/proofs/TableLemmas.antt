@@ -92,14 +92,14 @@ walk_lifted place k e (c ∷ signs) =
 -- ---- pieces
 
 -- the tables at a place, and the machine at what it has left
-record Meets (place : Place) (k : List G) : Type 0 where
+pub record Meets (place : Place) (k : List G) : Type 0 where
   pub left : left_at place ≡ Some (flat_all k)
 
-meet_ends : (place : Place) (k : List G) → Meets place k → ends place ≡ machine.ends k
+pub meet_ends : (place : Place) (k : List G) → Meets place k → ends place ≡ machine.ends k
 meet_ends place k m = ends_same place (flat_all k) m.left ∙ ends_flat rules k
 
 -- where the tables walk, the machine does
-table_walk : (start : Place) (g : G) → Meets start (g ∷ []) → (signs : List Class) (last : Place)
+pub table_walk : (start : Place) (g : G) → Meets start (g ∷ []) → (signs : List Class) (last : Place)
     → walk step start signs ≡ Some last
     → (taken : List (Event Class Label) × List G) ×
     (machine.walk rules (g ∷ []) signs ≡ Some taken) × Meets last taken.1
@@ -140,7 +140,7 @@ machine_walk start g m signs taken e = go (walk step start signs) refl
         (last, h, record { left = same })
 
 -- where the tables have no step, the machine has none
-no_step : (place : Place) (k : List G) → Meets place k → (c : Class) → step place c ≡ None
+pub no_step : (place : Place) (k : List G) → Meets place k → (c : Class) → step place c ≡ None
     → machine.step rules k c ≡ None
 no_step place k m c e = go (machine.step rules k c) refl
   where

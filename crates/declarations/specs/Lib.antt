@@ -8,6 +8,7 @@ pub mod Grammar
 pub mod Forms
 pub mod Signs
 pub mod Reading
+pub mod Reader
 pub mod Whole
 pub mod Item
 pub mod Field
@@ -17,6 +18,9 @@ pub mod Kind
 pub mod File
 pub mod Param
 pub mod Attribute
+pub mod Entry
 pub mod List
+pub mod EntryList
+pub mod EntryCheck
 pub mod CompileError
 pub mod rules

@@ -1,11 +1,11 @@
 -- What is read of trees, and where none is.
-use Rattle.std.specs.Prelude.{◌≡◌, ℕ, List, [], ◌∷◌, ◌++◌, Option, Some, None, cond, length}
+use Rattle.std.specs.Prelude.{◌≡◌, ℕ, Bool, List, [], ◌∷◌, ◌++◌, Option, Some, None, cond, length}
 use Rattle.pm_token.specs.Leaf.{Name}
 use Rattle.pm_stream.specs.declared.stream.TokenTree.{TokenTree}
 use Rattle.pm_stream.specs.declared.stream.TokenTree.TheVariants.{Ident}
-use Rattle.declarations.specs.Grammar.{names, step}
+use Rattle.declarations.specs.Grammar.{ends, names, step}
 use Rattle.declarations.specs.Signs.{Sign, signs, classes_of, trees_of}
-use Rattle.declarations.specs.Walk.{IsFront, walk}
+use Rattle.declarations.specs.Walk.{IsFront, Stops, walk}
 use Rattle.declarations.specs.declared.class.Class.{Class}
 use Rattle.declarations.specs.declared.place.Place.{Place}
 
@@ -65,3 +65,11 @@ pub record Walked (start : Place) (trees left : List TokenTree) (place : Place) 
   pub whole : trees ≡ trees_of front ++ left
   pub walks : walk step start (classes_of front) ≡ Some place
   pub takes : name ≡ name_of start None front
+
+-- a walk from a place over the signs before those of the left trees stops there, at a place where it may end or not
+pub record StopsAt (start : Place) (ended : Bool) (trees left : List TokenTree) : Type 0 where
+  pub place : Place
+  pub name : Option Name
+  pub walked : Walked start trees left place name
+  pub stops : Stops step place (classes_of (signs left))
+  pub may_end : ends place ≡ ended

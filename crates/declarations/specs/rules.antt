@@ -9,3 +9,4 @@ pub mod Items
 pub mod Impls
 pub mod Rules
 pub mod Pieces
+pub mod Entries

@@ -223,7 +223,7 @@ fn goes_on(tree: &TokenTree) -> bool
     }
 }
 
-fn has_no_delimiters(delimiter: Delimiter) -> bool
+pub(crate) fn has_no_delimiters(delimiter: Delimiter) -> bool
     ensures { result ≡ has_no_delimiters delimiter }
 {
     match delimiter {

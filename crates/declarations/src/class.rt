@@ -1,4 +1,6 @@
 //! What a sign is to the grammar.
+ghost use Rattle.std.specs.Prelude.{◌≡◌};
+ghost use Rattle.declarations.specs.rules.Classes.{code};
 
 /// An identifier that is no keyword, or a raw one.
 #[derive(Clone, Copy, Debug, PartialEq, Eq)]
@@ -149,4 +151,78 @@ pub enum Class {
     Infix,
     /// Any other mark.
     Mark,
+}
+
+/// The number of a class, which differs from that of each other one.
+pub(crate) fn code(class: Class) -> u8
+    ensures { result ≡ code class }
+{
+    match class {
+        Class::Word(Word::Auto) => 0,
+        Class::Word(Word::Default) => 1,
+        Class::Word(Word::Safe) => 2,
+        Class::Word(Word::Union) => 3,
+        Class::Word(Word::Plain) => 4,
+        Class::Keyword(Keyword::Async) => 5,
+        Class::Keyword(Keyword::Const) => 6,
+        Class::Keyword(Keyword::Dyn) => 7,
+        Class::Keyword(Keyword::Enum) => 8,
+        Class::Keyword(Keyword::Extern) => 9,
+        Class::Keyword(Keyword::Fn) => 10,
+        Class::Keyword(Keyword::For) => 11,
+        Class::Keyword(Keyword::Impl) => 12,
+        Class::Keyword(Keyword::Macro) => 13,
+        Class::Keyword(Keyword::Mod) => 14,
+        Class::Keyword(Keyword::Mut) => 15,
+        Class::Keyword(Keyword::Pub) => 16,
+        Class::Keyword(Keyword::Static) => 17,
+        Class::Keyword(Keyword::Struct) => 18,
+        Class::Keyword(Keyword::Trait) => 19,
+        Class::Keyword(Keyword::Type) => 20,
+        Class::Keyword(Keyword::Unsafe) => 21,
+        Class::Keyword(Keyword::Use) => 22,
+        Class::Keyword(Keyword::Where) => 23,
+        Class::Keyword(Keyword::Other) => 24,
+        Class::SelfValue => 25,
+        Class::SelfType => 26,
+        Class::Super => 27,
+        Class::Crate => 28,
+        Class::Underscore => 29,
+        Class::As => 30,
+        Class::Truth => 31,
+        Class::Await => 32,
+        Class::Jump => 33,
+        Class::Literal => 34,
+        Class::Lifetime => 35,
+        Class::PathSeparator => 36,
+        Class::Arrow => 37,
+        Class::HashBang => 38,
+        Class::LessEquals => 39,
+        Class::Bars => 40,
+        Class::Restriction => 41,
+        Class::Parentheses => 42,
+        Class::Brackets => 43,
+        Class::Braces => 44,
+        Class::Visibility => 45,
+        Class::Invisible => 46,
+        Class::Less => 47,
+        Class::LessJoint => 48,
+        Class::Greater => 49,
+        Class::Comma => 50,
+        Class::Colon => 51,
+        Class::Semicolon => 52,
+        Class::Equals => 53,
+        Class::Plus => 54,
+        Class::Minus => 55,
+        Class::Star => 56,
+        Class::And => 57,
+        Class::Question => 58,
+        Class::Exclamation => 59,
+        Class::Hash => 60,
+        Class::Tilde => 61,
+        Class::Bar => 62,
+        Class::Dot => 63,
+        Class::Infix => 64,
+        Class::Mark => 65,
+    }
 }

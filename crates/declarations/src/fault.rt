@@ -62,7 +62,7 @@ impl Eq for Fault {
 }
 
 // Whether both are the same span, or none.
-fn are_same(span: Option<Span>, other: Option<Span>) -> bool
+pub(crate) fn are_same(span: Option<Span>, other: Option<Span>) -> bool
     ensures { result ≡ option_eq extent_eq span other }
 {
     match (span, other) {

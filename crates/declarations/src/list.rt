@@ -186,7 +186,7 @@ fn first_variant(trees: &[TokenTree]) -> Result<(Variant<'_>, &[TokenTree]), Fau
 }
 
 // The fault before these trees, the last of all.
-fn fault_after(trees: &[TokenTree], rest: &[TokenTree]) -> Fault
+pub(crate) fn fault_after(trees: &[TokenTree], rest: &[TokenTree]) -> Fault
     requires { length rest.now ≤ length trees.now }
     ensures at { result.at ≡ length trees.now - length rest.now }
     ensures span { result.span ≡ first_extent rest.now }
@@ -195,7 +195,7 @@ fn fault_after(trees: &[TokenTree], rest: &[TokenTree]) -> Fault
 }
 
 // The trees after the comma at the front, or none where none are left.
-fn past_comma(trees: &[TokenTree]) -> Option<&[TokenTree]>
+pub(crate) fn past_comma(trees: &[TokenTree]) -> Option<&[TokenTree]>
     ensures found { IfSome result (λ left. IsPastComma trees.now left.now) }
     ensures none { IfNone result ((left : List Tree) → IsPastComma trees.now left → ⊥) }
 {

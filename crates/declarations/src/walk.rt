@@ -1,9 +1,10 @@
 //! Walks over the signs of trees, by the grammar.
-ghost use Rattle.std.specs.Prelude.{◌≡◌, ◌≢◌, ◌+◌, ◌≤◌, ◌<◌, ◌^◌, IfErr, IfNone, IfOk, IfSome, OnOk, cond, length};
+ghost use Rattle.std.specs.Prelude.{◌≡◌, ◌≢◌, ◌+◌, ◌≤◌, ◌<◌, ◌^◌, IfErr, IfNone, IfOk, IfSome, MatchResult, OnOk, cond};
+ghost use Rattle.std.specs.Prelude.{false, length, true};
 ghost use Rattle.declarations.specs.Fault.{extent_at};
 ghost use Rattle.declarations.specs.Forms.{IsFrom};
 ghost use Rattle.declarations.specs.Grammar.{names, step};
-ghost use Rattle.declarations.specs.Reading.{FaultAt, IsOnly, Reads, Walked, first_name};
+ghost use Rattle.declarations.specs.Reading.{FaultAt, IsOnly, Reads, StopsAt, Walked, first_name};
 ghost use Rattle.declarations.specs.Signs.{BeginsWith, classes_of, signs};
 ghost use Rattle.declarations.specs.Walk.{Stops};
 ghost use Rattle.declarations.specs.Whole.{IsWhole, ReadsAll};
@@ -63,6 +64,23 @@ pub(crate) fn read_whole(trees: &[TokenTree], start: Place) -> Result<(), Fault>
         Ok(())
     } else {
         Err(Fault::ahead_of(trees.len() - stop.left.len(), stop.left))
+    }
+}
+
+// Past what is read from this place on, or past the longest front that can go on.
+pub(crate) fn walk_past<'a>(
+    trees: &'a [TokenTree],
+    start: Place,
+) -> Result<&'a [TokenTree], &'a [TokenTree]>
+    requires { start.depth ≡ 0 }
+    ensures { MatchResult result (λ rest. StopsAt start true trees.now rest.now)
+        (λ left. StopsAt start false trees.now left.now) }
+{
+    let stop = walk_from(trees, start);
+    if stop.place.may_end() {
+        Ok(stop.left)
+    } else {
+        Err(stop.left)
     }
 }
 

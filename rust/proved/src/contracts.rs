@@ -104,12 +104,15 @@
 //!   after the last
 //! - <a id="declarations.Signs.BeginsWith"></a>**BeginsWith**: the trees begin with a sign of this class, and
 //!   the rest follows it
+//! - <a id="declarations.rules.Pieces.ByRule"></a>**ByRule**: the pieces of a rule, as a form
 //! - <a id="declarations.Reading.FaultAt"></a>**FaultAt**: nothing is read, and so many trees are the longest
 //!   front that some trees could follow for something to be read
 //! - <a id="declarations.File.FileFaultAt"></a>**FileFaultAt**: the fault of a file is that of its inner
 //!   attributes, or that of the first item that isn't read
 //! - <a id="declarations.Field.HasFieldParts"></a>**HasFieldParts**: the trees are a field with a name, and
 //!   these are its parts: a name, `:` and a type stand after its visibility
+//! - <a id="declarations.EntryCheck.HasNames"></a>**HasNames**: the entries before the left trees have known
+//!   names, each another; these are the names' places, the last first
 //! - <a id="declarations.Field.HasTypeParts"></a>**HasTypeParts**: the trees are a field without a name, and
 //!   these are its parts: a type stands after its visibility
 //! - <a id="declarations.Param.IsAfterWhere"></a>**IsAfterWhere**: the trees of a where clause after `where`,
@@ -117,6 +120,10 @@
 //! - <a id="declarations.Forms.IsAnyItem"></a>**IsAnyItem**: an item of any kind: what it begins with, its
 //!   name, header and body, or a group without delimiters
 //! - <a id="declarations.Attribute.IsAttributeAt"></a>**IsAttributeAt**: the trees begin with the attribute
+//! - <a id="declarations.Entry.IsEntryAt"></a>**IsEntryAt**: the trees begin with an entry, and these are its
+//!   parts
+//! - <a id="declarations.EntryCheck.IsEntryError"></a>**IsEntryError**: the entries up to some trees have known
+//!   names, each another, and these trees are wrong as the error says
 //! - <a id="declarations.Forms.IsExpression"></a>**IsExpression**: the expression of a discriminant, whose end
 //!   alone is read
 //! - <a id="declarations.Forms.IsField"></a>**IsField**: a field: attributes, a visibility, a name, `:` and a
@@ -132,6 +139,8 @@
 //!   the front of the trees
 //! - <a id="declarations.Param.IsOnlyPredicate"></a>**IsOnlyPredicate**: no other predicate with another rest
 //!   stands at the front of the trees
+//! - <a id="declarations.Entry.IsOnlyRest"></a>**IsOnlyRest**: no other trees follow what the rule reads at the
+//!   front of the trees
 //! - <a id="declarations.Param.IsParamAt"></a>**IsParamAt**: the trees begin with a parameter, and these are
 //!   its parts: each is what its rule reads of the trees after the one before it, and a `,` follows the last,
 //!   or nothing
@@ -177,6 +186,8 @@
 //! - <a id="declarations.CompileError.compile_error"></a>**compile_error**: `::core::compile_error! { "text"
 //!   }`, each tree with this span
 //! - <a id="declarations.Grammar.ends"></a>**ends**: whether what is read may end at this place of the grammar
+//! - <a id="declarations.rules.Entries.entry"></a>**entry**: an entry: a literal, or a path with what follows
+//!   it
 //! - <a id="declarations.rules.Expressions.expression"></a>**expression**: where an operand is wanted
 //! - <a id="declarations.Fault.extent_at"></a>**extent_at**: the span of the tree with this index, or nothing
 //!   where the trees end before it

@@ -239,7 +239,7 @@ fn goes_on(tree: &TokenTree) -> bool
     }
 }
 
-fn has_no_delimiters(delimiter: Delimiter) -> bool
+pub(crate) fn has_no_delimiters(delimiter: Delimiter) -> bool
 {
     match delimiter {
         Delimiter::None => true,

@@ -47,7 +47,7 @@ impl Eq for Fault {
 }
 
 // Whether both are the same span, or none.
-fn are_same(span: Option<Span>, other: Option<Span>) -> bool
+pub(crate) fn are_same(span: Option<Span>, other: Option<Span>) -> bool
 {
     match (span, other) {
         (Some(span), Some(other)) => span.eq(&other),

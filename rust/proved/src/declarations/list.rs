@@ -173,13 +173,13 @@ fn first_variant(trees: &[TokenTree]) -> Result<(Variant<'_>, &[TokenTree]), Fau
 }
 
 // The fault before these trees, the last of all.
-fn fault_after(trees: &[TokenTree], rest: &[TokenTree]) -> Fault
+pub(crate) fn fault_after(trees: &[TokenTree], rest: &[TokenTree]) -> Fault
 {
     Fault::ahead_of(trees.len() - rest.len(), rest)
 }
 
 // The trees after the comma at the front, or none where none are left.
-fn past_comma(trees: &[TokenTree]) -> Option<&[TokenTree]>
+pub(crate) fn past_comma(trees: &[TokenTree]) -> Option<&[TokenTree]>
 {
     match trees.split_first() {
         None => Some(trees),

@@ -46,6 +46,20 @@ pub(crate) fn read_whole(trees: &[TokenTree], start: Place) -> Result<(), Fault>
     }
 }
 
+// Past what is read from this place on, or past the longest front that can go on.
+pub(crate) fn walk_past<'a>(
+    trees: &'a [TokenTree],
+    start: Place,
+) -> Result<&'a [TokenTree], &'a [TokenTree]>
+{
+    let stop = walk_from(trees, start);
+    if stop.place.may_end() {
+        Ok(stop.left)
+    } else {
+        Err(stop.left)
+    }
+}
+
 // Where a walk over signs stops.
 #[derive(Clone, Copy)]
 struct Stop<'a> {

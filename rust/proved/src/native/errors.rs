@@ -45,6 +45,8 @@ errors! {
     crate::relayout::RelayoutError { Memory };
     #[cfg(feature = "declarations")]
     crate::declarations::Fault;
+    #[cfg(feature = "declarations")]
+    crate::declarations::EntryError<'_>;
     #[cfg(feature = "item_headers")]
     crate::item_headers::HeaderError { Fault Keyword Quote };
 }

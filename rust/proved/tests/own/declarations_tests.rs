@@ -8,6 +8,8 @@ mod attributes;
 #[cfg(test)]
 mod compile_errors;
 #[cfg(test)]
+mod entries;
+#[cfg(test)]
 mod files;
 #[cfg(test)]
 mod generics;

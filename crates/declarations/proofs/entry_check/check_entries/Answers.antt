@@ -1,0 +1,42 @@
+use Rattle.std.proofs.Common.{◌∙◌, arith}
+use Rattle.declarations.specs.rules.Entries as rule
+use Rattle.declarations.specs.rules.Pieces.{ByRule}
+use Rattle.declarations.proofs.EntryCheckLemmas.{checked_more, checked_none, list_fault_within, place_below}
+use Rattle.declarations.proofs.EntryCheckLemmas.{repeated_error}
+use Rattle.declarations.proofs.entry_check.check_entries.Goals as goal
+
+pub loop-left-init : goal.loop-left-init
+loop-left-init c = checked_none c.args.known.now c.args.list.now
+
+pub bounds-seen-place : goal.bounds-seen-place
+bounds-seen-place c =
+    let below = place_below c.args.known.now c.in-Ok.entry c.place_of-place.result c.place_of-place.ensures
+    c.if-place-known.false in
+    omega (arith, below, c.requires)
+
+pub bounds-seen-place-in-Ok : goal.bounds-seen-place-in-Ok
+bounds-seen-place-in-Ok c =
+    let below = place_below c.args.known.now c.in-Ok.entry c.place_of-place.result c.place_of-place.ensures
+    c.if-place-known.false in
+    omega (arith, below, c.requires)
+
+pub returns-then-seen-place-clause-err : goal.returns-then-seen-place-clause-err
+returns-then-seen-place-clause-err c =
+    let made = c.wrong-then-seen-place.ensures in
+    let fault = c.ahead_of-then-seen-place.ensures in
+    repeated_error c.args.known.now c.args.list.now c.loop-left.left.now c.in-Ok.next.now c.loop-left.seen
+    c.in-Ok.entry c.place_of-place.result c.wrong-then-seen-place.result c.loop-left.invariant c.in-Ok.ensures.given
+    c.place_of-place.ensures c.if-place-known.false c.requires c.if-seen-place.true made.problem
+    (made.at ∙ fault.at) (made.span ∙ fault.span) made.known
+
+pub loop-left-preserved : goal.loop-left-preserved
+loop-left-preserved c =
+    checked_more c.args.known.now c.args.list.now c.loop-left.left.now c.in-Ok.next.now c.loop-left.seen c.in-Ok.entry
+    c.place_of-place.result c.loop-left.invariant c.in-Ok.ensures.given c.in-Ok.ensures.fewer c.place_of-place.ensures
+    c.if-place-known.false c.requires c.if-seen-place.false
+
+pub overflow_add-at : goal.overflow_add-at
+overflow_add-at c =
+    let within = list_fault_within (ByRule rule.entry) c.loop-left.left.now c.in-Err.fault c.in-Err.ensures.given in
+    let fewer = c.loop-left.invariant.fewer in
+    omega (arith, within, fewer)

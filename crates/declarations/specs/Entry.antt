@@ -1,0 +1,75 @@
+-- The parts of an attribute's entry, in reading order.
+use Rattle.std.specs.Prelude.{◌≡◌, true, List, [], ◌∷◌, MatchResult, Result}
+use Rattle.std.specs.Borrow.{Bor}
+use Rattle.pm_stream.specs.declared.stream.TokenTree.{TokenTree}
+use Rattle.pm_stream.specs.declared.stream.TokenTree.TheVariants.{Group}
+use Rattle.declarations.specs.Reader.{Finds, Sticks}
+use Rattle.declarations.specs.Reading.{Reads}
+use Rattle.declarations.specs.Signs.{BeginsWith}
+use Rattle.declarations.specs.declared.class.Class.{Class}
+use Rattle.declarations.specs.declared.class.Class.TheVariants as classes
+use Rattle.declarations.specs.declared.entry.Entry.{Entry}
+use Rattle.declarations.specs.declared.entry.EntryKind.{EntryKind}
+use Rattle.declarations.specs.declared.entry.EntryKind.TheVariants as kinds
+use Rattle.declarations.specs.rules.Entries as rule
+use Rattle.declarations.specs.rules.Names.{G}
+use Rattle.declarations.specs.rules.Pieces.{ByRule}
+
+-- the trees begin with a group that is a list, and the rest follows it
+pub record IsListAt (trees : List TokenTree) (tree : TokenTree) (rest : List TokenTree) : Type 0 where
+  pub whole : trees ≡ tree ∷ rest
+  pub class : Class
+  pub begins : BeginsWith trees class rest
+  pub is : rule.is_list class ≡ true
+
+-- a path and a list
+pub record HasList (trees path : List TokenTree) (tree : TokenTree) (rest : List TokenTree) : Type 0 where
+  pub from_list : List TokenTree
+  pub path_read : Reads (ByRule rule.entry_path) trees path from_list
+  pub list : from_list ≡ tree ∷ rest
+
+-- a path, `=` and a value
+pub record HasValue (trees path value rest : List TokenTree) : Type 0 where
+  pub from_equals : List TokenTree
+  pub from_value : List TokenTree
+  pub path_read : Reads (ByRule rule.entry_path) trees path from_equals
+  pub equals : BeginsWith from_equals classes.Equals from_value
+  pub value_read : Reads (ByRule rule.entry_value) from_value value rest
+
+-- a literal, and no path
+pub record HasLiteral (trees path literal rest : List TokenTree) : Type 0 where
+  pub no_path : path ≡ []
+  pub literal_read : Reads (ByRule rule.entry_literal) trees literal rest
+
+-- the trees begin with these parts
+abbrev pub HasParts : EntryKind → List TokenTree → List TokenTree → List TokenTree → Type 0
+HasParts kinds.Path trees path rest = Reads (ByRule rule.entry_path) trees path rest
+HasParts (kinds.List g) trees path rest = HasList trees path (Group g.now) rest
+HasParts (kinds.Value value) trees path rest = HasValue trees path value.now rest
+HasParts (kinds.Literal literal) trees path rest = HasLiteral trees path literal.now rest
+
+-- the trees begin with an entry, and these are its parts
+pub record IsEntryAt (trees : List TokenTree) (entry : Entry) (rest : List TokenTree) : Type 0 where
+  pub part : List TokenTree
+  pub reads : Reads (ByRule rule.entry) trees part rest
+  pub parts : HasParts entry.kind trees entry.path.now rest
+
+-- what follows the path
+abbrev pub HasArgs : EntryKind → List TokenTree → List TokenTree → Type 0
+HasArgs kinds.Path from_args rest = from_args ≡ rest
+HasArgs (kinds.List g) from_args rest = from_args ≡ Group g.now ∷ rest
+HasArgs (kinds.Value value) from_args rest =
+    (from_value : List TokenTree) × BeginsWith from_args classes.Equals from_value
+    × Reads (ByRule rule.entry_value) from_value value.now rest
+HasArgs (kinds.Literal literal) from_args rest = ⊥
+
+-- no other trees follow what the rule reads at the front of the trees
+abbrev pub IsOnlyRest : G → List TokenTree → List TokenTree → Type 0
+IsOnlyRest g trees rest = (part2 rest2 : List TokenTree) → Reads (ByRule g) trees part2 rest2 → rest2 ≡ rest
+
+-- the entry and the trees after what the rule finds, or those from the fault on
+abbrev pub ReadsEntry : G → List TokenTree → Result (Entry × Bor (List TokenTree)) (Bor (List TokenTree)) → Type 0
+ReadsEntry g trees result =
+    MatchResult result
+    (λ found. Finds g trees found.1.now × HasParts found.0.kind trees found.0.path.now found.1.now)
+    (λ left. Sticks g trees left.now)

@@ -1,0 +1,99 @@
+-- Lists whose entries must have known names, each once.
+use Rattle.std.specs.Prelude.{◌≡◌, ℕ, ◌<◌, ◌-◌, ◌==◌, ◌+◌, Bool, true, false, List, [], ◌∷◌, codes, length}
+use Rattle.std.specs.Borrow.{Bor}
+use Rattle.std.specs.Option.{option_eq}
+use Rattle.std.specs.Ordering.{eq_of_both, on}
+use Rattle.std.specs.List.{list_any, position_or_len}
+use Rattle.pm_span.specs.Extent.{extent_eq}
+use Rattle.pm_token.specs.Spelling.{spelled}
+use Rattle.pm_stream.specs.declared.stream.TokenTree.{TokenTree}
+use Rattle.declarations.specs.Attribute.{is_word}
+use Rattle.declarations.specs.Entry.{IsEntryAt}
+use Rattle.declarations.specs.Fault.{first_extent}
+use Rattle.declarations.specs.List.{IsFirst, IsListFault}
+use Rattle.declarations.specs.declared.entry.Entry.{Entry}
+use Rattle.declarations.specs.declared.entry_check.EntryError.{EntryError}
+use Rattle.declarations.specs.declared.entry_check.EntryProblem.{EntryProblem}
+use Rattle.declarations.specs.declared.entry_check.EntryProblem.TheVariants as problems
+use Rattle.declarations.specs.declared.fault.Fault.{Fault}
+use Rattle.declarations.specs.rules.Entries.{entry}
+use Rattle.declarations.specs.rules.Pieces.{ByRule}
+
+-- some names
+abbrev pub Names : Type 0
+Names = List (Bor (List ℕ))
+
+-- whether the entry's path is this name alone
+abbrev pub has_name : Entry → Bor (List ℕ) → Bool
+has_name entry word = is_word entry.path.now (spelled word.now)
+
+-- how many names come before that of the entry; all of them if it has none of these
+abbrev pub place_of : Names → Entry → ℕ
+place_of known entry = position_or_len (has_name entry) known
+
+-- the entries before the left trees have known names, each another; these are the names' places, the last first
+pub data HasNames (known : Names) (list : List TokenTree) : List ℕ → List TokenTree → Type 0 where
+  none : HasNames known list [] list
+  more : (places : List ℕ) (left next : List TokenTree) (entry : Entry) → HasNames known list places left
+      → IsFirst IsEntryAt left entry next → place_of known entry < length known
+      → list_any (λ place. place == place_of known entry) places ≡ false
+      → HasNames known list (place_of known entry ∷ places) next
+
+-- the left trees begin with no entry, or with one that neither a `,` nor the end follows, and there the fault stands
+pub record IsNoEntry (list left : List TokenTree) (error : EntryError) : Type 0 where
+  pub fault : Fault
+  pub stands : IsListFault (ByRule entry) left fault
+  pub counted : error.at ≡ length list - length left + fault.at
+  pub span : error.span ≡ fault.span
+
+-- the error stands before the left trees
+pub record StandsBefore (list left : List TokenTree) (error : EntryError) : Type 0 where
+  pub counted : error.at ≡ length list - length left
+  pub span : error.span ≡ first_extent left
+
+-- the left trees begin with an entry whose name is not known
+pub record IsUnknown (known : Names) (left : List TokenTree) : Type 0 where
+  pub entry : Entry
+  pub next : List TokenTree
+  pub first : IsFirst IsEntryAt left entry next
+  pub unknown : place_of known entry ≡ length known
+
+-- they begin with an entry whose name an earlier one has
+pub record IsRepeated (known : Names) (places : List ℕ) (left : List TokenTree) : Type 0 where
+  pub entry : Entry
+  pub next : List TokenTree
+  pub first : IsFirst IsEntryAt left entry next
+  pub known_name : place_of known entry < length known
+  pub before : list_any (λ place. place == place_of known entry) places ≡ true
+
+-- what is wrong with the left trees
+abbrev pub IsWrong : EntryProblem → Names → List TokenTree → List ℕ → List TokenTree → EntryError → Type 0
+IsWrong problems.NoEntry known list places left error = IsNoEntry list left error
+IsWrong problems.Unknown known list places left error = IsUnknown known left × StandsBefore list left error
+IsWrong problems.Repeated known list places left error = IsRepeated known places left × StandsBefore list left error
+
+-- the entries up to some trees have known names, each another, and these trees are wrong as the error says
+pub record IsEntryError (known : Names) (list : List TokenTree) (error : EntryError) : Type 0 where
+  pub places : List ℕ
+  pub left : List TokenTree
+  pub names : HasNames known list places left
+  pub wrong : IsWrong error.problem known list places left error
+  pub told : error.known.now ≡ known
+
+-- the sentence for a problem
+abbrev pub problem_text : EntryProblem → List ℕ
+problem_text problems.NoEntry = codes "not expected here"
+problem_text problems.Unknown = codes "unknown name"
+problem_text problems.Repeated = codes "this name comes twice"
+
+-- the number of a problem
+abbrev pub number_of : EntryProblem → ℕ
+number_of problems.NoEntry = 0
+number_of problems.Unknown = 1
+number_of problems.Repeated = 2
+
+-- whether both are the same problem, after as many trees, with the same span or none
+abbrev pub entry_error_eq : EntryError → EntryError → Bool
+entry_error_eq =
+    eq_of_both (on (λ error. number_of error.problem) ◌==◌)
+    (eq_of_both (on (λ error. error.at) ◌==◌) (on (λ error. error.span) (option_eq extent_eq)))

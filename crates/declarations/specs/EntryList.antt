@@ -1,0 +1,15 @@
+-- The entries of an attribute's list, one at a time.
+use Rattle.std.specs.Prelude.{◌≡◌, [], Option, Result, MatchOption}
+use Rattle.declarations.specs.Entry.{IsEntryAt}
+use Rattle.declarations.specs.List.{BeginsList}
+use Rattle.declarations.specs.declared.entry.Entry.{Entry}
+use Rattle.declarations.specs.declared.entry_list.Entries.{Entries}
+use Rattle.declarations.specs.declared.fault.Fault.{Fault}
+use Rattle.declarations.specs.rules.Entries.{entry}
+use Rattle.declarations.specs.rules.Pieces.{ByRule}
+
+-- a call for the next entry gives it, or the fault, and nothing after the last
+abbrev pub GivesEntry : Entries → Option (Result Entry Fault) → Entries → Type 0
+GivesEntry old given new =
+    MatchOption given ((old.left.now ≡ []) × (new ≡ old))
+    (λ found. BeginsList IsEntryAt (ByRule entry) old.left.now found new.left.now)

@@ -1,0 +1,36 @@
+-- What a function that reads by a rule of the grammar answers.
+use Rattle.std.specs.Prelude.{◌≡◌, List, ◌++◌, Result, Ok, Err}
+use Rattle.std.specs.Borrow.{Bor}
+use Rattle.grammars.specs.Grammar.{Event}
+use Rattle.grammars.specs.Find.{Past, Stuck, find}
+use Rattle.pm_stream.specs.declared.stream.TokenTree.{TokenTree}
+use Rattle.declarations.specs.Signs.{Sign, classes_of, signs, trees_of}
+use Rattle.declarations.specs.declared.class.Class.{Class}
+use Rattle.declarations.specs.rules.Names.{G, Label}
+use Rattle.declarations.specs.rules.Rules.{rules}
+
+-- the classes of the signs of trees
+unfoldable pub classes_in : List TokenTree → List Class
+classes_in trees = classes_of (signs trees)
+
+-- these trees follow some whole signs of the others
+pub record IsBehind (rest trees : List TokenTree) : Type 0 where
+  pub front : List Sign
+  pub read : signs trees ≡ front ++ signs rest
+  pub whole : trees ≡ trees_of front ++ rest
+
+-- what the rule finds at the front of the trees ends before the rest
+pub record Finds (g : G) (trees rest : List TokenTree) : Type 0 where
+  pub events : List (Event Class Label)
+  pub found : find rules g (classes_in trees) ≡ Past events (classes_in rest)
+  pub behind : IsBehind rest trees
+
+-- the rule finds nothing: the fault stands before the trees that are left
+pub record Sticks (g : G) (trees left : List TokenTree) : Type 0 where
+  pub stuck : find rules g (classes_in trees) ≡ Stuck (classes_in left)
+  pub behind : IsBehind left trees
+
+-- the trees after what the rule finds, or those from the fault on
+abbrev pub ReadsRule : G → List TokenTree → Result (Bor (List TokenTree)) (Bor (List TokenTree)) → Type 0
+ReadsRule g trees (Ok rest) = Finds g trees rest.now
+ReadsRule g trees (Err left) = Sticks g trees left.now

@@ -1,0 +1,357 @@
+//! The entries of attributes' lists.
+ghost use Rattle.std.specs.Prelude.{◌≡◌, ◌<◌, IfErr, IfNone, IfOk, IfSome, MatchResult, false, length};
+ghost use Rattle.grammars.specs.First.{heads, may_begin};
+ghost use Rattle.grammars.specs.Grammar.{Sign, perhaps};
+ghost use Rattle.pm_stream.specs.declared.stream.TokenTree.TheVariants as trees_are;
+ghost use Rattle.pm_token.specs.Spelling.{spelled};
+ghost use Rattle.declarations.specs.Attribute.{is_word};
+ghost use Rattle.declarations.specs.Entry.{HasArgs, IsEntryAt, IsListAt, IsOnlyRest, ReadsEntry};
+ghost use Rattle.declarations.specs.Fault.{extent_at};
+ghost use Rattle.declarations.specs.Reader.{Finds, ReadsRule, Sticks, classes_in};
+ghost use Rattle.declarations.specs.Reading.{FaultAt};
+ghost use Rattle.declarations.specs.rules.Entries.{continues, entry, entry_list, entry_literal, entry_path};
+ghost use Rattle.declarations.specs.rules.Entries.{entry_rest, entry_value, is_entry_segment, is_literal};
+ghost use Rattle.declarations.specs.rules.Entries.{literal_entry, more_segments, named_entry, next_segment, segments};
+ghost use Rattle.declarations.specs.rules.Expressions.{expression};
+ghost use Rattle.declarations.specs.rules.Names.{one};
+ghost use Rattle.declarations.specs.rules.Pieces.{ByRule};
+ghost use Rattle.declarations.specs.declared.class.Class.TheVariants as signs;
+
+use crate::attribute::has_no_delimiters;
+use crate::class::Class;
+use crate::fault::Fault;
+use crate::item::split_group;
+use crate::place::{Item, Place, Rule, Spot, State};
+use crate::reader::{begins, is, part, past};
+use crate::signs::first_sign;
+use crate::walk::walk_past;
+use pm_stream::{Group, TokenTree};
+
+/// What an entry of an attribute's list is.
+#[derive(Clone, Copy, Debug)]
+pub enum EntryKind<'a> {
+    /// A path alone, as `skip`.
+    Path,
+    /// A path and a group, as `rename(a, b)`. What stands in the group isn't read.
+    List(&'a Group),
+    /// A path, `=` and this expression, as `rename = "a"`.
+    Value(&'a [TokenTree]),
+    /// This literal, as `"a"`, `-1` or `true`; there is no path.
+    Literal(&'a [TokenTree]),
+}
+
+/// An entry of an attribute's list, as `skip`, `rename = "a"` or `bound(T, U)`.
+#[derive(Clone, Copy, Debug)]
+pub struct Entry<'a> {
+    /// The path, as `a` or `a::b`. It has no trees if the entry is a literal.
+    pub path: &'a [TokenTree],
+    /// What the entry is, with what follows its path.
+    pub kind: EntryKind<'a>,
+}
+
+/// The entry at the front of the trees, and the trees after it.
+///
+/// The trees are those in a group of an attribute, or what an earlier call left of them. An entry is a literal, or a
+/// path with nothing, a group, or `=` and an expression after it. The segments of a path are any identifiers but `_`,
+/// `true` and `false`, keywords too, so `unsafe(no_mangle)` is an entry with the path `unsafe`. As elsewhere only the
+/// end of an expression is found. Of `a::b = f(1) + 2, c` the path is `a::b`, the value `f(1) + 2`, and `, c` is left.
+///
+/// Where no entry stands it answers the fault. The grammar is that of docs/DECLARATIONS.md, with the one reading that
+/// the grammar gives. It takes no memory.
+pub fn parse_entry(trees: &[TokenTree]) -> Result<(Entry<'_>, &[TokenTree]), Fault>
+    ensures ok { IfOk result (λ found. IsEntryAt trees.now found.0 found.1.now) }
+    ensures only { IfOk result (λ found. IsOnlyRest entry trees.now found.1.now) }
+    ensures fewer { IfOk result (λ found. length found.1.now < length trees.now) }
+    ensures fault { IfErr result (λ fault. FaultAt (ByRule entry) trees.now fault.at) }
+    ensures span { IfErr result (λ fault. fault.span ≡ extent_at trees.now fault.at) }
+{
+    match entry_of(trees) {
+        Ok((entry, rest)) => Ok((entry, rest)),
+        Err(left) => Err(Fault::ahead_of(trees.len() - left.len(), left)),
+    }
+}
+
+impl<'a> Entry<'a> {
+    /// Whether its path is this one identifier. A raw identifier is written with its `r#`.
+    pub fn is(&self, word: &str) -> bool
+        ensures { result ≡ is_word self.now.path.now (spelled word.now) }
+    {
+        match self.path {
+            [TokenTree::Ident(name)] => name.eq_str(word),
+            _ => false,
+        }
+    }
+}
+
+fn is_segment(class: Class) -> bool
+    ensures { result ≡ is_entry_segment class }
+{
+    match class {
+        Class::Word(_) | Class::Keyword(_) => true,
+        Class::SelfValue | Class::SelfType | Class::Super | Class::Crate => true,
+        Class::As | Class::Await | Class::Jump => true,
+        _ => false,
+    }
+}
+
+// Past a segment of a path.
+#[tactic(auto, using(crate::proofs::ReaderLemmas::steps))]
+fn segment(trees: &[TokenTree]) -> Result<&[TokenTree], &[TokenTree]>
+    ensures { ReadsRule (Sign is_entry_segment) trees.now result }
+{
+    match first_sign(trees) {
+        Some((found, rest)) => {
+            if is_segment(found) {
+                Ok(rest)
+            } else {
+                Err(trees)
+            }
+        }
+        None => Err(trees),
+    }
+}
+
+// Past a `::`, or nothing.
+#[tactic(auto, using(crate::proofs::ReaderLemmas::steps))]
+fn separator(trees: &[TokenTree]) -> Result<&[TokenTree], &[TokenTree]>
+    ensures { ReadsRule (perhaps (one signs.PathSeparator)) trees.now result }
+{
+    if begins(trees, Class::PathSeparator) {
+        past(trees, Class::PathSeparator)
+    } else {
+        Ok(trees)
+    }
+}
+
+// Past `::` and a segment.
+#[tactic(auto, using(crate::proofs::ReaderLemmas::steps))]
+fn next_segment(trees: &[TokenTree]) -> Result<&[TokenTree], &[TokenTree]>
+    ensures { ReadsRule next_segment trees.now result }
+{
+    segment(past(trees, Class::PathSeparator)?)
+}
+
+// Past more segments.
+fn more_segments(trees: &[TokenTree]) -> Result<&[TokenTree], &[TokenTree]>
+    ensures { ReadsRule more_segments trees.now result }
+{
+    let mut left = trees;
+    while begins(left, Class::PathSeparator) {
+        match next_segment(left) {
+            Ok(next) => left = next,
+            Err(fault) => return Err(fault),
+        }
+    }
+    Ok(left)
+}
+
+// Past a segment, and more of them.
+#[tactic(auto, using(crate::proofs::ReaderLemmas::steps))]
+fn segments(trees: &[TokenTree]) -> Result<&[TokenTree], &[TokenTree]>
+    ensures { ReadsRule segments trees.now result }
+{
+    more_segments(segment(trees)?)
+}
+
+// Past the path of an entry.
+#[tactic(auto, using(crate::proofs::ReaderLemmas::steps))]
+fn entry_path(trees: &[TokenTree]) -> Result<&[TokenTree], &[TokenTree]>
+    ensures { ReadsRule entry_path trees.now result }
+{
+    segments(separator(trees)?)
+}
+
+fn is_literal(class: Class) -> bool
+    ensures { result ≡ is_literal class }
+{
+    match class {
+        Class::Literal | Class::Truth => true,
+        _ => false,
+    }
+}
+
+// Past a literal without a sign.
+#[tactic(auto, using(crate::proofs::ReaderLemmas::steps))]
+fn plain_literal(trees: &[TokenTree]) -> Result<&[TokenTree], &[TokenTree]>
+    ensures { ReadsRule (Sign is_literal) trees.now result }
+{
+    match first_sign(trees) {
+        Some((found, rest)) => {
+            if is_literal(found) {
+                Ok(rest)
+            } else {
+                Err(trees)
+            }
+        }
+        None => Err(trees),
+    }
+}
+
+// Past a literal.
+#[tactic(auto, using(crate::proofs::ReaderLemmas::steps))]
+fn literal(trees: &[TokenTree]) -> Result<&[TokenTree], &[TokenTree]>
+    ensures { ReadsRule entry_literal trees.now result }
+{
+    if begins(trees, Class::Minus) {
+        past(past(trees, Class::Minus)?, Class::Literal)
+    } else {
+        plain_literal(trees)
+    }
+}
+
+// Past an expression.
+#[tactic(auto, using(crate::proofs::EntryLemmas::expression_reads))]
+fn past_expression(trees: &[TokenTree]) -> Result<&[TokenTree], &[TokenTree]>
+    ensures { ReadsRule expression trees.now result }
+{
+    let start = Place {
+        item: Item::Alone,
+        rule: Rule::Alone,
+        state: State::At(Spot::Expression),
+        depth: 0,
+    };
+    walk_past(trees, start)
+}
+
+// Whether a sign goes on after an operand, but begins no value.
+fn continues(class: Class) -> bool
+    ensures { result ≡ continues class }
+{
+    match class {
+        Class::Equals | Class::Greater | Class::Arrow => true,
+        _ => false,
+    }
+}
+
+// Past the value of an entry.
+#[tactic(auto, using(crate::proofs::EntryLemmas::values))]
+fn past_value(trees: &[TokenTree]) -> Result<&[TokenTree], &[TokenTree]>
+    ensures { ReadsRule entry_value trees.now result }
+{
+    match first_sign(trees) {
+        Some((class, _)) => {
+            if continues(class) {
+                Err(trees)
+            } else {
+                past_expression(trees)
+            }
+        }
+        None => Err(trees),
+    }
+}
+
+// The group at the front of the trees that is a list, and the trees after it.
+#[tactic(auto, using(crate::proofs::EntryLemmas::lists))]
+fn split_list(trees: &[TokenTree]) -> Option<(&Group, &[TokenTree])>
+    ensures found { IfSome result (λ found. IsListAt trees.now (trees_are.Group found.0.now) found.1.now) }
+    ensures none { IfNone result (heads entry_list (classes_in trees.now) ≡ false) }
+{
+    match split_group(trees) {
+        Some((group, rest)) => {
+            if has_no_delimiters(group.delimiter()) {
+                None
+            } else {
+                Some((group, rest))
+            }
+        }
+        None => None,
+    }
+}
+
+// What follows the path of an entry, and the trees after it.
+#[tactic(auto, using(crate::proofs::EntryLemmas::arguments))]
+fn args_of(trees: &[TokenTree]) -> Result<(EntryKind<'_>, &[TokenTree]), &[TokenTree]>
+    ensures { MatchResult result (λ found. Finds entry_rest trees.now found.1.now
+        × HasArgs found.0 trees.now found.1.now) (λ left. Sticks entry_rest trees.now left.now) }
+{
+    match split_list(trees) {
+        Some((group, rest)) => Ok((EntryKind::List(group), rest)),
+        None => value_of(trees),
+    }
+}
+
+// The value of an entry, or nothing, and the trees after it.
+#[tactic(auto, using(crate::proofs::EntryLemmas::arguments))]
+fn value_of(trees: &[TokenTree]) -> Result<(EntryKind<'_>, &[TokenTree]), &[TokenTree]>
+    requires { heads entry_list (classes_in trees.now) ≡ false }
+    ensures { MatchResult result (λ found. Finds entry_rest trees.now found.1.now
+        × HasArgs found.0 trees.now found.1.now) (λ left. Sticks entry_rest trees.now left.now) }
+{
+    match first_sign(trees) {
+        Some((class, from_value)) => {
+            if is(Class::Equals, class) {
+                match past_value(from_value) {
+                    Ok(rest) => Ok((EntryKind::Value(part(from_value, rest)), rest)),
+                    Err(left) => Err(left),
+                }
+            } else {
+                Ok((EntryKind::Path, trees))
+            }
+        }
+        None => Ok((EntryKind::Path, trees)),
+    }
+}
+
+// Whether a literal begins with a sign of this class.
+fn begins_literal(class: Class) -> bool
+    ensures { result ≡ may_begin literal_entry class }
+{
+    match class {
+        Class::Minus | Class::Literal | Class::Truth => true,
+        _ => false,
+    }
+}
+
+// The entry at the front of the trees, and the trees after it; or those from the fault on.
+#[tactic(auto, using(crate::proofs::EntryLemmas::kinds_of))]
+fn entry_of(trees: &[TokenTree]) -> Result<(Entry<'_>, &[TokenTree]), &[TokenTree]>
+    ensures { ReadsEntry entry trees.now result }
+{
+    match first_sign(trees) {
+        Some((class, _)) => {
+            if begins_literal(class) {
+                literal_of(trees)
+            } else {
+                named_of(trees)
+            }
+        }
+        None => named_of(trees),
+    }
+}
+
+// The same, where a literal begins.
+#[tactic(auto, using(crate::proofs::EntryLemmas::literals))]
+fn literal_of(trees: &[TokenTree]) -> Result<(Entry<'_>, &[TokenTree]), &[TokenTree]>
+    ensures { ReadsEntry literal_entry trees.now result }
+{
+    match literal(trees) {
+        Ok(rest) => {
+            let literal = part(trees, rest);
+            Ok((
+                Entry {
+                    path: &[],
+                    kind: EntryKind::Literal(literal),
+                },
+                rest,
+            ))
+        }
+        Err(left) => Err(left),
+    }
+}
+
+// The same, where no literal begins.
+#[tactic(auto, using(crate::proofs::EntryLemmas::paths))]
+fn named_of(trees: &[TokenTree]) -> Result<(Entry<'_>, &[TokenTree]), &[TokenTree]>
+    ensures { ReadsEntry named_entry trees.now result }
+{
+    match entry_path(trees) {
+        Ok(from_args) => match args_of(from_args) {
+            Ok((kind, rest)) => {
+                let path = part(trees, from_args);
+                Ok((Entry { path, kind }, rest))
+            }
+            Err(left) => Err(left),
+        },
+        Err(left) => Err(left),
+    }
+}

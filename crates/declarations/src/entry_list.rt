@@ -1,0 +1,83 @@
+//! The entries of an attribute's list, one at a time.
+ghost use Rattle.std.specs.Prelude.{◌≡◌, ◌<◌, IfOk, MatchResult, length};
+ghost use Rattle.declarations.specs.Entry.{IsEntryAt};
+ghost use Rattle.declarations.specs.List.{AreInside, IsFirst, IsListFault};
+ghost use Rattle.declarations.specs.rules.Entries.{entry};
+ghost use Rattle.declarations.specs.rules.Pieces.{ByRule};
+
+use crate::entry::{Entry, parse_entry};
+use crate::fault::Fault;
+use crate::list::{fault_after, past_comma};
+use pm_stream::{Group, TokenTree};
+
+/// The entries in a group of an attribute, in order, with `,` between two and perhaps after the last.
+///
+/// It gives each entry as [`parse_entry`] answers it of the trees that are left, or the fault, whose trees are counted
+/// from there on. After a fault it gives nothing. Of `(skip, rename = "a")` it gives `skip` and `rename = "a"`. It
+/// takes no memory.
+///
+/// ```text
+/// for entry in Entries::new(group) {
+///     let entry = entry?;
+///     if entry.is("skip") { .. }
+/// }
+/// ```
+#[derive(Clone, Copy, Debug)]
+pub struct Entries<'a> {
+    /// The trees that are left.
+    pub left: &'a [TokenTree],
+}
+
+impl<'a> Entries<'a> {
+    /// The entries in this group, as in `(a, b)` of `#[name(a, b)]`.
+    pub fn new(group: &'a Group) -> Entries<'a>
+        ensures { AreInside result.left.now group.now }
+    {
+        Entries {
+            left: group.stream_ref().trees(),
+        }
+    }
+}
+
+impl<'a> Iterator for Entries<'a> {
+    ghost use Rattle.std.specs.Iterator.{at_most};
+    ghost use Rattle.declarations.specs.EntryList.{GivesEntry};
+
+    type Item = Result<Entry<'a>, Fault>;
+
+    ghost next_gives = { GivesEntry };
+
+    // No more come than trees are left.
+    ghost remaining = { λ list. at_most (length list.left.now) };
+
+    fn next(&mut self) -> Option<Result<Entry<'a>, Fault>> {
+        if self.left.is_empty() {
+            return None;
+        }
+        match first_entry(self.left) {
+            Ok((entry, left)) => {
+                self.left = left;
+                Some(Ok(entry))
+            }
+            Err(fault) => {
+                self.left = &[];
+                Some(Err(fault))
+            }
+        }
+    }
+}
+
+// The first entry of a list, and the trees after its comma.
+pub(crate) fn first_entry(trees: &[TokenTree]) -> Result<(Entry<'_>, &[TokenTree]), Fault>
+    ensures given { MatchResult result (λ found. IsFirst IsEntryAt trees.now found.0 found.1.now)
+        (λ fault. IsListFault (ByRule entry) trees.now fault) }
+    ensures fewer { IfOk result (λ found. length found.1.now < length trees.now) }
+{
+    match parse_entry(trees) {
+        Ok((entry, rest)) => match past_comma(rest) {
+            Some(left) => Ok((entry, left)),
+            None => Err(fault_after(trees, rest)),
+        },
+        Err(fault) => Err(fault),
+    }
+}

@@ -1,0 +1,55 @@
+//! Functions that read by a rule of the grammar: each answers the trees after what its rule finds at the front of the
+//! trees, or those from the fault on.
+ghost use Rattle.std.specs.Prelude.{◌≡◌, ◌++◌};
+ghost use Rattle.grammars.specs.First.{heads};
+ghost use Rattle.declarations.specs.Reader.{IsBehind, ReadsRule, classes_in};
+ghost use Rattle.declarations.specs.rules.Classes.{is};
+ghost use Rattle.declarations.specs.rules.Names.{one};
+
+use crate::class::{Class, code};
+use crate::signs::first_sign;
+use pm_stream::TokenTree;
+
+// Whether a sign is of this class.
+pub(crate) fn is(class: Class, found: Class) -> bool
+    ensures { result ≡ is class found }
+{
+    code(class) == code(found)
+}
+
+// Whether a sign of this class is next.
+#[tactic(auto, using(crate::proofs::ReaderLemmas::steps))]
+pub(crate) fn begins(trees: &[TokenTree], class: Class) -> bool
+    ensures { result ≡ heads (one class) (classes_in trees.now) }
+{
+    match first_sign(trees) {
+        Some((found, _)) => is(class, found),
+        None => false,
+    }
+}
+
+// Past a sign of this class.
+#[tactic(auto, using(crate::proofs::ReaderLemmas::steps))]
+pub(crate) fn past(trees: &[TokenTree], class: Class) -> Result<&[TokenTree], &[TokenTree]>
+    ensures { ReadsRule (one class) trees.now result }
+{
+    match first_sign(trees) {
+        Some((found, rest)) => {
+            if is(class, found) {
+                Ok(rest)
+            } else {
+                Err(trees)
+            }
+        }
+        None => Err(trees),
+    }
+}
+
+// The trees before the rest.
+#[tactic(auto, using(crate::proofs::ReaderLemmas::behind_whole))]
+pub(crate) fn part<'a>(trees: &'a [TokenTree], rest: &[TokenTree]) -> &'a [TokenTree]
+    requires { IsBehind rest.now trees.now }
+    ensures { trees.now ≡ result.now ++ rest.now }
+{
+    trees.split_at(trees.len() - rest.len()).0
+}

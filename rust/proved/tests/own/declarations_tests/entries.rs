@@ -1,0 +1,254 @@
+// Made from crates/declarations_tests/src/entries.rt by rust/erase: change that file, not this one.
+
+use crate::shim::prelude::{AllocGlobal, HostRuntime, format};
+
+// The entries of attributes' lists. What each text has, syn 2 reads too, but where a row says otherwise.
+use proved_tokens::declarations::{
+    AttributeArgs, Attributes, Entries, Entry, EntryKind, EntryProblem, check_entries, parse_entry,
+};
+use proved_tokens::proc_macro2::{SourceMap, TokenStream};
+use crate::shim::process::Abort;
+use crate::shim::test::Fail;
+
+/// An entry: how many trees its path has, and those after it.
+#[derive(Clone, Copy, Debug, PartialEq, Eq)]
+enum Parts {
+    Path(usize),
+    List(usize, usize),
+    Value(usize, usize),
+    Literal(usize),
+    /// No more entries: a fault, after so many of the trees that are left.
+    Fault(usize),
+}
+
+fn shown(entry: &Entry<'_>) -> Parts {
+    match entry.kind {
+        EntryKind::Path => Parts::Path(entry.path.len()),
+        EntryKind::List(group) => Parts::List(entry.path.len(), group.stream_ref().trees().len()),
+        EntryKind::Value(value) => Parts::Value(entry.path.len(), value.len()),
+        EntryKind::Literal(literal) => Parts::Literal(literal.len()),
+    }
+}
+
+// The entries of each text, in parentheses.
+fn check(rt: &(impl Abort + AllocGlobal), rows: &[(&str, &[Parts])]) -> Result<(), Fail> {
+    for (text, wanted) in rows {
+        let stream = TokenStream::from_str(text, &mut SourceMap::new())?;
+        let mut list = Entries {
+            left: stream.trees(),
+        };
+        for one in *wanted {
+            match list.next() {
+                Some(Ok(entry)) => assert_eq!(shown(&entry), *one, "{text:?}"),
+                Some(Err(fault)) => assert_eq!(Parts::Fault(fault.at), *one, "{text:?}"),
+                None => assert!(false, "{text:?}"),
+            }
+        }
+        assert!(list.next().is_none(), "{text:?}");
+    }
+    Ok(())
+}
+
+#[test]
+fn each_entry_is_given() -> Result<(), Fail> {
+    let rt = HostRuntime;
+    check(
+        &rt,
+        &[
+            ("", &[]),
+            ("skip", &[Parts::Path(1)]),
+            ("skip,", &[Parts::Path(1)]),
+            (
+                "skip, rename = \"a\"",
+                &[Parts::Path(1), Parts::Value(1, 1)],
+            ),
+            ("a::b::c(d, e), ::f", &[Parts::List(7, 3), Parts::Path(3)]),
+            (
+                "a = f::<X, Y>(1, 2) + 3, b",
+                &[Parts::Value(1, 11), Parts::Path(1)],
+            ),
+            ("a = |x, y| x + y, b", &[Parts::Value(1, 8), Parts::Path(1)]),
+            (
+                "a = if x { 1 } else { 2 }, b",
+                &[Parts::Value(1, 5), Parts::Path(1)],
+            ),
+            (
+                "a = -1, b = !c, d = &e",
+                &[Parts::Value(1, 2), Parts::Value(1, 2), Parts::Value(1, 2)],
+            ),
+            ("a = x.y[0], b", &[Parts::Value(1, 4), Parts::Path(1)]),
+            (
+                "a = Vec::<u8>::new(), b",
+                &[Parts::Value(1, 10), Parts::Path(1)],
+            ),
+            (
+                "\"a\", 1, true, b'c'",
+                &[
+                    Parts::Literal(1),
+                    Parts::Literal(1),
+                    Parts::Literal(1),
+                    Parts::Literal(1),
+                ],
+            ),
+            ("-1", &[Parts::Literal(2)]),
+            ("unsafe(no_mangle)", &[Parts::List(1, 1)]),
+            (
+                "self, super::a, crate::b = 1",
+                &[Parts::Path(1), Parts::Path(4), Parts::Value(4, 1)],
+            ),
+            ("a(b(c(d = 1)))", &[Parts::List(1, 2)]),
+            ("a[b], c{d}", &[Parts::List(1, 1), Parts::List(1, 1)]),
+            ("a = b = c", &[Parts::Value(1, 3)]),
+            (
+                "a = .., b = return",
+                &[Parts::Value(1, 2), Parts::Value(1, 1)],
+            ),
+            // Paths of keywords, which syn reads by its `parse_nested_meta` alone.
+            (
+                "type, default = 1, where(T: A)",
+                &[Parts::Path(1), Parts::Value(1, 1), Parts::List(1, 3)],
+            ),
+        ],
+    )
+}
+
+#[test]
+fn a_fault_ends_the_entries() -> Result<(), Fail> {
+    let rt = HostRuntime;
+    check(
+        &rt,
+        &[
+            ("a = 1 b", &[Parts::Fault(3)]),
+            ("a, b == c", &[Parts::Path(1), Parts::Fault(2)]),
+            ("a => b", &[Parts::Fault(2)]),
+            ("a = -> b", &[Parts::Fault(2)]),
+            ("a =", &[Parts::Fault(2)]),
+            ("a = , b", &[Parts::Fault(2)]),
+            ("a:: , b", &[Parts::Fault(3)]),
+            ("a b", &[Parts::Fault(1)]),
+            ("a(b) c", &[Parts::Fault(2)]),
+            (", a", &[Parts::Fault(0)]),
+            ("a,, b", &[Parts::Path(1), Parts::Fault(0)]),
+            ("::", &[Parts::Fault(2)]),
+            ("(a)", &[Parts::Fault(0)]),
+            ("a = \"x\" \"y\"", &[Parts::Fault(3)]),
+            ("_ = 1", &[Parts::Fault(0)]),
+            ("'a", &[Parts::Fault(0)]),
+            ("- a", &[Parts::Fault(1)]),
+            ("a = 1 +", &[Parts::Fault(4)]),
+            ("a < b", &[Parts::Fault(1)]),
+        ],
+    )
+}
+
+#[test]
+fn lists_are_read_within_lists() -> Result<(), Fail> {
+    let rt = HostRuntime;
+    let text = "#[serde(default, bound(serialize = \"A\", deserialize = \"B\"))]";
+    let stream = TokenStream::from_str(text, &mut SourceMap::new())?;
+    let mut names = 0_usize;
+    for attribute in Attributes::new(stream.trees()) {
+        if let AttributeArgs::Group(group) = attribute.args() {
+            for entry in Entries::new(group) {
+                if let Ok(entry) = entry {
+                    if entry.is("default") {
+                        names = names.saturating_add(1);
+                    }
+                    if let EntryKind::List(inside) = entry.kind {
+                        for one in Entries::new(inside) {
+                            if let Ok(one) = one {
+                                if one.is("serialize") || one.is("deserialize") {
+                                    names = names.saturating_add(10);
+                                }
+                            }
+                        }
+                    }
+                }
+            }
+        }
+    }
+    assert_eq!(names, 21);
+    Ok(())
+}
+
+#[test]
+fn the_first_entry_leaves_the_rest() -> Result<(), Fail> {
+    let rt = HostRuntime;
+    let stream = TokenStream::from_str("a::b = f(1) + 2, c", &mut SourceMap::new())?;
+    match parse_entry(stream.trees()) {
+        Ok((entry, rest)) => {
+            assert_eq!(shown(&entry), Parts::Value(4, 4));
+            assert!(!entry.is("a"));
+            assert_eq!(rest.len(), 2);
+        }
+        Err(fault) => assert!(false, "{fault}"),
+    }
+    Ok(())
+}
+
+// Checks what `check_entries` answers for each text: nothing, or the problem and how many trees stand before it.
+fn check_names(
+    rt: &(impl Abort + AllocGlobal),
+    rows: &[(&str, Option<(EntryProblem, usize)>)],
+) -> Result<(), Fail> {
+    let known = ["skip", "rename", "bound", "type"];
+    for (text, wanted) in rows {
+        let stream = TokenStream::from_str(text, &mut SourceMap::new())?;
+        match check_entries(stream.trees(), &known) {
+            Ok(()) => assert!(wanted.is_none(), "{text:?}"),
+            Err(error) => {
+                assert_eq!(Some((error.problem, error.at)), *wanted, "{text:?}");
+                assert_eq!(error.known.len(), 4, "{text:?}");
+            }
+        }
+    }
+    Ok(())
+}
+
+#[test]
+fn each_name_is_known_and_comes_once() -> Result<(), Fail> {
+    let rt = HostRuntime;
+    check_names(
+        &rt,
+        &[
+            ("", None),
+            ("skip", None),
+            ("rename = \"a\", skip, bound(T: A), type,", None),
+            ("skip, renam = \"a\"", Some((EntryProblem::Unknown, 2))),
+            ("a::skip", Some((EntryProblem::Unknown, 0))),
+            ("skip, \"rename\"", Some((EntryProblem::Unknown, 2))),
+            ("r#type", Some((EntryProblem::Unknown, 0))),
+            ("skip, bound(skip), skip", Some((EntryProblem::Repeated, 5))),
+            ("type = 1, type(2)", Some((EntryProblem::Repeated, 4))),
+            ("skip, rename = , bound", Some((EntryProblem::NoEntry, 4))),
+            ("skip, rename 1", Some((EntryProblem::NoEntry, 3))),
+            ("skip, skip, +", Some((EntryProblem::Repeated, 2))),
+        ],
+    )
+}
+
+// What an error of `check_entries` is printed as.
+fn check_printed(rt: &(impl Abort + AllocGlobal), text: &str, want: &str) -> Result<(), Fail> {
+    let stream = TokenStream::from_str(text, &mut SourceMap::new())?;
+    match check_entries(stream.trees(), &["skip", "rename"]) {
+        Ok(()) => assert!(false, "{text:?}"),
+        Err(error) => {
+            let printed = format!("{error}")?;
+            assert_eq!(printed.as_str(), want, "{text:?}");
+            assert_eq!(error.span().is_some(),
+                error.at < stream.trees().len(),
+                "{text:?}"
+            );
+        }
+    }
+    Ok(())
+}
+
+#[test]
+fn an_error_says_what_is_wrong() -> Result<(), Fail> {
+    let rt = HostRuntime;
+    check_printed(&rt, "skip, renam", "unknown name")?;
+    check_printed(&rt, "skip, skip", "this name comes twice")?;
+    check_printed(&rt, "skip, =", "not expected here")?;
+    check_printed(&rt, "rename =", "not expected here")
+}
