@@ -1,1 +1,3 @@
+mod CommentLemmas
 mod PrettyLemmas
+mod ScriptLemmas

@@ -1,11 +1,19 @@
 -- The pretty text of a stream.
-use Rattle.std.proofs.Common.{ℕ, List, ◌∙◌}
+use Rattle.std.proofs.Common.{◌≡◌, ◌∙◌, ◌&&◌, ℕ, Bool, true, List, Option, Some, None, refl, subst}
+use Rattle.std.specs.Prelude.{nat_lt}
+use Rattle.std.specs.Io.KnownBytes.{Keeps}
+use Rattle.lexical.specs.Cover.{IsCover}
+use Rattle.lexical.specs.Piece.{Piece}
+use Rattle.messages.specs.Parsed.{first}
 use Rattle.proc_macro2.specs.Forest.{Forest}
+use Rattle.proc_macro2.specs.Parsing.{ParsesTo}
 use Rattle.layout.specs.Layout.{IsLayout}
 use Rattle.layout.specs.Writing.{ReadsBack}
 use Rattle.relayout.specs.Comments.{IsCommented}
 use Rattle.relayout.specs.Relaid.{HasNoCover}
-use Rattle.pretty.specs.Answer.{IsPretty}
+use Rattle.pretty.specs.Answer.{IsPretty, Writes, WritesUnless}
+use Rattle.pretty.specs.Comments.{comments}
+use Rattle.pretty.specs.Script.{code_of, script_line}
 
 -- a layout that reads back still does with comments
 pub pretty_is : (stream : Forest) (laid text : List ℕ) → IsLayout stream laid → ReadsBack stream laid
@@ -23,3 +31,23 @@ pretty_is stream laid text layout back commented = record {
 -- pieces cover a text that reads back
 pub has_cover : (stream : Forest) (text : List ℕ) → ReadsBack stream text → HasNoCover text → ⊥
 has_cover stream text back none = let first = back 0 in none first.parses.pieces first.parses.covers
+
+-- what stays the same keeps its bytes
+pub keeps_self : (known : Option (List ℕ)) → Keeps known known
+keeps_self None = tt
+keeps_self (Some bytes) = refl
+
+-- the comments of the code are counted by the pieces that it is parsed by
+pub writes_code : (deny : Bool) (text code : List ℕ) (count : ℕ) (stream : Forest) (old new : Option (List ℕ))
+    → code ≡ code_of text → ParsesTo first code stream
+    → ((all : List Piece) → IsCover all code → count ≡ comments all)
+    → WritesUnless (deny && nat_lt 0 count) (script_line text) stream old new → Writes deny text count old new
+writes_code deny text code count stream old new is parses counts writes =
+    let known = subst (λ c. ParsesTo first c stream) is parses in record {
+      pieces = parses.pieces;
+      covers = subst (IsCover parses.pieces) is parses.covers;
+      counts = counts parses.pieces parses.covers;
+      stream = stream;
+      parses = known;
+      writes = writes;
+    }

@@ -1,13 +1,17 @@
 -- What the program writes for a text.
-use Rattle.std.specs.Prelude.{ℕ, List, Option}
-use Rattle.std.specs.Io.KnownBytes.{Appends}
+use Rattle.std.specs.Prelude.{ℕ, ◌≡◌, ◌&&◌, Bool, true, false, List, Option, nat_lt}
+use Rattle.std.specs.Io.KnownBytes.{Appends, Keeps}
 use Rattle.std.specs.Str.{encode_utf8_all}
+use Rattle.lexical.specs.Cover.{IsCover}
+use Rattle.lexical.specs.Piece.{Piece}
 use Rattle.proc_macro2.specs.Forest.{Forest}
 use Rattle.proc_macro2.specs.Parsing.{ParsesTo}
 use Rattle.messages.specs.Parsed.{first}
 use Rattle.layout.specs.Layout.{IsLayout}
 use Rattle.layout.specs.Writing.{ReadsBack}
 use Rattle.relayout.specs.Comments.{IsCommented}
+use Rattle.pretty.specs.Comments.{comments}
+use Rattle.pretty.specs.Script.{code_of, script_line, with_line}
 
 -- the text is a layout of the stream with doc comments in the place of attributes, and reads back to the stream
 pub record IsPretty (stream : Forest) (text : List ℕ) : Type 0 where
@@ -16,10 +20,22 @@ pub record IsPretty (stream : Forest) (text : List ℕ) : Type 0 where
   pub commented : IsCommented laid text
   pub back : ReadsBack stream text
 
--- such a text is written between old and new
-abbrev pub WritesPretty : Forest → Option (List ℕ) → Option (List ℕ) → Type 0
-WritesPretty stream old new = (text : List ℕ) × IsPretty stream text × Appends old new (encode_utf8_all text)
+-- such a text is written between old and new, after the line with which the script begins
+abbrev pub WritesPretty : List ℕ → Forest → Option (List ℕ) → Option (List ℕ) → Type 0
+WritesPretty line stream old new =
+    (text : List ℕ) × IsPretty stream text × Appends old new (encode_utf8_all (with_line line text))
 
--- one of the stream that the text parses to
-abbrev pub Writes : List ℕ → Option (List ℕ) → Option (List ℕ) → Type 0
-Writes text old new = (stream : Forest) × ParsesTo first text stream × WritesPretty stream old new
+-- or nothing is written
+abbrev pub WritesUnless : Bool → List ℕ → Forest → Option (List ℕ) → Option (List ℕ) → Type 0
+WritesUnless true line stream old new = Keeps old new
+WritesUnless false line stream old new = WritesPretty line stream old new
+
+-- the text of the stream that the code parses to is written, after the line with which the script begins; if comments
+-- are denied and the code has some, nothing is
+pub record Writes (deny : Bool) (text : List ℕ) (count : ℕ) (old new : Option (List ℕ)) : Type 0 where
+  pub pieces : List Piece
+  pub covers : IsCover pieces (code_of text)
+  pub counts : count ≡ comments pieces
+  pub stream : Forest
+  pub parses : ParsesTo first (code_of text) stream
+  pub writes : WritesUnless (deny && nat_lt 0 count) (script_line text) stream old new

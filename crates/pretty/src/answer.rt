@@ -5,7 +5,10 @@ ghost use Rattle.messages.specs.Parsed.{MayFail};
 ghost use Rattle.messages.specs.declared.errors.Failure.TheVariants.{Memory};
 ghost use Rattle.proc_macro2.specs.WellSpaced.{IsWellSpaced};
 ghost use Rattle.pretty.specs.Answer.{IsPretty, Writes, WritesPretty};
+ghost use Rattle.pretty.specs.Script.{code_of};
 
+use crate::comments::count_comments;
+use crate::script::{split_script, with_line};
 use messages::Failure;
 use pretty_printer::to_pretty_string;
 use proc_macro2::{SourceMap, TokenStream};
@@ -15,34 +18,55 @@ use std::alloc::Global;
 use std::io::Write;
 
 /// Writes the tokens of the text, in a layout that reads back to them, with doc comments in the place of the attributes
-/// that they are read as.
+/// that they are read as. The line `#!..` with which a script begins stands before them.
+///
+/// Answers how many plain comments the text has, which are left out. With `deny` nothing is written if it has some.
 ///
 /// Fails with `Fault`, which has line and column, `MapFull` and `Memory` before anything is written, and with `Write`;
 /// then a beginning of the text may stand.
-pub fn print_text<W: Write>(alloc: Global, text: &str, writer: &mut W) -> Result<(), Failure>
-    ensures ok { OnOk result (Writes (chars text.now) (W.contents writer.old) (W.contents writer.new)) }
-    ensures err { IfErr result (MayFail (chars text.now) (W.contents writer.old) (W.contents writer.new)) }
+pub fn print_text<W: Write>(
+    alloc: Global,
+    text: &str,
+    deny: bool,
+    writer: &mut W,
+) -> Result<usize, Failure>
+    ensures ok { IfOk result (λ count.
+        Writes deny (chars text.now) count (W.contents writer.old) (W.contents writer.new)) }
+    ensures err { IfErr result (MayFail (code_of (chars text.now)) (W.contents writer.old) (W.contents writer.new)) }
 {
+    let (line, code) = split_script(text);
     let mut map = SourceMap::new(alloc);
-    match TokenStream::from_str(text, &mut map) {
-        Ok(stream) => print_stream(alloc, &stream, writer),
+    match TokenStream::from_str(code, &mut map) {
+        Ok(stream) => {
+            let count = count_comments(code);
+            if deny && 0 < count {
+                return Ok(count);
+            }
+            match print_stream(alloc, line, &stream, writer) {
+                Ok(()) => Ok(count),
+                Err(failure) => Err(failure),
+            }
+        }
         Err(error) => Err(Failure::unparsed(error, &map)),
     }
 }
 
-// Writes a stream that is well spaced.
+// Writes a stream that is well spaced, after such a line.
 fn print_stream<W: Write>(
     alloc: Global,
+    line: &str,
     stream: &TokenStream,
     writer: &mut W,
 ) -> Result<(), Failure>
     requires { IsWellSpaced stream.now }
-    ensures ok { OnOk result (WritesPretty stream.now (W.contents writer.old) (W.contents writer.new)) }
+    ensures ok { OnOk result
+        (WritesPretty (chars line.now) stream.now (W.contents writer.old) (W.contents writer.new)) }
     ensures err { IfErr result (λ failure. (text : List ℕ)
         → MayFail text (W.contents writer.old) (W.contents writer.new) failure) }
 {
     let pretty = pretty_text(alloc, stream)?;
-    writer.write_all(pretty.as_str().as_bytes())?;
+    let whole = with_line(alloc, line, pretty)?;
+    writer.write_all(whole.as_str().as_bytes())?;
     Ok(())
 }
 

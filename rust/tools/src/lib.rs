@@ -54,6 +54,9 @@ pub mod find_calls {
 #[allow(dead_code, unreachable_code, unused_imports, clippy::complexity, clippy::style)]
 pub mod pretty {
     pub mod answer;
+    pub mod comments;
+    pub mod options;
+    mod script;
 }
 
 /// The program `rust_check`, but for its `main`.

@@ -59,9 +59,14 @@ The status is 0 where all texts parse, 1 where one has a fault, and 2 where a fi
     },
     Command {
         name: "pretty",
-        usage: "tokens pretty [FILE] (plain comments are lost)",
+        usage: "tokens pretty [--deny-comments] [FILE] (plain comments are lost)",
         does: "Prints the tokens of a file so that people read them well.",
-        details: READS_ONE,
+        details: "  \
+  --deny-comments  writes nothing of a file that has plain comments
+
+Plain comments are left out, and a line on standard error says how many. A first line `#!..` stays, unless it begins an
+attribute. The status is 0, 1 where the text has a fault or, with --deny-comments, comments, or 2 where it is not read.
+",
         wants_name: false,
         run: Some(pretty::run),
     },
@@ -132,6 +137,3 @@ const PLAIN: &str = "\
 A fault is told as `fault L:C`, the column from 0. The status is 0, 1 where the text has a fault, or 2 where it is not
 read.
 ";
-
-// What a command answers that reads one text.
-const READS_ONE: &str = "The status is 0, 1 where the text has a fault, or 2 where it is not read.\n";

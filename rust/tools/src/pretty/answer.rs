@@ -1,6 +1,8 @@
 // Made from crates/pretty/src/answer.rt by rust/erase: change that file, not this one.
 //! What the program writes for a text.
 
+use crate::pretty::comments::count_comments;
+use crate::pretty::script::{split_script, with_line};
 use crate::messages::Failure;
 use proved_tokens::pretty_printer::to_pretty_string;
 use proved_tokens::proc_macro2::{SourceMap, TokenStream};
@@ -9,27 +11,45 @@ use proved_tokens::relayout::{RelayoutError, with_doc_comments};
 use proved_tokens::shim::io::Write;
 
 /// Writes the tokens of the text, in a layout that reads back to them, with doc comments in the place of the attributes
-/// that they are read as.
+/// that they are read as. The line `#!..` with which a script begins stands before them.
+///
+/// Answers how many plain comments the text has, which are left out. With `deny` nothing is written if it has some.
 ///
 /// Fails with `Fault`, which has line and column, `MapFull` and `Memory` before anything is written, and with `Write`;
 /// then a beginning of the text may stand.
-pub fn print_text<W: Write>(text: &str, writer: &mut W) -> Result<(), Failure>
+pub fn print_text<W: Write>(
+    text: &str,
+    deny: bool,
+    writer: &mut W,
+) -> Result<usize, Failure>
 {
+    let (line, code) = split_script(text);
     let mut map = SourceMap::new();
-    match TokenStream::from_str(text, &mut map) {
-        Ok(stream) => print_stream(&stream, writer),
+    match TokenStream::from_str(code, &mut map) {
+        Ok(stream) => {
+            let count = count_comments(code);
+            if deny && 0 < count {
+                return Ok(count);
+            }
+            match print_stream(line, &stream, writer) {
+                Ok(()) => Ok(count),
+                Err(failure) => Err(failure),
+            }
+        }
         Err(error) => Err(Failure::unparsed(error, &map)),
     }
 }
 
-// Writes a stream that is well spaced.
+// Writes a stream that is well spaced, after such a line.
 fn print_stream<W: Write>(
+    line: &str,
     stream: &TokenStream,
     writer: &mut W,
 ) -> Result<(), Failure>
 {
     let pretty = pretty_text(stream)?;
-    writer.write_all(pretty.as_str().as_bytes())?;
+    let whole = with_line(line, pretty)?;
+    writer.write_all(whole.as_str().as_bytes())?;
     Ok(())
 }
 

@@ -6,11 +6,12 @@ use Rattle.pretty.proofs.answer.print_stream.Goals as goal
 
 pub returns-clause-ok : goal.returns-clause-ok
 returns-clause-ok g c =
-    let bytes = string_bytes c.in_ok-pretty.pretty in (
-      chars bytes,
+    let bytes = string_bytes c.in_ok-whole.whole in (
+      chars (string_bytes c.in_ok-pretty.pretty),
       c.in_ok-pretty.ensures.ok,
       rw (
-        encodes-chars bytes (IsUtf8-string_bytes c.in_ok-pretty.pretty),
+        ← c.in_ok-whole.ensures,
+        encodes-chars bytes (IsUtf8-string_bytes c.in_ok-whole.whole),
         ← (c.as_bytes.ensures.value ∙ c.as_str.ensures.value),
       ) c.in_ok-write_all.ensures.bytes,
     )

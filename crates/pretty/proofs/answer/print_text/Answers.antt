@@ -10,6 +10,10 @@ print_stream-requires g c = parsed_spaced _ _ _ c.in-Ok.ensures.ok
 pub returns-clause-err : goal.returns-clause-err
 returns-clause-err g c =
     let full = rw c.new-map.ensures at c.in-Err.ensures.map_full.0 in
-    unparsed_may_fail TokenStream _ _ _ _ _ (rw c.new-map.ensures at c.in-Err.ensures.kept)
+    rw (← c.split_script.ensures.code)
+    (unparsed_may_fail TokenStream _ _ _ _ _ (rw c.new-map.ensures at c.in-Err.ensures.kept)
     (rw c.new-map.ensures at c.in-Err.ensures.lex) (λ is. full (ap Err is))
-    c.unparsed.ensures.fault c.unparsed.ensures.map_full c.unparsed.ensures.memory
+    c.unparsed.ensures.fault c.unparsed.ensures.map_full c.unparsed.ensures.memory)
+
+pub returns-in-Ok-clause-err : goal.returns-in-Ok-clause-err
+returns-in-Ok-clause-err g c = c.in-Err-print_stream.ensures.err _

@@ -1,0 +1,30 @@
+-- The plain comments of a text, and what is said of them.
+use Rattle.std.specs.Prelude.{ℕ, Bool, true, false, ◌&&◌, ◌==◌, List, ◌++◌, codes, decimal, if◌then◌else◌}
+use Rattle.std.specs.List.{count_by}
+use Rattle.lexical.specs.Piece.{Kind, Piece, FrontMark, Gap, Doc, Open, Close, Leaf}
+use Rattle.lexical.specs.Text.{begins_with}
+use Rattle.messages.specs.Message.{of_file}
+
+abbrev pub is_gap : Kind → Bool
+is_gap Gap = true
+is_gap _ = false
+
+-- whether the piece is a comment that is no doc comment: a gap that is no white character
+abbrev pub is_comment : Piece → Bool
+is_comment piece = is_gap piece.0 && begins_with (codes "/") piece.1
+
+-- how many of the pieces are such comments
+abbrev pub comments : List Piece → ℕ
+comments pieces = count_by is_comment pieces
+
+-- what is said of so many that were left out
+abbrev pub note : ℕ → List ℕ
+note count =
+    if count == 1 then codes "note: 1 comment is not kept; tokens indent keeps it\n"
+    else codes "note: " ++ (decimal count ++ codes " comments are not kept; tokens indent keeps them\n")
+
+-- and of so many that are not to be left out
+abbrev pub denial : List ℕ → ℕ → List ℕ
+denial path count =
+    if count == 1 then of_file path (codes "1 comment would be lost; tokens indent keeps it\n")
+    else of_file path (decimal count ++ codes " comments would be lost; tokens indent keeps them\n")

@@ -1,0 +1,61 @@
+//! The line with which a script begins.
+ghost use Rattle.std.specs.Prelude.{◌≡◌, ◌++◌, IfOk, IfSome, IsTrue, MatchOption, false, string_bytes};
+ghost use Rattle.std.specs.Str.{IsUtf8, chars};
+ghost use Rattle.lexical.specs.Ascii.{all_ascii};
+ghost use Rattle.lexical.specs.Text.{begins_with};
+ghost use Rattle.pretty.specs.Script.{code_of, is_script, script_line, with_line};
+
+use lexical::parts::{Class, Cursor, before, begins, skip, skip_to};
+use pm_token::parts::TextBuilder;
+use std::alloc::{AllocError, Global};
+
+/// The line `#!..` with which a script begins, without its LF, and what follows it. The line is empty where the text
+/// does not begin with `#!`, and where that begins an attribute: where `[` follows, perhaps after white space.
+///
+/// What follows begins with the line's LF, so that each character of it is in the line that it has in the text.
+pub fn split_script(text: &str) -> (&str, &str)
+    ensures line { chars result.0.now ≡ script_line (chars text.now) }
+    ensures code { chars result.1.now ≡ code_of (chars text.now) }
+    ensures utf8_line { IsUtf8 result.0.now }
+    ensures utf8_code { IsUtf8 result.1.now }
+{
+    if !is_script(text) {
+        return ("", text);
+    }
+    let code = skip_to(Cursor::new(text), b'\n').rest;
+    (before(text, code), code)
+}
+
+// Whether the text begins with such a line.
+fn is_script(text: &str) -> bool
+    ensures { result ≡ is_script (chars text.now) }
+{
+    match strip(text, "#!") {
+        Some(rest) => !begins(skip(Cursor::new(rest), Class::White).rest, "["),
+        None => false,
+    }
+}
+
+// What follows this ASCII front of the text.
+fn strip<'a>(text: &'a str, front: &str) -> Option<&'a str>
+    requires { IsTrue (all_ascii front.now) }
+    ensures split { MatchOption result (begins_with front.now (chars text.now) ≡ false)
+        (λ rest. chars text.now ≡ front.now ++ chars rest.now) }
+    ensures utf8 { IfSome result (λ rest. IsUtf8 rest.now) }
+{
+    text.strip_prefix(front)
+}
+
+/// The text with such a line and its LF before it, if there is one.
+pub fn with_line(alloc: Global, line: &str, text: String) -> Result<String, AllocError>
+    ensures { IfOk result (λ out. chars (string_bytes out) ≡ with_line (chars line.now) (chars (string_bytes text))) }
+{
+    if line.is_empty() {
+        return Ok(text);
+    }
+    let mut out = TextBuilder::with_room(alloc, text.len())?;
+    out.push_text(line)?;
+    out.push('\n')?;
+    out.push_text(text.as_str())?;
+    Ok(out.into_string())
+}
