@@ -1,7 +1,7 @@
 //! Chooses the gaps: where lines break, and how far in they begin.
-use crate::atoms::{Atom, NO_LINE, Role, Unread, Word, push_list};
+use crate::atoms::{Atom, Kind, NO_LINE, Role, Unread, Word, push_list};
 use crate::chains::{Chain, Chains, NOWHERE, chain_at};
-use crate::lists::{atom, before, is_tall, width};
+use crate::lists::{after, atom, before, is_tall, width};
 use crate::roles::assign_roles;
 use crate::widths::{find_parts, measure, measure_group};
 use layout::Gap;
@@ -22,6 +22,9 @@ const CHAIN: usize = 60;
 
 /// How wide an element is at most of which several stand on one line.
 const SHORT: usize = 11;
+
+/// How many atoms stand before the generics of an item at most, as those of `pub(in a) const unsafe extern "C" fn f`.
+const HEAD: usize = 8;
 
 /// No group.
 const NO_GROUP: usize = usize::MAX;
@@ -141,7 +144,7 @@ impl<'a> Printer<'a> {
         push_list(&mut atoms, &mut groups, stream.trees())?;
         let top = atoms.len();
         let top_groups = groups.len();
-        assign_roles(&mut atoms, &mut opens, 0, top)?;
+        assign_roles(&mut atoms, &mut opens, 0, top, true)?;
         find_parts(&mut atoms, 0, top, true);
         Ok(Printer {
             atoms,
@@ -228,7 +231,7 @@ impl<'a> Printer<'a> {
         push_list(&mut self.atoms, &mut self.groups, group.trees)?;
         let end = self.atoms.len();
         let block = self.atom(group.index).is_brace();
-        assign_roles(&mut self.atoms, &mut self.opens, first, end)?;
+        assign_roles(&mut self.atoms, &mut self.opens, first, end, block)?;
         let parts = find_parts(&mut self.atoms, first, end, block);
         if let Some(own) = self.atoms.get_mut(group.index) {
             own.first = first;
@@ -460,6 +463,9 @@ impl<'a> Printer<'a> {
             };
             self.break_chain(index, used)?;
         }
+        if self.atom(index).role == Role::Less && self.begins_generics(index) {
+            self.break_generics(index);
+        }
         let mut style = Style::Flat;
         let mut inner = 0;
         if self.atom(index).is_group() && !self.stays_flat(index) {
@@ -587,7 +593,7 @@ impl<'a> Printer<'a> {
         }
         let assigned = previous.is_mark('=') && previous.role == Role::Between;
         if self.list.where_depth != NOWHERE {
-            if self.atom(index).is_brace() && index.saturating_add(1) == self.list.part_end {
+            if self.is_last_brace(index) {
                 return Gap::Line(self.list.indent);
             }
             if bound {
@@ -607,10 +613,16 @@ impl<'a> Printer<'a> {
                 return Gap::Line(column);
             }
         }
-        if binds && self.breaks_where() {
+        if binds && self.breaks_where(index) {
             self.list.where_depth = 0;
             self.list.after_where = true;
-            return Gap::Line(self.list.indent);
+            // After parameters a line each, whose closer stands alone on its line, it goes on there.
+            let alone = self.column == self.list.indent.saturating_add(1);
+            return if alone && self.previous(index).is_round() {
+                Gap::Space
+            } else {
+                Gap::Line(self.list.indent)
+            };
         }
         if assigned {
             let column = deeper(self.list.indent);
@@ -645,12 +657,38 @@ impl<'a> Printer<'a> {
         chain.first == chain.last
     }
 
-    // Whether the lines of a `where` of this part are broken: it stands before a body or at the end of an item.
-    fn breaks_where(&self) -> bool {
+    // Whether the lines of the `where` of this index are broken: it stands before a body or at the end of an item.
+    // In an impl without items they are not, if it has one bound and all of it fits on the line.
+    fn breaks_where(&self, index: usize) -> bool {
         let end = self.list.part_end;
         let last = self.previous(end);
-        let comma = self.previous(end.saturating_sub(1));
-        last.is_brace() && comma.is_mark(',') || last.is_mark(';')
+        if after(self.atoms.as_slice(), end, index).is_group() {
+            // Only macros have such bounds.
+            return false;
+        }
+        if last.is_mark(';') {
+            return true;
+        }
+        if !last.is_brace() {
+            return false;
+        }
+        let start = self.list.start;
+        let first = self.atom(start);
+        let second = self.atom(start.saturating_add(1));
+        let impls = first.is_word(Word::Impl) || second.is_word(Word::Impl);
+        if !(impls && last.is_empty() && self.fit(index, end, 1)) {
+            return true;
+        }
+        let mut depth: usize = 0;
+        for later in index..end {
+            match self.atom(later).role {
+                Role::Less => depth = depth.saturating_add(1),
+                Role::Greater => depth = depth.saturating_sub(1),
+                Role::Comma if depth == 0 => return true,
+                _ => {}
+            }
+        }
+        false
     }
 
     // Whether a bound of the last `where` begins with the atom, which comes next. Each is asked about once.
@@ -669,6 +707,11 @@ impl<'a> Printer<'a> {
         false
     }
 
+    // Whether the part ends with the atom, and that is braces.
+    fn is_last_brace(&self, index: usize) -> bool {
+        index.saturating_add(1) == self.list.part_end && self.atom(index).is_brace()
+    }
+
     fn set_line(&mut self, index: usize, column: usize) {
         if let Some(own) = self.atoms.get_mut(index) {
             own.line = column;
@@ -679,6 +722,10 @@ impl<'a> Printer<'a> {
     fn stays_flat(&self, index: usize) -> bool {
         let own = self.atom(index);
         if own.tall {
+            return false;
+        }
+        if own.is_empty() && self.list.where_depth != NOWHERE && self.is_last_brace(index) {
+            // A body without statements, below bounds a line each.
             return false;
         }
         if own.role == Role::Attribute && own.end.saturating_sub(own.first) == 3 {
@@ -783,7 +830,12 @@ impl<'a> Printer<'a> {
         for later in index..self.list.part_end {
             let own = self.atom(later);
             let block = own.role == Role::Block && own.is_group();
-            if own.is_mark(';') || own.is_mark(',') || own.is_arm() || block {
+            if own.is_mark(';')
+                || own.is_mark(',')
+                || own.is_arm()
+                || own.is_word(Word::Where)
+                || block
+            {
                 stop = later;
                 break;
             }
@@ -866,6 +918,63 @@ impl<'a> Printer<'a> {
             }
             bar = later;
         }
+    }
+
+    // Whether the generics of an item begin with the `<` of this index: it follows `impl`, or a name near the front.
+    fn begins_generics(&self, index: usize) -> bool {
+        if index.saturating_sub(self.list.start) > HEAD {
+            return false;
+        }
+        let item = if self.previous(index).is_word(Word::Name) {
+            self.previous(index.saturating_sub(1))
+        } else {
+            self.previous(index)
+        };
+        match item.kind {
+            Kind::Word(word) => matches!(
+                word,
+                Word::Fn | Word::Impl | Word::Struct | Word::Enum | Word::Union | Word::Trait
+            ),
+            _ => false,
+        }
+    }
+
+    // Writes each of the generics that begin here on a line, if they are too long for this one. No line breaks within
+    // them else.
+    fn break_generics(&mut self, index: usize) {
+        let mut close = index;
+        let mut depth: usize = 0;
+        for later in index..self.list.part_end {
+            match self.atom(later).role {
+                Role::Less => depth = depth.saturating_add(1),
+                Role::Greater => depth = depth.saturating_sub(1),
+                _ => {}
+            }
+            if depth == 0 {
+                close = later;
+                break;
+            }
+            self.set_line(later, NO_LINE);
+        }
+        if close == index || self.fit(index, close, 2) {
+            return;
+        }
+        let outer = self.list.indent;
+        let inner = deeper(outer);
+        let mut begins = true;
+        for later in index.saturating_add(1)..close {
+            if begins {
+                self.set_line(later, inner);
+            }
+            let role = self.atom(later).role;
+            match role {
+                Role::Less => depth = depth.saturating_add(1),
+                Role::Greater => depth = depth.saturating_sub(1),
+                _ => {}
+            }
+            begins = role == Role::Comma && depth == 0;
+        }
+        self.set_line(close, outer);
     }
 
     // The chain of calls that begins here, if it has dots.

@@ -5,14 +5,16 @@ use crate::widths::wants_space;
 use proc_macro2::Delimiter;
 use std::alloc::AllocError;
 
-/// Gives the atoms of a list their roles. `opens` is for indexes.
+/// Gives the atoms of a list their roles. `block` says whether it may have statements. `opens` is for indexes.
 pub fn assign_roles(
     atoms: &mut Vec<Atom>,
     opens: &mut Vec<usize>,
     first: usize,
     end: usize,
+    block: bool,
 ) -> Result<(), AllocError> {
     let mut state = State {
+        start: if block { first } else { NO_START },
         in_bars: false,
         head: Head::Nothing,
         last: Head::Nothing,
@@ -47,7 +49,7 @@ fn pair_angles(
                 set_role(atoms, matched, Role::Less);
             }
             set_role(atoms, later, Role::Greater);
-        } else if ends_types(&next) {
+        } else if ends_types(&next, before(atoms.as_slice(), index, later)) {
             break;
         }
         if opens.is_empty() {
@@ -62,14 +64,17 @@ fn pair_angles(
     Ok(())
 }
 
-// Whether no type goes on with the atom.
-fn ends_types(atom: &Atom) -> bool {
+// Whether no type goes on with the atom, which stands after this one.
+fn ends_types(atom: &Atom, previous: &Atom) -> bool {
     match atom.kind {
         Kind::Word(word) => matches!(
             word,
             Word::String | Word::If | Word::Let | Word::Match | Word::Else
         ),
-        Kind::Group(_) => atom.is_brace(),
+        // Braces may be the whole of an argument, as in `f::<{ N }>()`.
+        Kind::Group(_) => {
+            atom.is_brace() && !matches!(previous.kind, Kind::Sign(Sign::One('<' | ',' | '=')))
+        }
         Kind::Sign(sign) => match sign {
             Sign::Path | Sign::Arrow => false,
             Sign::One(mark) => !matches!(
@@ -97,9 +102,14 @@ enum Head {
     Other,
 }
 
+// No statement begins.
+const NO_START: usize = usize::MAX;
+
 // What was read of a list.
 #[derive(Clone, Copy)]
 struct State {
+    // Where the statement or the arm begins. Right after braces that end one, the index of the atom after them.
+    start: usize,
     in_bars: bool,
     head: Head,
     last: Head,
@@ -125,6 +135,9 @@ impl State {
                 let earlier = before(atoms.as_slice(), first, index.saturating_sub(1));
                 let next = after(atoms.as_slice(), end, index);
                 role = self.group_role(delimiter, own, previous, earlier, next);
+                if self.start < NO_START && self.ends(atoms.as_slice(), index, role, next) {
+                    self.start = index.saturating_add(1);
+                }
             }
             Kind::Sign(sign) => {
                 // Only marks are angles.
@@ -134,7 +147,7 @@ impl State {
                     _ => {}
                 }
                 let next = after(atoms.as_slice(), end, index);
-                role = self.sign_role(sign, own.role, previous, next);
+                role = self.sign_role(sign, own.role, previous, next, index);
             }
             Kind::Nothing => {}
         }
@@ -150,7 +163,7 @@ impl State {
     // Whether an `if` begins that gives a value, at this word, with which `head` begins.
     fn take_head(&mut self, word: Word, head: Head, previous: &Atom, next: &Atom) -> bool {
         let item = matches!(head, Head::Fn | Head::Impl | Head::Item);
-        if word == Word::For && self.head == Head::Impl {
+        if word == Word::For && (self.head == Head::Impl || next.is_mark('<')) {
             return false;
         }
         if item && (next.is_group() || self.head == Head::Fn) {
@@ -201,6 +214,10 @@ impl State {
         if previous.is_path() {
             return Role::Use;
         }
+        if self.depth > 0 {
+            // An argument among types.
+            return Role::Expression;
+        }
         let goes_on = next.is_mark('=')
             || next.is_mark('|')
             || next.is_mark(':')
@@ -232,7 +249,53 @@ impl State {
         }
     }
 
-    fn sign_role(&mut self, sign: Sign, role: Role, previous: &Atom, next: &Atom) -> Role {
+    // Whether a statement, an arm or an attribute ends with the group of this index, which is to have this role.
+    fn ends(&self, atoms: &[Atom], index: usize, role: Role, next: &Atom) -> bool {
+        let passed = index.saturating_sub(self.start);
+        if role == Role::Attribute {
+            return passed < 3;
+        }
+        if role != Role::Block && role != Role::Expression {
+            return false;
+        }
+        if next.is_word(Word::Else) || next.is_mark('.') || next.is_mark('?') {
+            return false;
+        }
+        let first = atom(atoms, self.start);
+        match first.kind {
+            Kind::Group(_) => passed == 0,
+            Kind::Word(word) => match word {
+                Word::If
+                | Word::For
+                | Word::While
+                | Word::Loop
+                | Word::Match
+                | Word::Lifetime
+                | Word::Fn
+                | Word::Impl
+                | Word::Trait
+                | Word::Mod
+                | Word::Struct
+                | Word::Enum
+                | Word::Extern
+                | Word::Pub => true,
+                // As `unsafe` and `async move`, or before `fn`.
+                Word::Keyword => passed < 3 || self.last == Head::Fn,
+                Word::Name | Word::MacroRules => after(atoms, index, self.start).role == Role::Bang,
+                _ => false,
+            },
+            _ => false,
+        }
+    }
+
+    fn sign_role(
+        &mut self,
+        sign: Sign,
+        role: Role,
+        previous: &Atom,
+        next: &Atom,
+        index: usize,
+    ) -> Role {
         let mark = match sign {
             Sign::One(mark) => mark,
             _ => ' ',
@@ -240,6 +303,9 @@ impl State {
         let comma_ends = mark == ',' && self.depth == 0 && !self.is_in_item();
         if mark == ';' || matches!(sign, Sign::Arm) || comma_ends {
             self.head = Head::Nothing;
+            if self.start < NO_START {
+                self.start = index.saturating_add(1);
+            }
         }
         let repeated = previous.role == Role::Repeated || previous.role == Role::Separator;
         if repeated && matches!(mark, '*' | '+' | '?') {
@@ -248,7 +314,7 @@ impl State {
         if repeated && matches!(mark, ',' | ';' | '|') {
             return Role::Separator;
         }
-        let value = previous.is_value();
+        let value = previous.is_value() && !(index == self.start && previous.is_brace());
         if mark == '!' {
             return if previous.is_mark('#') {
                 Role::Hash

@@ -72,6 +72,7 @@ fn ends_statement(own: &Atom, next: &Atom, signs_only: bool) -> bool {
                 | Role::Between
                 | Role::Colon
                 | Role::Path
+                | Role::Greater
         );
         let word = next.is_word(Word::Else) || next.is_word(Word::As);
         return !(goes_on || word || next.is_list() && own.role != Role::Block);
