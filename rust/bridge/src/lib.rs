@@ -33,9 +33,19 @@ pub use pretty::{pretty, PrettyError};
 pub use proved_tokens;
 pub use spans::{NoToken, Spans};
 
-/// The examples of the page that describes this package, and of the repository's page on moving here, which is not in
-/// the package.
+/// The examples of the page that describes this package.
 #[cfg(all(doctest, feature = "pretty_printer"))]
 #[doc = include_str!("../README.md")]
-#[doc = include_str!("../../../docs/MOVING.md")]
-struct Pages;
+struct Readme;
+
+/// The examples of the repository's guide, which may use all features. The page is not in the package.
+#[cfg(all(
+    doctest,
+    feature = "quote",
+    feature = "items",
+    feature = "print",
+    feature = "check",
+    feature = "cursor"
+))]
+#[doc = include_str!("../../../docs/GUIDE.md")]
+struct Guide;
