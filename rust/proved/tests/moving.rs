@@ -9,8 +9,8 @@ use proved_tokens::check::{advice, explain, Hint};
 use proved_tokens::cursor::TokenBuffer;
 use proved_tokens::items::{
     compile_error, impl_generics, impl_header, impl_header_where, parse_file, parse_param, parse_type_item,
-    split_attributes, split_visibility, type_generics, where_clause, where_clause_with_bound, within_generics,
-    Attributes, Body, ParamKind,
+    split_attributes, split_type, split_visibility, type_generics, where_clause, where_clause_with_bound,
+    within_generics, Attributes, Body, ParamKind,
 };
 use proved_tokens::print::to_pretty_string;
 use proved_tokens::quote::{Hole, Quote};
@@ -168,6 +168,10 @@ fn calls_for_lints_and_editors() -> Outcome {
         }
         assert_ne!(tree.to_string(), "x");
     }
+    let stream: TokenStream = "Map<K, V>, x: u8".parse()?;
+    let trees = stream.trees();
+    let (found, rest) = split_type(trees)?;
+    assert_eq!((found.len(), rest.len()), (6, 4));
     let text = "/* a /* b */ c";
     let error = explain(text)?.ok_or("it has no error")?;
     assert!(matches!(advice(text, &error)?, Some(Hint::Comments { depth: 1, closed: Some(_) })));
