@@ -260,7 +260,7 @@ fi
 copies=$room/rust
 mkdir "$copies"
 ln -s "$PWD/proved" "$PWD/proc-macro2" "$copies"
-ln -s "$PWD/../docs" "$room"
+ln -s "$PWD/../docs" "$PWD/../crates" "$room"
 cp -r bridge example "$copies"
 in_copy() { (cd "$copies/$1" && cargo "${@:2}"); }
 over_package=(--config 'patch.crates-io.proc-macro2.path="../proc-macro2"')

@@ -49,3 +49,41 @@ struct Readme;
 ))]
 #[doc = include_str!("../../../docs/GUIDE.md")]
 struct Guide;
+
+/// The examples on the pages of the repository's crates, likewise.
+#[cfg(all(
+    doctest,
+    feature = "quote",
+    feature = "items",
+    feature = "print",
+    feature = "check",
+    feature = "cursor"
+))]
+mod pages {
+    macro_rules! pages {
+        ($($page:literal $name:ident)*) => {
+            $(
+                #[doc = include_str!(concat!("../../../crates/", $page, "/README.md"))]
+                struct $name;
+            )*
+        };
+    }
+
+    pages! {
+        "lexical" Lexical
+        "literal_escaper" LiteralEscaper
+        "pm_span" PmSpan
+        "pm_token" PmToken
+        "pm_stream" PmStream
+        "token_buffer" TokenBuffer
+        "proc_macro2" ProcMacro2
+        "declarations" Declarations
+        "explain" Explain
+        "layout" Layout
+        "relayout" Relayout
+        "quoting" Quoting
+        "item_headers" ItemHeaders
+        "pretty_printer" PrettyPrinter
+        "pretty" Pretty
+    }
+}
