@@ -1,31 +1,41 @@
 -- Known offsets of a text, and what stands before and after them.
 use Rattle.std.proofs.Common.{◌≡◌, ℕ, ◌+◌, ◌*◌, ◌-◌, ◌<◌, ◌≤◌, List, [], ◌∷◌, ◌++◌, length, take, drop, get_or}
-use Rattle.std.proofs.Common.{sym, ap, subst, ◌∙◌, arith, length-drop, inl, inr}
-use Rattle.std.specs.Str.{chars, IsAscii, IsUtf8, IsCharBoundary, encode_utf8_all}
+use Rattle.std.proofs.Common.{refl, sym, ap, subst, ◌∙◌, arith, length-append, length-drop, inl, inr}
+use Rattle.std.specs.Str.{chars, IsUtf8, IsCharBoundary, encode_utf8_all}
 use Rattle.std.proofs.lemmas.Bool.{cases_lt}
 use Rattle.std.proofs.lemmas.List.{nil_from_length, length-take-le, take-append-drop, take-take, drop-drop, drop_at}
 use Rattle.std.proofs.lemmas.List.{get_or_append_left, get_or_push, length_push}
-use Rattle.std.proofs.lemmas.Str.{chars-append, chars-IsAscii, chars-nil, encodes-chars, IsCharBoundary-from_take}
-use Rattle.std.proofs.lemmas.Str.{IsUtf8-from_ascii, IsUtf8-nil, length-le-encodes}
+use Rattle.std.proofs.lemmas.Str.{chars-append, chars-nil, encodes-chars}
+use Rattle.std.proofs.lemmas.Str.{IsUtf8-take, IsUtf8-nil, length-le-encodes}
+use Rattle.pm_span.proofs.AsciiLemmas.{length_chars_le}
 use Rattle.pm_span.specs.ByteIndex.{IsByteOffset}
 use Rattle.pm_span.specs.CharOffset.{byte_offset}
 use Rattle.pm_span.proofs.SeamLemmas.{boundary_at, byte_offset-add, byte_offset-rising, front_at, rest_at, rest_bytes}
 
--- past a front of ASCII a text may be cut, and so many characters as bytes are passed
-pub boundary_past_ascii : (bytes : List ℕ) (n : ℕ) → IsUtf8 bytes → n ≤ length bytes → IsAscii (take n bytes)
-    → IsCharBoundary bytes n
-boundary_past_ascii bytes n utf8 within ascii =
-    IsCharBoundary-from_take bytes n utf8 within (IsUtf8-from_ascii (take n bytes) ascii)
+-- as many bytes as characters are to be passed have some of these characters, and the others follow
+pub record IsPassed (bytes : List ℕ) (n : ℕ) : Type 0 where
+  pub few : length (chars (take n bytes)) ≤ n
+  pub size : length (chars (take n bytes)) + length (chars (drop n bytes)) ≡ length (chars bytes)
+  pub rest : drop (n - length (chars (take n bytes))) (chars (drop n bytes)) ≡ drop n (chars bytes)
 
-pub chars_past_ascii : (bytes : List ℕ) (n : ℕ) → n ≤ length bytes → IsAscii (take n bytes)
-    → chars (drop n bytes) ≡ drop n (chars bytes)
-chars_past_ascii bytes n within ascii =
-    let rest = chars (drop n bytes) in
-    let whole : chars bytes ≡ take n bytes ++ rest =
-    ap chars (sym (take-append-drop n bytes))
-    ∙ (chars-append (take n bytes) (drop n bytes) (IsUtf8-from_ascii (take n bytes) ascii)
-    ∙ ap (λ xs. xs ++ rest) (chars-IsAscii (take n bytes) ascii)) in
-    sym (ap (drop n) whole ∙ drop_at (take n bytes) rest n (length-take-le n bytes within))
+pub passed : (bytes : List ℕ) (n : ℕ) → IsUtf8 bytes → IsCharBoundary bytes n → IsPassed bytes n
+passed bytes n utf8 at =
+    let front = chars (take n bytes) in
+    let back = chars (drop n bytes) in
+    let cut : IsUtf8 (take n bytes) = IsUtf8-take bytes n utf8 at in
+    let few : length front ≤ n =
+    omega (arith, length_chars_le (take n bytes) cut, length-take-le n bytes at.0) in
+    let whole : chars bytes ≡ front ++ back =
+    ap chars (sym (take-append-drop n bytes)) ∙ chars-append (take n bytes) (drop n bytes) cut in
+    let past : drop (length front) (chars bytes) ≡ back =
+    ap (drop (length front)) whole ∙ drop_at front back (length front) refl in
+    let sum : length front + (n - length front) ≡ n = omega arith in
+    record {
+      few = few;
+      size = omega (arith, ap length whole, length-append front back);
+      rest = ap (drop (n - length front)) (sym past)
+          ∙ (drop-drop (n - length front) (length front) (chars bytes) ∙ ap (λ m. drop m (chars bytes)) sum);
+    }
 
 -- a block more ends
 pub block_more :

@@ -1,13 +1,14 @@
 //! A text that isn't ASCII, whose bytes are found by characters.
-ghost use Rattle.std.specs.Prelude.{◌≡◌, ◌≤◌, length, drop, IfOk};
+ghost use Rattle.std.specs.Prelude.{◌≡◌, ◌≤◌, List, ℕ, length, drop, IfOk};
 ghost use Rattle.std.specs.Str.{chars, IsUtf8};
 ghost use Rattle.std.specs.String.{string_bytes};
 ghost use Rattle.pm_span.specs.CharOffset.{byte_offset};
 ghost use Rattle.pm_span.specs.ByteIndex.{AreBlockEnds, IsByteOffset};
 
-use crate::text::{skip_chars, skip_chars_back};
+use crate::text::{char_count, skip_chars, skip_chars_back};
 use std::alloc::{AllocError, Global};
 use std::marker::Model;
+use std::ops::Range;
 
 /// So many characters are a block. At most half as many are walked to find an offset.
 const BLOCK: u32 = 64;
@@ -42,15 +43,16 @@ impl Model for ByteIndex {
     ghost invariant = { λ index. IsByteIndex (chars (string_bytes index.text)) index.count index.ends.items };
 }
 
-/// The text after its first block of characters, which is passed at once where it is ASCII.
+/// The text after its first block of characters. Those in as many bytes are counted, and the others passed one by one.
 fn skip_block(text: &str) -> &str
     requires { 64 ≤ length (chars text.now) }
     ensures value { chars result.now ≡ drop 64 (chars text.now) }
     ensures utf8 { IsUtf8 result.now }
 {
     let size = BLOCK as usize;
-    if text.as_bytes()[..size].is_ascii() {
-        &text[size..]
+    if text.is_char_boundary(size) {
+        let (front, rest) = text.split_at(size);
+        skip_chars(rest, size - char_count(front))
     } else {
         skip_chars(text, size)
     }
@@ -69,6 +71,18 @@ fn block_ends(alloc: Global, text: &str, count: u32) -> Result<Vec<usize>, Alloc
         ends.push(text.len() - rest.len())?;
     }
     Ok(ends)
+}
+
+/// The one of two known offsets that is nearer to this one in characters.
+fn nearer(char_offset: u32, first: OffsetPair, second: OffsetPair) -> OffsetPair
+    ensures { (text : List ℕ) → IsByteOffset text first.chars first.bytes
+        → IsByteOffset text second.chars second.bytes → IsByteOffset text result.chars result.bytes }
+{
+    if char_offset.abs_diff(first.chars) <= char_offset.abs_diff(second.chars) {
+        first
+    } else {
+        second
+    }
 }
 
 impl ByteIndex {
@@ -145,19 +159,35 @@ impl ByteIndex {
     }
 
     /// An offset of the text in characters as one in bytes: an addition where its block is ASCII, else a walk from the
-    /// nearer end of the block.
-    pub(crate) fn byte_offset(&self, char_offset: u32) -> usize
-        requires { char_offset ≤ length self.now }
+    /// nearest of both ends of the block and of another known offset.
+    fn byte_offset(&self, char_offset: u32, known: OffsetPair) -> usize
+        requires within { char_offset ≤ length self.now }
+        requires known { IsByteOffset self.now known.chars known.bytes }
         ensures { result ≡ byte_offset self.now char_offset }
     {
         let start = self.block_start(char_offset);
         let end = self.block_end(char_offset);
         if end.bytes - start.bytes == (end.chars - start.chars) as usize {
-            start.bytes + (char_offset - start.chars) as usize
-        } else if char_offset - start.chars <= end.chars - char_offset {
-            self.count_from(start, char_offset)
-        } else {
-            self.count_from(end, char_offset)
+            return start.bytes + (char_offset - start.chars) as usize;
         }
+        let nearest = nearer(char_offset, known, nearer(char_offset, start, end));
+        self.count_from(nearest, char_offset)
+    }
+
+    /// The bytes between two offsets of the text.
+    #[inline(never)]
+    pub(crate) fn byte_range(&self, start: u32, end: u32) -> Range<usize>
+        requires ordered { start ≤ end }
+        requires within { end ≤ length self.now }
+        ensures start { result.start ≡ byte_offset self.now start }
+        ensures end { result.end ≡ byte_offset self.now end }
+    {
+        let front = OffsetPair { chars: 0, bytes: 0 };
+        let from = self.byte_offset(start, front);
+        let known = OffsetPair {
+            chars: start,
+            bytes: from,
+        };
+        from..self.byte_offset(end, known)
     }
 }

@@ -11,6 +11,7 @@ use crate::text_lines::{Lines, find_lines};
 use std::alloc::{AllocError, Global};
 use std::fmt;
 use std::marker::Model;
+use std::ops::Range;
 
 /// A file of a source map: its text, the positions that it takes, and where its lines begin.
 #[derive(Drop)]
@@ -118,14 +119,17 @@ impl FileInfo {
         self.lines.line_column(char_offset)
     }
 
-    /// An offset of the text in characters as one in bytes.
-    pub(crate) fn byte_offset(&self, char_offset: u32) -> usize
-        requires { char_offset ≤ length self.now.text }
-        ensures { result ≡ byte_offset self.now.text char_offset }
+    /// The bytes between two offsets of the text, in characters.
+    #[inline(always)]
+    pub(crate) fn byte_range(&self, start: u32, end: u32) -> Range<usize>
+        requires ordered { start ≤ end }
+        requires within { end ≤ length self.now.text }
+        ensures start { result.start ≡ byte_offset self.now.text start }
+        ensures end { result.end ≡ byte_offset self.now.text end }
     {
         match &self.text {
-            FileText::Ascii(_) => char_offset as usize,
-            FileText::Wide(index) => index.byte_offset(char_offset),
+            FileText::Ascii(_) => start as usize..end as usize,
+            FileText::Wide(index) => index.byte_range(start, end),
         }
     }
 
@@ -135,8 +139,7 @@ impl FileInfo {
         requires within { end ≤ length self.now.text }
         ensures { chars result.now ≡ between self.now.text start end }
     {
-        let from = self.byte_offset(start);
-        let to = self.byte_offset(end);
-        &self.text()[from..to]
+        let bytes = self.byte_range(start, end);
+        &self.text()[bytes.start..bytes.end]
     }
 }

@@ -177,7 +177,7 @@ impl SourceMap {
         let (_, file) = self.file_of(lo);
         match file {
             None => 0..0,
-            Some(file) => file.byte_offset(lo - file.lo())..file.byte_offset(hi - file.lo()),
+            Some(file) => file.byte_range(lo - file.lo(), hi - file.lo()),
         }
     }
 

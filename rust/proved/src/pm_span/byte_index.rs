@@ -3,8 +3,9 @@
 
 use crate::shim::prelude::Grow;
 
-use crate::pm_span::text::{skip_chars, skip_chars_back};
+use crate::pm_span::text::{char_count, skip_chars, skip_chars_back};
 use crate::shim::alloc::AllocError;
+use crate::shim::ops::Range;
 
 /// So many characters are a block. At most half as many are walked to find an offset.
 const BLOCK: u32 = 64;
@@ -25,12 +26,13 @@ struct OffsetPair {
     bytes: usize,
 }
 
-/// The text after its first block of characters, which is passed at once where it is ASCII.
+/// The text after its first block of characters. Those in as many bytes are counted, and the others passed one by one.
 fn skip_block(text: &str) -> &str
 {
     let size = BLOCK as usize;
-    if text.as_bytes()[..size].is_ascii() {
-        &text[size..]
+    if text.is_char_boundary(size) {
+        let (front, rest) = text.split_at(size);
+        skip_chars(rest, size - char_count(front))
     } else {
         skip_chars(text, size)
     }
@@ -47,6 +49,16 @@ fn block_ends(text: &str, count: u32) -> Result<Vec<usize>, AllocError>
         ends.push_fallibly(text.len() - rest.len())?;
     }
     Ok(ends)
+}
+
+/// The one of two known offsets that is nearer to this one in characters.
+fn nearer(char_offset: u32, first: OffsetPair, second: OffsetPair) -> OffsetPair
+{
+    if char_offset.abs_diff(first.chars) <= char_offset.abs_diff(second.chars) {
+        first
+    } else {
+        second
+    }
 }
 
 impl ByteIndex {
@@ -110,17 +122,28 @@ impl ByteIndex {
     }
 
     /// An offset of the text in characters as one in bytes: an addition where its block is ASCII, else a walk from the
-    /// nearer end of the block.
-    pub(crate) fn byte_offset(&self, char_offset: u32) -> usize
+    /// nearest of both ends of the block and of another known offset.
+    fn byte_offset(&self, char_offset: u32, known: OffsetPair) -> usize
     {
         let start = self.block_start(char_offset);
         let end = self.block_end(char_offset);
         if end.bytes - start.bytes == (end.chars - start.chars) as usize {
-            start.bytes + (char_offset - start.chars) as usize
-        } else if char_offset - start.chars <= end.chars - char_offset {
-            self.count_from(start, char_offset)
-        } else {
-            self.count_from(end, char_offset)
+            return start.bytes + (char_offset - start.chars) as usize;
         }
+        let nearest = nearer(char_offset, known, nearer(char_offset, start, end));
+        self.count_from(nearest, char_offset)
+    }
+
+    /// The bytes between two offsets of the text.
+    #[inline(never)]
+    pub(crate) fn byte_range(&self, start: u32, end: u32) -> Range<usize>
+    {
+        let front = OffsetPair { chars: 0, bytes: 0 };
+        let from = self.byte_offset(start, front);
+        let known = OffsetPair {
+            chars: start,
+            bytes: from,
+        };
+        from..self.byte_offset(end, known)
     }
 }

@@ -9,6 +9,7 @@ use crate::pm_span::location::LineColumn;
 use crate::pm_span::text_lines::{Lines, find_lines};
 use crate::shim::alloc::AllocError;
 use crate::shim::fmt;
+use crate::shim::ops::Range;
 
 /// A file of a source map: its text, the positions that it takes, and where its lines begin.
 pub(crate) struct FileInfo {
@@ -91,20 +92,20 @@ impl FileInfo {
         self.lines.line_column(char_offset)
     }
 
-    /// An offset of the text in characters as one in bytes.
-    pub(crate) fn byte_offset(&self, char_offset: u32) -> usize
+    /// The bytes between two offsets of the text, in characters.
+    #[cfg_attr(not(debug_assertions), inline(always))]
+    pub(crate) fn byte_range(&self, start: u32, end: u32) -> Range<usize>
     {
         match &self.text {
-            FileText::Ascii(_) => char_offset as usize,
-            FileText::Wide(index) => index.byte_offset(char_offset),
+            FileText::Ascii(_) => start as usize..end as usize,
+            FileText::Wide(index) => index.byte_range(start, end),
         }
     }
 
     /// The text between two of its offsets, in characters.
     pub(crate) fn text_between(&self, start: u32, end: u32) -> &str
     {
-        let from = self.byte_offset(start);
-        let to = self.byte_offset(end);
-        &self.text()[from..to]
+        let bytes = self.byte_range(start, end);
+        &self.text()[bytes.start..bytes.end]
     }
 }

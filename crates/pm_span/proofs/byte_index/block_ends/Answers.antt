@@ -29,7 +29,8 @@ loop-preserved c =
     let text = c.args.text.now in
     let rest = c.skip_block-rest.result.now in
     let ends = c.loop.ends.items in
-    let left = next_left text c.loop.rest.now rest c.loop.counter c.loop.invariant.left c.skip_block-rest.ensures.value in
+    let left = next_left text c.loop.rest.now rest c.loop.counter c.loop.invariant.left
+    c.skip_block-rest.ensures.value in
     let bytes = rest_bytes text rest (64 * (c.loop.counter + 1)) c.utf8.text c.skip_block-rest.utf8 left in
     let here : IsByteOffset (chars text) (64 * (c.loop.counter + 1)) (length text - length rest) = record {
       within = omega (arith, c.requires, c.loop-test.true);

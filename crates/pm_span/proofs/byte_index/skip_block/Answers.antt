@@ -1,26 +1,27 @@
-use Rattle.std.proofs.Common.{List, ℕ, ◌≤◌, length, take, sym, ap, subst, ◌∙◌, arith}
-use Rattle.std.specs.Str.{chars, IsAscii, IsUtf8}
-use Rattle.std.proofs.lemmas.List.{length-take-le}
-use Rattle.pm_span.proofs.AsciiLemmas.{length_chars_le}
-use Rattle.pm_span.proofs.ByteOffsetLemmas.{boundary_past_ascii, chars_past_ascii}
+use Rattle.std.proofs.Common.{◌-◌, length, drop, ap, ap₂, refl, ◌∙◌, arith}
+use Rattle.std.specs.Str.{chars}
+use Rattle.pm_span.proofs.ByteOffsetLemmas.{passed}
 use Rattle.pm_span.proofs.byte_index.skip_block.Goals as goal
 
--- a block has as many bytes as characters, or more
-within : (bytes : List ℕ) → IsUtf8 bytes → 64 ≤ length (chars bytes) → 64 ≤ length bytes
-within bytes utf8 some = omega (arith, some, length_chars_le bytes utf8)
+pub overflow_sub-size : goal.overflow_sub-size
+overflow_sub-size c =
+    let block = passed c.args.text.now 64 c.utf8.text (c.if-is_char_boundary.ensures.test.0 refl) in
+    omega (arith, c.char_count.ensures, ap (λ t. length (chars t)) c.split_at.ensures.front, block.few)
 
-pub slice_bounds-is_ascii-end : goal.slice_bounds-is_ascii-end
-slice_bounds-is_ascii-end c =
-    let size = within c.args.text.now c.utf8.text c.requires in
-    sym (length-take-le 64 c.as_bytes.result.now (omega (arith, size, ap length c.as_bytes.ensures.value)))
+pub skip_chars-requires : goal.skip_chars-requires
+skip_chars-requires c =
+    let block = passed c.args.text.now 64 c.utf8.text (c.if-is_char_boundary.ensures.test.0 refl) in
+    omega (
+      arith,
+      c.requires,
+      c.char_count.ensures,
+      ap (λ t. length (chars t)) c.split_at.ensures.front,
+      ap (λ t. length (chars t)) c.split_at.ensures.back,
+      block.size,
+    )
 
-pub range_from-requires : goal.range_from-requires
-range_from-requires c =
-    let ascii = subst (λ bytes. IsAscii (take 64 bytes)) c.as_bytes.ensures.value c.if-is_ascii.ensures.cases in
-    λ past. boundary_past_ascii c.args.text.now 64 c.utf8.text (within c.args.text.now c.utf8.text c.requires) ascii
-
-pub returns-then-is_ascii-clause-value : goal.returns-then-is_ascii-clause-value
-returns-then-is_ascii-clause-value c =
-    let ascii = subst (λ bytes. IsAscii (take 64 bytes)) c.as_bytes.ensures.value c.if-is_ascii.ensures.cases in
-    ap chars c.range_from.ensures.value
-    ∙ chars_past_ascii c.args.text.now 64 (within c.args.text.now c.utf8.text c.requires) ascii
+pub returns-then-is_char_boundary-clause-value : goal.returns-then-is_char_boundary-clause-value
+returns-then-is_char_boundary-clause-value c =
+    let block = passed c.args.text.now 64 c.utf8.text (c.if-is_char_boundary.ensures.test.0 refl) in
+    let count = c.char_count.ensures ∙ ap (λ t. length (chars t)) c.split_at.ensures.front in
+    c.skip_chars.ensures.value ∙ (ap₂ (λ k t. drop (64 - k) (chars t)) count c.split_at.ensures.back ∙ block.rest)

@@ -13,3 +13,8 @@ returns-then-end-start c =
     let start = c.block_start-start.ensures in
     let end = c.block_end-end.ensures in
     narrow_between start.value end.value start.before end.after c.if-end-start.true
+
+pub count_from-requires-clause-known : goal.count_from-requires-clause-known
+count_from-requires-clause-known c =
+    c.nearer-nearest.ensures c.args.self.now c.requires.known
+    (c.nearer.ensures c.args.self.now c.block_start-start.ensures.value c.block_end-end.ensures.value)

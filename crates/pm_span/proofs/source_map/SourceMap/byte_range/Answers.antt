@@ -7,15 +7,8 @@ use Rattle.pm_span.proofs.source_map.SourceMap.byte_range.Goals as goal
 abbrev range_of : ℕ → ℕ → Range ℕ
 range_of j k = record { start = j; end = k }
 
-pub byte_offset-requires : goal.byte_offset-requires
-byte_offset-requires c =
-    let lo = ap (λ p. p.0) c.bounds-lo.ensures.value in
-    let found = found_some lo c.in-Some.is c.file_of.ensures.found in
-    let ordered = c.bounds-lo.ensures.ordered in
-    omega (arith, (holds_at c.args.span found ordered).1 c.requires, ordered, lo, c.lo.ensures)
-
-pub byte_offset-requires-in-Some : goal.byte_offset-requires-in-Some
-byte_offset-requires-in-Some c =
+pub byte_range-requires-clause-within : goal.byte_range-requires-clause-within
+byte_range-requires-clause-within c =
     let lo = ap (λ p. p.0) c.bounds-lo.ensures.value in
     let hi = ap (λ p. p.1) c.bounds-lo.ensures.value in
     let found = found_some lo c.in-Some.is c.file_of.ensures.found in
@@ -34,9 +27,9 @@ returns-in-Some c = λ text lo file.
     let first = ap (λ p. p.0) c.bounds-lo.ensures.value in
     let last = ap (λ p. p.1) c.bounds-lo.ensures.value in
     let own = c.in-Some.file.now.text in
-    let start = c.byte_offset.ensures ∙ ap₂ (λ p l. byte_offset own (p - l)) first c.lo.ensures in
-    let end = c.byte_offset-in-Some.ensures ∙ ap₂ (λ p l. byte_offset own (p - l)) last c.lo-in-Some.ensures in
-    of_each c.args.span (λ n t l. range_of c.byte_offset.result c.byte_offset-in-Some.result
+    let start = c.byte_range.ensures.start ∙ ap₂ (λ p l. byte_offset own (p - l)) first c.lo.ensures in
+    let end = c.byte_range.ensures.end ∙ ap₂ (λ p l. byte_offset own (p - l)) last c.lo-in-Some.ensures in
+    of_each c.args.span (λ n t l. c.byte_range.result
     ≡ range_of (byte_offset t (c.args.span.lo - l)) (byte_offset t (c.args.span.hi - l)))
     (found_some first c.in-Some.is c.file_of.ensures.found) c.bounds-lo.ensures.ordered (ap₂ range_of start end)
     text lo file
