@@ -1,7 +1,7 @@
 use Rattle.std.proofs.Common.{◌≡◌, ◌≤◌, ◌+◌, ◌-◌, length, drop}
 use Rattle.lexical.specs.Finder.{while_front}
 use Rattle.pm_token.specs.Escaped.{is_plain_ascii}
-use Rattle.pm_token.proofs.escapes.count_plain.Given as goal
+use Rattle.pm_token.proofs.escapes.count_by_bytes.Given as goal
 
 abbrev pub invariant-loop-count : goal.invariant-loop-count
 invariant-loop-count l = (l.count ≤ length l.bytes)
