@@ -11,6 +11,7 @@
 
 mod any_item;
 mod attribute;
+mod attribute_entry;
 mod class;
 mod entry;
 mod entry_check;

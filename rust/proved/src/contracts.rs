@@ -124,6 +124,8 @@
 //!   parts
 //! - <a id="declarations.EntryCheck.IsEntryError"></a>**IsEntryError**: the entries up to some trees have known
 //!   names, each another, and these trees are wrong as the error says
+//! - <a id="declarations.Entry.IsEntryFault"></a>**IsEntryFault**: the fault of trees that are not one entry:
+//!   so many of them stand before it
 //! - <a id="declarations.Forms.IsExpression"></a>**IsExpression**: the expression of a discriminant, whose end
 //!   alone is read
 //! - <a id="declarations.Forms.IsField"></a>**IsField**: a field: attributes, a visibility, a name, `:` and a
@@ -188,6 +190,8 @@
 //! - <a id="declarations.Grammar.ends"></a>**ends**: whether what is read may end at this place of the grammar
 //! - <a id="declarations.rules.Entries.entry"></a>**entry**: an entry: a literal, or a path with what follows
 //!   it
+//! - <a id="declarations.Entry.entry_extent"></a>**entry_extent**: where the first tree of an entry of this
+//!   kind and path stands
 //! - <a id="declarations.rules.Expressions.expression"></a>**expression**: where an operand is wanted
 //! - <a id="declarations.Fault.extent_at"></a>**extent_at**: the span of the tree with this index, or nothing
 //!   where the trees end before it
@@ -211,6 +215,7 @@
 //! - <a id="declarations.Param.predicate_trees"></a>**predicate_trees**: the trees of a predicate's parts, as
 //!   the library gives them
 //! - <a id="declarations.rules.Rules.rules"></a>**rules**: what each rule says
+//! - <a id="declarations.Entry.sole_name"></a>**sole_name**: the identifier that the trees are alone
 //! - <a id="declarations.Grammar.step"></a>**step**: the place of the grammar that a sign leads to, or nothing
 //!   where it may not stand
 //! - <a id="declarations.CompileError.told_at"></a>**told_at**: where a fault is reported: at its tree, or in
