@@ -146,6 +146,8 @@
 //! - <a id="declarations.Param.IsParamAt"></a>**IsParamAt**: the trees begin with a parameter, and these are
 //!   its parts: each is what its rule reads of the trees after the one before it, and a `,` follows the last,
 //!   or nothing
+//! - <a id="declarations.Parameter.IsParameterAt"></a>**IsParameterAt**: the trees begin with a parameter, and
+//!   these are its parts
 //! - <a id="declarations.Param.IsPredicateAt"></a>**IsPredicateAt**: the trees begin with a predicate, and
 //!   these are its parts: a type, and after `:` bounds
 //! - <a id="declarations.Forms.IsTupleField"></a>**IsTupleField**: a field without a name: attributes, a
@@ -201,6 +203,8 @@
 //!   type
 //! - <a id="declarations.rules.Parts.fields"></a>**fields**: fields
 //! - <a id="declarations.rules.Rules.follows"></a>**follows**: the classes of signs that may follow each rule
+//! - <a id="declarations.rules.Parameters.function_parameter"></a>**function_parameter**: a parameter of a
+//!   function: attributes, and a receiver, a pattern and its type, or `...`
 //! - <a id="declarations.rules.Parts.generics"></a>**generics**: generic parameters in angle brackets, or
 //!   nothing
 //! - <a id="declarations.rules.Parts.inner_attributes"></a>**inner_attributes**: any number of inner attributes
@@ -212,6 +216,7 @@
 //!   library gives them
 //! - <a id="declarations.Attribute.parts_of"></a>**parts_of**: the trees of an attribute's parts
 //! - <a id="declarations.Attribute.path_of"></a>**path_of**: the path at the front of the trees
+//! - <a id="declarations.rules.Parameters.pattern"></a>**pattern**: a pattern
 //! - <a id="declarations.Param.predicate_trees"></a>**predicate_trees**: the trees of a predicate's parts, as
 //!   the library gives them
 //! - <a id="declarations.rules.Rules.rules"></a>**rules**: what each rule says

@@ -1,4 +1,4 @@
-use Rattle.std.proofs.Common.{rules, true, refl, []}
+use Rattle.std.proofs.Common.{rules, true, refl}
 use Rattle.declarations.proofs.EntryCheckLemmas.{more_written}
 use Rattle.declarations.proofs.entry_check.write_more.Goals as goal
 
