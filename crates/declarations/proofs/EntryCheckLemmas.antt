@@ -1,13 +1,17 @@
 -- Lists whose entries must have known names, each once.
 use Rattle.std.proofs.Common.{◌≡◌, refl, sym, ◌∙◌, ap, subst, ℕ, ◌≤◌, ◌<◌, ◌-◌, ◌+◌, ◌==◌, ◌||◌, Bool, true, false}
-use Rattle.std.proofs.Common.{List, [], ◌∷◌}
+use Rattle.std.proofs.Common.{List, [], ◌∷◌, ◌++◌, None, append_assoc, drop, suc, zero}
 use Rattle.std.proofs.Common.{length, get_or, inl, inr, not, set, replicate, arith}
+use Rattle.std.specs.Borrow.{Bor}
+use Rattle.std.specs.Fmt.{HasWritten}
+use Rattle.std.specs.declared.fmt.Formatter.{Formatter}
 use Rattle.std.specs.List.{list_any}
+use Rattle.std.proofs.Output.{has_written_append}
 use Rattle.std.proofs.lemmas.Bool.{eqb-false, eqb-true}
 use Rattle.std.proofs.lemmas.List.{get_or-replicate, get_or-set_same, get_or-set_other, length-append, length-set}
 use Rattle.std.proofs.lemmas.List.Sums.{prefix_len-le-length}
-use Rattle.declarations.specs.EntryCheck.{HasNames, IsEntryError, IsRepeated, IsUnknown, IsWrong, Names, has_name}
-use Rattle.declarations.specs.EntryCheck.{more, none, place_of}
+use Rattle.declarations.specs.EntryCheck.{HasNames, IsEntryError, IsRepeated, IsUnknown, IsWrong, Names, NamesEntry}
+use Rattle.declarations.specs.EntryCheck.{has_name, more, more_known, next_known, none, place_of}
 use Rattle.pm_stream.specs.declared.stream.TokenTree.{TokenTree}
 use Rattle.declarations.specs.Entry.{IsEntryAt}
 use Rattle.declarations.specs.Fault.{first_extent}
@@ -84,18 +88,19 @@ checked_more known list left next seen entry place c first fewer is other limit 
       marks = λ p h. marked seen c.places place p (omega (arith, within, room)) (c.marks p h);
     }
 
-pub unknown_first : (known : Names) (left next : List TokenTree) (entry : Entry) (place : ℕ)
+pub unknown_first : (known : Names) (left next : List TokenTree) (entry : Entry) (place : ℕ) (error : EntryError)
     → IsFirst IsEntryAt left entry next → place ≡ place_of known entry → place ≡ length known
-    → IsUnknown known left
-unknown_first known left next entry place first is all =
-    record { entry = entry; next = next; first = first; unknown = sym is ∙ all }
+    → NamesEntry error entry
+    → IsUnknown known left error
+unknown_first known left next entry place error first is all named =
+    record { entry = entry; next = next; first = first; unknown = sym is ∙ all; named = named }
 
 pub repeated_first : (known : Names) (list left next : List TokenTree) (seen : List Bool) (entry : Entry) (place : ℕ)
-    → (c : Checked known list left seen) → IsFirst IsEntryAt left entry next
+    (error : EntryError) → (c : Checked known list left seen) → IsFirst IsEntryAt left entry next
     → place ≡ place_of known entry → (place ≡ length known → ⊥) → length known ≤ 128
-    → get_or seen place false ≡ true
-    → IsRepeated known c.places left
-repeated_first known list left next seen entry place c first is other limit unseen =
+    → get_or seen place false ≡ true → NamesEntry error entry
+    → IsRepeated known c.places left error
+repeated_first known list left next seen entry place error c first is other limit unseen named =
     let below = place_below known entry place is other in
     let within : place < 128 = omega (arith, below, limit) in
     record {
@@ -104,20 +109,21 @@ repeated_first known list left next seen entry place c first is other limit unse
       first = first;
       known_name = subst (λ p. p < length known) is below;
       before = subst (λ p. list_any (λ other. other == p) c.places ≡ true) is (sym (c.marks place within) ∙ unseen);
+      named = named;
     }
 
 pub unknown_error : (known : Names) (list left next : List TokenTree) (seen : List Bool) (entry : Entry) (place : ℕ)
     (error : EntryError) → Checked known list left seen → IsFirst IsEntryAt left entry next
     → place ≡ place_of known entry
     → place ≡ length known → error.problem ≡ problems.Unknown → error.at ≡ length list - length left
-    → error.span ≡ first_extent left → error.known.now ≡ known
+    → error.span ≡ first_extent left → NamesEntry error entry → error.known.now ≡ known
     → IsEntryError known list error
-unknown_error known list left next seen entry place error c first is all problem at span told = record {
+unknown_error known list left next seen entry place error c first is all problem at span named told = record {
   places = c.places;
   left = left;
   names = c.names;
   wrong = subst (λ p. IsWrong p known list c.places left error) (sym problem) (
-    unknown_first known left next entry place first is all,
+    unknown_first known left next entry place error first is all named,
     record { counted = at; span = span },
   );
   told = told;
@@ -128,30 +134,32 @@ pub repeated_error : (known : Names) (list left next : List TokenTree) (seen : L
     → place ≡ place_of known entry
     → (place ≡ length known → ⊥) → length known ≤ 128 → get_or seen place false ≡ true
     → error.problem ≡ problems.Repeated → error.at ≡ length list - length left → error.span ≡ first_extent left
-    → error.known.now ≡ known
+    → NamesEntry error entry → error.known.now ≡ known
     → IsEntryError known list error
-repeated_error known list left next seen entry place error c first is other limit marked problem at span told = record {
-  places = c.places;
-  left = left;
-  names = c.names;
-  wrong = subst (λ p. IsWrong p known list c.places left error) (sym problem) (
-    repeated_first known list left next seen entry place c first is other limit marked,
-    record { counted = at; span = span },
-  );
-  told = told;
-}
+repeated_error known list left next seen entry place error c first is other limit marked problem at span named told =
+    record {
+      places = c.places;
+      left = left;
+      names = c.names;
+      wrong = subst (λ p. IsWrong p known list c.places left error) (sym problem) (
+        repeated_first known list left next seen entry place error c first is other limit marked named,
+        record { counted = at; span = span },
+      );
+      told = told;
+    }
 
 pub no_entry_error : (known : Names) (list left : List TokenTree) (seen : List Bool) (fault : Fault)
     (error : EntryError)
     → Checked known list left seen → IsListFault (ByRule rule.entry) left fault → error.problem ≡ problems.NoEntry
-    → error.at ≡ length list - length left + fault.at → error.span ≡ fault.span → error.known.now ≡ known
+    → error.at ≡ length list - length left + fault.at → error.span ≡ fault.span → error.name ≡ None
+    → error.known.now ≡ known
     → IsEntryError known list error
-no_entry_error known list left seen fault error c stands problem at span told = record {
+no_entry_error known list left seen fault error c stands problem at span unnamed told = record {
   places = c.places;
   left = left;
   names = c.names;
   wrong = subst (λ p. IsWrong p known list c.places left error) (sym problem)
-      (record { fault = fault; stands = stands; counted = at; span = span });
+      (record { fault = fault; stands = stands; counted = at; span = span; unnamed = unnamed });
   told = told;
 }
 
@@ -166,3 +174,25 @@ list_fault_within form trees fault is = elim is.place [
       let counted : fault.at ≡ length lacks.part = lacks.counted in
       omega arith
 ]
+
+-- ---- what is printed
+
+more_at : (words : Names) (n : ℕ) (d : Bor (List ℕ)) → n < length words
+    → more_known (drop n words) ≡ next_known (get_or words n d).now ++ more_known (drop (suc n) words)
+more_at [] n d h = absurd (omega arith)
+more_at (word ∷ words) zero d h = refl
+more_at (word ∷ words) (suc n) d h = more_at words n d (omega arith)
+
+pub more_written : {W : Type 0} (took : W → List ℕ → W → Type 0) (f g h : Formatter W) (words : Names) (n : ℕ)
+    (d : Bor (List ℕ)) (done : List ℕ)
+    → n < length words → HasWritten took f done g → HasWritten took g (next_known (get_or words n d).now) h
+    → done ++ more_known (drop n words) ≡ more_known words
+    → (now : List ℕ) × HasWritten took f now h × (now ++ more_known (drop (n + 1) words) ≡ more_known words)
+more_written took f g h words n d done within p q e =
+    let plus : suc n ≡ n + 1 = omega arith in
+    let next = ap (λ k. next_known (get_or words n d).now ++ more_known (drop k words)) plus in (
+      done ++ next_known (get_or words n d).now,
+      has_written_append _ _ _ _ _ _ p q,
+      append_assoc done (next_known (get_or words n d).now) (more_known (drop (n + 1) words))
+          ∙ (ap (λ x. done ++ x) (sym (more_at words n d within ∙ next)) ∙ e),
+    )

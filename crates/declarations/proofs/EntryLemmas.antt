@@ -43,7 +43,7 @@ use Rattle.declarations.specs.rules.Pieces.{ByRule}
 use Rattle.declarations.specs.rules.Rules.{follows, rules}
 use Rattle.declarations.proofs.ClassLemmas.{every_holds, same_class}
 use Rattle.declarations.proofs.ItemLemmas.{signs_group}
-use Rattle.declarations.proofs.ReaderLemmas.{behind_span, behind_within, classes_sign, first_finds, first_sticks}
+use Rattle.declarations.proofs.ReaderLemmas.{remains_span, remains_within, classes_sign, first_finds, first_sticks}
 use Rattle.declarations.proofs.ReaderLemmas.{heads_either, heads_none, heads_sign, lacks, mark_finds, mark_sticks}
 use Rattle.declarations.proofs.ReaderLemmas.{other_finds, other_sticks, perhaps_stays, sign_finds, then_fails}
 use Rattle.declarations.proofs.ReaderLemmas.{then_finds, then_sticks}
@@ -122,9 +122,9 @@ pub value_reads : (trees rest : List TokenTree) (class : Class)
     → rule.continues class ≡ false → ReadsRule expression trees result
     → ReadsRule rule.entry_value trees result
 value_reads trees rest class (Ok after) b h r =
-    record { events = r.events; found = value_found trees rest class b h ∙ r.found; behind = r.behind }
+    record { events = r.events; found = value_found trees rest class b h ∙ r.found; remains = r.remains }
 value_reads trees rest class (Err left) b h r =
-    record { stuck = value_found trees rest class b h ∙ r.stuck; behind = r.behind }
+    record { stuck = value_found trees rest class b h ∙ r.stuck; remains = r.remains }
 
 none_begins : (c : Class) → rule.continues c ≡ true → may_begin rule.entry_value c ≡ false
 none_begins c h = go (may_begin rule.entry_value c) refl
@@ -380,8 +380,8 @@ pub ruleset kinds_of = (literal_first, named_second, named_none)
 entry_part : (trees rest : List TokenTree) → Finds rule.entry trees rest
     → (part : List TokenTree) × Reads (ByRule rule.entry) trees part rest
 entry_part trees rest f = (
-  trees_of f.behind.front,
-  found_reads rule.entry starts_entry trees (trees_of f.behind.front) rest f f.behind.whole,
+  trees_of f.remains.front,
+  found_reads rule.entry starts_entry trees (trees_of f.remains.front) rest f f.remains.whole,
 )
 
 pub entry_at : (trees rest : List TokenTree) (found : Entry) → Finds rule.entry trees rest
@@ -403,10 +403,10 @@ pub entry_fault : (trees left : List TokenTree) (at : ℕ) → Sticks rule.entry
     → at ≡ length trees - length left
     → FaultAt (ByRule rule.entry) trees at
 entry_fault trees left at f counted =
-    let within = behind_within trees left f.behind in
+    let within = remains_within trees left f.remains in
     stuck_fault rule.entry starts_entry trees left at f (omega arith)
 
 pub entry_span : (trees left : List TokenTree) (at : ℕ) (span : Option Extent) → Sticks rule.entry trees left
     → at ≡ length trees - length left → span ≡ first_extent left
     → span ≡ extent_at trees at
-entry_span trees left at span f counted first = behind_span trees left at span f.behind counted first
+entry_span trees left at span f counted first = remains_span trees left at span f.remains counted first

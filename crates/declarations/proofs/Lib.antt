@@ -32,3 +32,4 @@ pub mod RuleFormLemmas
 pub mod TableReaderLemmas
 pub mod EntryLemmas
 pub mod EntryCheckLemmas
+pub mod ParameterLemmas

@@ -9,11 +9,11 @@ use Rattle.grammars.specs.Find.{Found, Past, Stuck, and_then, find, front, scan}
 use Rattle.grammars.proofs.FindLemmas.{front_front, scan_step}
 use Rattle.grammars.proofs.WordLemmas.{find_more, find_skips, into_some}
 use Rattle.pm_stream.specs.declared.stream.TokenTree.{TokenTree}
-use Rattle.declarations.specs.Reader.{Finds, IsBehind, Sticks, classes_in}
+use Rattle.declarations.specs.Reader.{Finds, Remains, Sticks, classes_in}
 use Rattle.declarations.specs.declared.class.Class.{Class}
 use Rattle.declarations.specs.rules.Names.{G, Label}
 use Rattle.declarations.specs.rules.Rules.{rules}
-use Rattle.declarations.proofs.ReaderLemmas.{behind_on, behind_self}
+use Rattle.declarations.proofs.ReaderLemmas.{remains_on, remains_self}
 
 -- ---- what is left has fewer signs
 
@@ -72,11 +72,11 @@ fewer g left next h f = fewer_signs g (classes_in left) (classes_in next) f.even
 pub record Leads (g : G) (trees left : List TokenTree) : Type 0 where
   pub events : List (Event Class Label)
   pub found : find rules g (classes_in trees) ≡ front events (find rules g (classes_in left))
-  pub behind : IsBehind left trees
+  pub remains : Remains left trees
 
 pub leads_start : (g : G) (trees : List TokenTree) → Leads g trees trees
 leads_start g trees =
-    record { events = []; found = go (find rules g (classes_in trees)); behind = behind_self trees }
+    record { events = []; found = go (find rules g (classes_in trees)); remains = remains_self trees }
   where
     go : (f : Found Class Label) → f ≡ front [] f
     go (Past e r) = refl
@@ -91,7 +91,7 @@ leads_more a trees left next x h p = record {
       ∙ (ap (front x.events)
       (find_more rules a (classes_in left) h ∙ ap (λ f. and_then f (find rules (Many a))) p.found)
       ∙ front_front x.events p.events (find rules (Many a) (classes_in next)));
-  behind = behind_on trees left next x.behind p.behind;
+  remains = remains_on trees left next x.remains p.remains;
 }
 
 heads_many : (a : G) (cs : List Class) → heads (Many a) cs ≡ heads a cs
@@ -104,7 +104,7 @@ leads_end a trees left x h = record {
   events = x.events ++ [];
   found = x.found
       ∙ ap (front x.events) (find_skips rules (Many a) (classes_in left) (heads_many a (classes_in left) ∙ h) refl);
-  behind = x.behind;
+  remains = x.remains;
 }
 
 pub leads_stuck : (a : G) (trees left fault : List TokenTree) → Leads (Many a) trees left
@@ -114,5 +114,5 @@ leads_stuck a trees left fault x h e = record {
   stuck = x.found
       ∙ ap (front x.events)
       (find_more rules a (classes_in left) h ∙ ap (λ f. and_then f (find rules (Many a))) e.stuck);
-  behind = behind_on trees left fault x.behind e.behind;
+  remains = remains_on trees left fault x.remains e.remains;
 }

@@ -15,7 +15,7 @@ use Rattle.pm_span.specs.Extent.{Extent}
 use Rattle.pm_stream.specs.declared.stream.TokenTree.{TokenTree}
 use Rattle.declarations.specs.Fault.{extent_at, first_extent}
 use Rattle.declarations.specs.Signs.{BeginsWith, classes_of, signs, trees_of}
-use Rattle.declarations.specs.Reader.{Finds, IsBehind, ReadsRule, Sticks, classes_in}
+use Rattle.declarations.specs.Reader.{Finds, Remains, ReadsRule, Sticks, classes_in}
 use Rattle.declarations.specs.declared.class.Class.{Class}
 use Rattle.declarations.specs.rules.Names.{G, Label, Name}
 use Rattle.declarations.specs.rules.Rules.{rules}
@@ -23,11 +23,11 @@ use Rattle.declarations.proofs.ReadingLemmas.{trees-append}
 
 -- ---- the first sign
 
-pub behind_self : (trees : List TokenTree) → IsBehind trees trees
-behind_self trees = record { front = []; read = refl; whole = refl }
+pub remains_self : (trees : List TokenTree) → Remains trees trees
+remains_self trees = record { front = []; read = refl; whole = refl }
 
-pub behind_on : (trees mid rest : List TokenTree) → IsBehind mid trees → IsBehind rest mid → IsBehind rest trees
-behind_on trees mid rest a b = record {
+pub remains_on : (trees mid rest : List TokenTree) → Remains mid trees → Remains rest mid → Remains rest trees
+remains_on trees mid rest a b = record {
   front = a.front ++ b.front;
   read = a.read ∙ ap (λ ss. a.front ++ ss) b.read ∙ sym (append_assoc a.front b.front (signs rest));
   whole = a.whole ∙ ap (λ ts. trees_of a.front ++ ts) b.whole
@@ -35,26 +35,26 @@ behind_on trees mid rest a b = record {
       ∙ ap (λ ts. ts ++ rest) (sym (trees-append a.front b.front));
 }
 
-pub behind_within : (trees rest : List TokenTree) → IsBehind rest trees → length rest ≤ length trees
-behind_within trees rest b = let sum = ap length b.whole ∙ length-append (trees_of b.front) rest in omega arith
+pub remains_within : (trees rest : List TokenTree) → Remains rest trees → length rest ≤ length trees
+remains_within trees rest b = let sum = ap length b.whole ∙ length-append (trees_of b.front) rest in omega arith
 
 -- the trees before the rest
-pub behind_whole : (trees rest : List TokenTree) → IsBehind rest trees
+pub remains_whole : (trees rest : List TokenTree) → Remains rest trees
     → (front : List TokenTree) × (trees ≡ front ++ rest) × (length rest ≤ length trees)
-behind_whole trees rest b = (trees_of b.front, b.whole, behind_within trees rest b)
+remains_whole trees rest b = (trees_of b.front, b.whole, remains_within trees rest b)
 
 -- where the rest begins
-pub behind_span : (trees left : List TokenTree) (at : ℕ) (span : Option Extent) → IsBehind left trees
+pub remains_span : (trees left : List TokenTree) (at : ℕ) (span : Option Extent) → Remains left trees
     → at ≡ length trees - length left → span ≡ first_extent left
     → span ≡ extent_at trees at
-behind_span trees left at span b counted first =
+remains_span trees left at span b counted first =
     let sum = ap length b.whole ∙ length-append (trees_of b.front) left in
     let count : length (trees_of b.front) ≡ at = omega arith in
     first ∙ ap first_extent (sym (drop-append_seam (trees_of b.front) left)
     ∙ ap (λ n. drop n (trees_of b.front ++ left)) count ∙ ap (drop at) (sym b.whole))
 
-behind_sign : (trees rest : List TokenTree) (class : Class) → BeginsWith trees class rest → IsBehind rest trees
-behind_sign trees rest class b = record {
+pub remains_sign : (trees rest : List TokenTree) (class : Class) → BeginsWith trees class rest → Remains rest trees
+remains_sign trees rest class b = record {
   front = record { class = class; trees = b.front } ∷ [];
   read = b.read;
   whole = b.whole ∙ ap (λ ts. ts ++ rest) (sym (append-nil b.front));
@@ -111,12 +111,12 @@ pub sign_finds : (passes : Class → Bool) (trees rest : List TokenTree) (class 
 sign_finds passes trees rest class b h = record {
   events = One class ∷ [];
   found = rw (classes_sign trees rest class b) (find_sign rules passes class (classes_in rest) h);
-  behind = behind_sign trees rest class b;
+  remains = remains_sign trees rest class b;
 }
 
 pub lacks : (g : G) (trees : List TokenTree) → heads g (classes_in trees) ≡ false → is_nullable g ≡ false
     → Sticks g trees trees
-lacks g trees h e = record { stuck = find_lacks rules g (classes_in trees) h e; behind = behind_self trees }
+lacks g trees h e = record { stuck = find_lacks rules g (classes_in trees) h e; remains = remains_self trees }
 
 pub sign_sticks : (passes : Class → Bool) (trees rest : List TokenTree) (class : Class) → BeginsWith trees class rest
     → passes class ≡ false
@@ -134,20 +134,20 @@ pub then_finds : (a b : G) (trees mid rest : List TokenTree) → Finds a trees m
 then_finds a b trees mid rest h j = record {
   events = h.events ++ j.events;
   found = find_then rules a b (classes_in trees) ∙ rw h.found (ap (front h.events) j.found);
-  behind = behind_on trees mid rest h.behind j.behind;
+  remains = remains_on trees mid rest h.remains j.remains;
 }
 
 pub then_fails : (a b : G) (trees mid left : List TokenTree) → Finds a trees mid → Sticks b mid left
     → Sticks (Then a b) trees left
 then_fails a b trees mid left h j = record {
   stuck = find_then rules a b (classes_in trees) ∙ rw h.found (ap (front h.events) j.stuck);
-  behind = behind_on trees mid left h.behind j.behind;
+  remains = remains_on trees mid left h.remains j.remains;
 }
 
 pub then_sticks : (a b : G) (trees left : List TokenTree) → Sticks a trees left → Sticks (Then a b) trees left
 then_sticks a b trees left h = record {
   stuck = find_then rules a b (classes_in trees) ∙ rw h.stuck refl;
-  behind = h.behind;
+  remains = h.remains;
 }
 
 pub then_reads : (a b : G) (trees mid : List TokenTree) (result : Result (Bor (List TokenTree)) (Bor (List TokenTree)))
@@ -162,7 +162,7 @@ mark_finds_here : (l : Label) (trees : List TokenTree) → Finds (Mark l) trees 
 mark_finds_here l trees = record {
   events = Marked l ∷ [];
   found = find_mark rules l (classes_in trees);
-  behind = behind_self trees;
+  remains = remains_self trees;
 }
 
 pub mark_finds : (l : Label) (b : G) (trees rest : List TokenTree) → Finds b trees rest
@@ -185,13 +185,13 @@ pub first_finds : (a b : G) (trees rest : List TokenTree) → heads a (classes_i
 first_finds a b trees rest e h = record {
   events = h.events;
   found = find_first rules a b (classes_in trees) e ∙ h.found;
-  behind = h.behind;
+  remains = h.remains;
 }
 
 pub first_sticks : (a b : G) (trees left : List TokenTree) → heads a (classes_in trees) ≡ true → Sticks a trees left
     → Sticks (Either a b) trees left
 first_sticks a b trees left e h =
-    record { stuck = find_first rules a b (classes_in trees) e ∙ h.stuck; behind = h.behind }
+    record { stuck = find_first rules a b (classes_in trees) e ∙ h.stuck; remains = h.remains }
 
 pub first_reads : (a b : G) (trees : List TokenTree) (result : Result (Bor (List TokenTree)) (Bor (List TokenTree)))
     → heads a (classes_in trees) ≡ true → ReadsRule a trees result
@@ -205,14 +205,14 @@ pub other_finds : (a b : G) (trees rest : List TokenTree) → heads a (classes_i
 other_finds a b trees rest d e h = record {
   events = h.events;
   found = find_other rules a b (classes_in trees) d e ∙ h.found;
-  behind = h.behind;
+  remains = h.remains;
 }
 
 pub other_sticks : (a b : G) (trees left : List TokenTree) → heads a (classes_in trees) ≡ false
     → is_nullable a ≡ false → Sticks b trees left
     → Sticks (Either a b) trees left
 other_sticks a b trees left d e h =
-    record { stuck = find_other rules a b (classes_in trees) d e ∙ h.stuck; behind = h.behind }
+    record { stuck = find_other rules a b (classes_in trees) d e ∙ h.stuck; remains = h.remains }
 
 pub other_reads : (a b : G) (trees : List TokenTree) (result : Result (Bor (List TokenTree)) (Bor (List TokenTree)))
     → heads a (classes_in trees) ≡ false → is_nullable a ≡ false → ReadsRule b trees result
@@ -228,7 +228,7 @@ pub stays : (g : G) (trees : List TokenTree) → heads g (classes_in trees) ≡ 
 stays g trees h e = record {
   events = skipped g;
   found = find_skips rules g (classes_in trees) h e;
-  behind = behind_self trees;
+  remains = remains_self trees;
 }
 
 pub perhaps_reads : (a : G) (trees : List TokenTree) (result : Result (Bor (List TokenTree)) (Bor (List TokenTree)))

@@ -35,10 +35,10 @@ stack_of (Some taken) = Some taken.1
 abbrev step : List G → Class → Option (List G)
 step k c = stack_of (machine.step rules k c)
 
-behind_stack : (events : List (Event Class Label)) (s : machine.Step Class Name Label)
+stack_before : (events : List (Event Class Label)) (s : machine.Step Class Name Label)
     → stack_of (machine.behind events s) ≡ stack_of s
-behind_stack events None = refl
-behind_stack events (Some taken) = refl
+stack_before events None = refl
+stack_before events (Some taken) = refl
 
 walk_same : (k : List G) (cs : List Class) → walk step k cs ≡ stack_of (machine.walk rules k cs)
 walk_same k [] = refl
@@ -51,7 +51,7 @@ walk_same k (c ∷ cs) = go (machine.step rules k c) (λ j. walk_same j cs)
           | Some taken ↦ machine.behind taken.0 (machine.walk rules taken.1 cs)
         ])
     go None f = refl
-    go (Some taken) f = f taken.1 ∙ sym (behind_stack taken.0 (machine.walk rules taken.1 cs))
+    go (Some taken) f = f taken.1 ∙ sym (stack_before taken.0 (machine.walk rules taken.1 cs))
 
 stop_here : (k : List G) (rest : List Class)
     → ((c : Class) (more : List Class) → rest ≡ c ∷ more → machine.step rules k c ≡ None)
@@ -89,21 +89,21 @@ module _ (g : G) (start : IsStart rules follows (g ∷ [])) where
 
   -- ---- what is read
 
-  behind_classes : (trees rest : List TokenTree) (front : List Sign) → signs trees ≡ front ++ signs rest
+  remaining_classes : (trees rest : List TokenTree) (front : List Sign) → signs trees ≡ front ++ signs rest
       → classes_in trees ≡ classes_of front ++ classes_in rest
   unfolding classes_in
-  behind_classes trees rest front read = ap classes_of read ∙ classes-append front (signs rest)
+  remaining_classes trees rest front read = ap classes_of read ∙ classes-append front (signs rest)
 
   pub found_reads : (trees part rest : List TokenTree) → Finds g trees rest → trees ≡ part ++ rest
       → Reads (ByRule g) trees part rest
   unfolding classes_in
   found_reads trees part rest f whole = record {
-    piece = f.behind.front;
-    read = f.behind.read;
-    taken = append_cancel_right part (trees_of f.behind.front) rest (sym whole ∙ f.behind.whole);
+    piece = f.remains.front;
+    read = f.remains.read;
+    taken = append_cancel_right part (trees_of f.remains.front) rest (sym whole ∙ f.remains.whole);
     whole = whole;
-    stands = found_piece (classes_in trees) (classes_of f.behind.front) (classes_in rest) f.events f.found
-        (behind_classes trees rest f.behind.front f.behind.read);
+    stands = found_piece (classes_in trees) (classes_of f.remains.front) (classes_in rest) f.events f.found
+        (remaining_classes trees rest f.remains.front f.remains.read);
   }
 
   pub only_reading : (trees part rest : List TokenTree) → Reads (ByRule g) trees part rest
@@ -173,26 +173,26 @@ module _ (g : G) (start : IsStart rules follows (g ∷ [])) where
       → FaultAt (ByRule g) trees at
   unfolding find classes_in
   stuck_fault trees left at f counted =
-      let sum = ap length f.behind.whole ∙ length-append (trees_of f.behind.front) left in
-      let all = behind_classes trees left f.behind.front f.behind.read in
+      let sum = ap length f.remains.whole ∙ length-append (trees_of f.remains.front) left in
+      let all = remaining_classes trees left f.remains.front f.remains.read in
       let s = subst (Ended rules (g ∷ []) (classes_in trees)) f.stuck (scan_ended rules (g ∷ []) (classes_in trees)) in
-      let same : s.0.before ≡ classes_of f.behind.front =
-      append_cancel_right s.0.before (classes_of f.behind.front) (classes_in left) (sym s.0.whole ∙ all) in
-      let walks : machine.walk rules (g ∷ []) (classes_of f.behind.front) ≡ Some s.0.taken =
+      let same : s.0.before ≡ classes_of f.remains.front =
+      append_cancel_right s.0.before (classes_of f.remains.front) (classes_in left) (sym s.0.whole ∙ all) in
+      let walks : machine.walk rules (g ∷ []) (classes_of f.remains.front) ≡ Some s.0.taken =
       ap (machine.walk rules (g ∷ [])) (sym same) ∙ s.0.walks in
-      let stacks : walk step (g ∷ []) (classes_of f.behind.front) ≡ Some s.0.taken.1 =
-      walk_same (g ∷ []) (classes_of f.behind.front) ∙ ap stack_of walks in
+      let stacks : walk step (g ∷ []) (classes_of f.remains.front) ≡ Some s.0.taken.1 =
+      walk_same (g ∷ []) (classes_of f.remains.front) ∙ ap stack_of walks in
       let stops = stop_here s.0.taken.1 (classes_in left) s.0.stops in
       record {
-        front = f.behind.front;
+        front = f.remains.front;
         left = left;
-        read = f.behind.read;
-        whole = f.behind.whole;
+        read = f.remains.read;
+        whole = f.remains.whole;
         counted = omega arith;
-        goes_on = front_goes (classes_of f.behind.front) s.0.taken walks;
-        longest = no_longer (classes_of f.behind.front) (classes_in left) s.0.taken.1 stacks s.1 stops;
+        goes_on = front_goes (classes_of f.remains.front) s.0.taken walks;
+        longest = no_longer (classes_of f.remains.front) (classes_in left) s.0.taken.1 stacks s.1 stops;
         nothing = λ part rest reads.
-            nothing_read (classes_of f.behind.front) (classes_in left) s.0.taken.1 stacks s.1 stops
+            nothing_read (classes_of f.remains.front) (classes_in left) s.0.taken.1 stacks s.1 stops
             (classes_of reads.piece) (classes_of (signs rest))
             (sym all ∙ ap classes_of reads.read ∙ classes-append reads.piece (signs rest)) reads.stands;
       }

@@ -10,7 +10,7 @@ use Rattle.grammars.proofs.FindLemmas.{front_front, scan_step}
 use Rattle.grammars.proofs.FlatLemmas.{flat_all}
 use Rattle.pm_stream.specs.declared.stream.TokenTree.{TokenTree}
 use Rattle.declarations.specs.Grammar.{step}
-use Rattle.declarations.specs.Reader.{IsBehind, ReadsRule, classes_in}
+use Rattle.declarations.specs.Reader.{Remains, ReadsRule, classes_in}
 use Rattle.declarations.specs.Reading.{StopsAt}
 use Rattle.declarations.specs.Signs.{classes_of, signs}
 use Rattle.declarations.specs.Walk.{Stops}
@@ -103,8 +103,8 @@ module _ (place : Place) (g : G) (left_there : left_at place ≡ Some (flat_all 
             (sym (meet_ends s.place at.0.1 at.2) ∙ s.may_end) (no_steps place ended trees left s at.0.1 at.2))),
       )
 
-  behind_walk : (ended : Bool) (trees left : List TokenTree) → StopsAt place ended trees left → IsBehind left trees
-  behind_walk ended trees left s =
+  remains_walk : (ended : Bool) (trees left : List TokenTree) → StopsAt place ended trees left → Remains left trees
+  remains_walk ended trees left s =
       record { front = s.walked.front; read = s.walked.read; whole = s.walked.whole }
 
   pub table_reads : (trees : List TokenTree) (result : Result (Bor (List TokenTree)) (Bor (List TokenTree)))
@@ -114,8 +114,8 @@ module _ (place : Place) (g : G) (left_there : left_at place ≡ Some (flat_all 
       let at = table_scan true trees rest.now s in record {
         events = at.0.0 ++ machine.closing at.0.1;
         found = at.1;
-        behind = behind_walk true trees rest.now s;
+        remains = remains_walk true trees rest.now s;
       }
   table_reads trees (Err left) s =
       let at = table_scan false trees left.now s in
-      record { stuck = at.1; behind = behind_walk false trees left.now s }
+      record { stuck = at.1; remains = remains_walk false trees left.now s }

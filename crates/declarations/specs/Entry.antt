@@ -1,16 +1,20 @@
 -- The parts of an attribute's entry, in reading order.
-use Rattle.std.specs.Prelude.{◌≡◌, true, List, [], ◌∷◌, MatchResult, Result}
+use Rattle.std.specs.Prelude.{◌≡◌, true, List, [], ◌∷◌, ◌⊎◌, ℕ, MatchResult, None, Option, Result, Some, length}
 use Rattle.std.specs.Borrow.{Bor}
+use Rattle.pm_span.specs.Extent.{Extent}
+use Rattle.pm_token.specs.Leaf.{Name}
 use Rattle.pm_stream.specs.declared.stream.TokenTree.{TokenTree}
-use Rattle.pm_stream.specs.declared.stream.TokenTree.TheVariants.{Group}
+use Rattle.pm_stream.specs.declared.stream.TokenTree.TheVariants.{Group, Ident}
+use Rattle.declarations.specs.Fault.{extent_at, first_extent}
 use Rattle.declarations.specs.Reader.{Finds, Sticks}
-use Rattle.declarations.specs.Reading.{Reads}
+use Rattle.declarations.specs.Reading.{FaultAt, Reads}
 use Rattle.declarations.specs.Signs.{BeginsWith}
 use Rattle.declarations.specs.declared.class.Class.{Class}
 use Rattle.declarations.specs.declared.class.Class.TheVariants as classes
 use Rattle.declarations.specs.declared.entry.Entry.{Entry}
 use Rattle.declarations.specs.declared.entry.EntryKind.{EntryKind}
 use Rattle.declarations.specs.declared.entry.EntryKind.TheVariants as kinds
+use Rattle.declarations.specs.declared.fault.Fault.{Fault}
 use Rattle.declarations.specs.rules.Entries as rule
 use Rattle.declarations.specs.rules.Names.{G}
 use Rattle.declarations.specs.rules.Pieces.{ByRule}
@@ -73,3 +77,28 @@ ReadsEntry g trees result =
     MatchResult result
     (λ found. Finds g trees found.1.now × HasParts found.0.kind trees found.0.path.now found.1.now)
     (λ left. Sticks g trees left.now)
+
+-- the identifier that the trees are alone
+abbrev pub sole_name : List TokenTree → Option Name
+sole_name (Ident i ∷ []) = Some i
+sole_name _ = None
+
+-- where the first tree of an entry of this kind and path stands
+abbrev pub entry_extent : EntryKind → List TokenTree → Option Extent
+entry_extent (kinds.Literal literal) path = first_extent literal.now
+entry_extent _ path = first_extent path
+
+-- ---- trees that are one entry
+
+-- an entry is read, and trees are left after it
+pub record LeavesTrees (trees : List TokenTree) (at : ℕ) : Type 0 where
+  pub part : List TokenTree
+  pub rest : List TokenTree
+  pub reads : Reads (ByRule rule.entry) trees part rest
+  pub counted : at ≡ length part
+  pub some : rest ≡ [] → ⊥
+
+-- the fault of trees that are not one entry: so many of them stand before it
+pub record IsEntryFault (trees : List TokenTree) (fault : Fault) : Type 0 where
+  pub place : FaultAt (ByRule rule.entry) trees fault.at ⊎ LeavesTrees trees fault.at
+  pub span : fault.span ≡ extent_at trees fault.at

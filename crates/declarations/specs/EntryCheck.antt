@@ -1,14 +1,16 @@
 -- Lists whose entries must have known names, each once.
-use Rattle.std.specs.Prelude.{◌≡◌, ℕ, ◌<◌, ◌-◌, ◌==◌, ◌+◌, Bool, true, false, List, [], ◌∷◌, codes, length}
+use Rattle.std.specs.Prelude.{◌≡◌, ℕ, ◌<◌, ◌-◌, ◌==◌, ◌+◌, Bool, true, false, List, [], ◌∷◌, ◌++◌, codes, length}
+use Rattle.std.specs.Prelude.{None, Option, Some, option_copied}
 use Rattle.std.specs.Borrow.{Bor}
 use Rattle.std.specs.Option.{option_eq}
 use Rattle.std.specs.Ordering.{eq_of_both, on}
 use Rattle.std.specs.List.{list_any, position_or_len}
 use Rattle.pm_span.specs.Extent.{extent_eq}
-use Rattle.pm_token.specs.Spelling.{spelled}
+use Rattle.pm_token.specs.Leaf.{Name}
+use Rattle.pm_token.specs.Spelling.{spelled, spelling}
 use Rattle.pm_stream.specs.declared.stream.TokenTree.{TokenTree}
 use Rattle.declarations.specs.Attribute.{is_word}
-use Rattle.declarations.specs.Entry.{IsEntryAt}
+use Rattle.declarations.specs.Entry.{IsEntryAt, sole_name}
 use Rattle.declarations.specs.Fault.{first_extent}
 use Rattle.declarations.specs.List.{IsFirst, IsListFault}
 use Rattle.declarations.specs.declared.entry.Entry.{Entry}
@@ -45,32 +47,40 @@ pub record IsNoEntry (list left : List TokenTree) (error : EntryError) : Type 0 
   pub stands : IsListFault (ByRule entry) left fault
   pub counted : error.at ≡ length list - length left + fault.at
   pub span : error.span ≡ fault.span
+  pub unnamed : error.name ≡ None
 
 -- the error stands before the left trees
 pub record StandsBefore (list left : List TokenTree) (error : EntryError) : Type 0 where
   pub counted : error.at ≡ length list - length left
   pub span : error.span ≡ first_extent left
 
+-- the error has the identifier that the entry's path is alone, or none where it is another path or a literal
+abbrev pub NamesEntry : EntryError → Entry → Type 0
+NamesEntry error entry = option_copied error.name ≡ sole_name entry.path.now
+
 -- the left trees begin with an entry whose name is not known
-pub record IsUnknown (known : Names) (left : List TokenTree) : Type 0 where
+pub record IsUnknown (known : Names) (left : List TokenTree) (error : EntryError) : Type 0 where
   pub entry : Entry
   pub next : List TokenTree
   pub first : IsFirst IsEntryAt left entry next
   pub unknown : place_of known entry ≡ length known
+  pub named : NamesEntry error entry
 
 -- they begin with an entry whose name an earlier one has
-pub record IsRepeated (known : Names) (places : List ℕ) (left : List TokenTree) : Type 0 where
+pub record IsRepeated (known : Names) (places : List ℕ) (left : List TokenTree) (error : EntryError) : Type 0 where
   pub entry : Entry
   pub next : List TokenTree
   pub first : IsFirst IsEntryAt left entry next
   pub known_name : place_of known entry < length known
   pub before : list_any (λ place. place == place_of known entry) places ≡ true
+  pub named : NamesEntry error entry
 
 -- what is wrong with the left trees
 abbrev pub IsWrong : EntryProblem → Names → List TokenTree → List ℕ → List TokenTree → EntryError → Type 0
 IsWrong problems.NoEntry known list places left error = IsNoEntry list left error
-IsWrong problems.Unknown known list places left error = IsUnknown known left × StandsBefore list left error
-IsWrong problems.Repeated known list places left error = IsRepeated known places left × StandsBefore list left error
+IsWrong problems.Unknown known list places left error = IsUnknown known left error × StandsBefore list left error
+IsWrong problems.Repeated known list places left error =
+    IsRepeated known places left error × StandsBefore list left error
 
 -- the entries up to some trees have known names, each another, and these trees are wrong as the error says
 pub record IsEntryError (known : Names) (list : List TokenTree) (error : EntryError) : Type 0 where
@@ -80,11 +90,36 @@ pub record IsEntryError (known : Names) (list : List TokenTree) (error : EntryEr
   pub wrong : IsWrong error.problem known list places left error
   pub told : error.known.now ≡ known
 
--- the sentence for a problem
-abbrev pub problem_text : EntryProblem → List ℕ
-problem_text problems.NoEntry = codes "not expected here"
-problem_text problems.Unknown = codes "unknown name"
-problem_text problems.Repeated = codes "this name comes twice"
+-- ---- what an error is printed as
+
+-- a name, as it stands in a sentence
+abbrev pub quoted : List ℕ → List ℕ
+quoted text = codes "`" ++ text ++ codes "`"
+
+-- a space and the name of an entry, or nothing
+abbrev pub name_part : Option Name → List ℕ
+name_part None = []
+name_part (Some ident) = codes " " ++ quoted (spelling ident)
+
+-- one more name that is known
+abbrev pub next_known : List ℕ → List ℕ
+next_known word = codes ", " ++ quoted word
+
+-- more names that are known
+abbrev pub more_known : Names → List ℕ
+more_known [] = []
+more_known (word ∷ words) = next_known word.now ++ more_known words
+
+-- the end of the sentence, with the names that are known
+abbrev pub known_part : Names → List ℕ
+known_part [] = codes "; no names are known"
+known_part (word ∷ words) = codes "; known are " ++ (quoted word.now ++ more_known words)
+
+-- the sentence for an error
+abbrev pub error_text : EntryProblem → Option Name → Names → List ℕ
+error_text problems.NoEntry name known = codes "not expected here"
+error_text problems.Unknown name known = codes "unknown entry" ++ (name_part name ++ known_part known)
+error_text problems.Repeated name known = codes "a second entry" ++ name_part name
 
 -- the number of a problem
 abbrev pub number_of : EntryProblem → ℕ

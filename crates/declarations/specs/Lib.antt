@@ -22,5 +22,6 @@ pub mod Entry
 pub mod List
 pub mod EntryList
 pub mod EntryCheck
+pub mod Parameter
 pub mod CompileError
 pub mod rules

@@ -13,8 +13,8 @@ use Rattle.declarations.specs.rules.Rules.{rules}
 unfoldable pub classes_in : List TokenTree → List Class
 classes_in trees = classes_of (signs trees)
 
--- these trees follow some whole signs of the others
-pub record IsBehind (rest trees : List TokenTree) : Type 0 where
+-- these trees remain of the others after some whole signs
+pub record Remains (rest trees : List TokenTree) : Type 0 where
   pub front : List Sign
   pub read : signs trees ≡ front ++ signs rest
   pub whole : trees ≡ trees_of front ++ rest
@@ -23,12 +23,12 @@ pub record IsBehind (rest trees : List TokenTree) : Type 0 where
 pub record Finds (g : G) (trees rest : List TokenTree) : Type 0 where
   pub events : List (Event Class Label)
   pub found : find rules g (classes_in trees) ≡ Past events (classes_in rest)
-  pub behind : IsBehind rest trees
+  pub remains : Remains rest trees
 
 -- the rule finds nothing: the fault stands before the trees that are left
 pub record Sticks (g : G) (trees left : List TokenTree) : Type 0 where
   pub stuck : find rules g (classes_in trees) ≡ Stuck (classes_in left)
-  pub behind : IsBehind left trees
+  pub remains : Remains left trees
 
 -- the trees after what the rule finds, or those from the fault on
 abbrev pub ReadsRule : G → List TokenTree → Result (Bor (List TokenTree)) (Bor (List TokenTree)) → Type 0

@@ -10,3 +10,4 @@ pub mod Impls
 pub mod Rules
 pub mod Pieces
 pub mod Entries
+pub mod Parameters

@@ -1,12 +1,14 @@
 //! The entries of attributes' lists.
-ghost use Rattle.std.specs.Prelude.{◌≡◌, ◌<◌, IfErr, IfNone, IfOk, IfSome, MatchResult, false, length};
+ghost use Rattle.std.specs.Prelude.{◌≡◌, ◌<◌, [], IfErr, IfNone, IfOk, IfSome, MatchResult};
+ghost use Rattle.std.specs.Prelude.{false, length, option_copied};
 ghost use Rattle.grammars.specs.First.{heads, may_begin};
 ghost use Rattle.grammars.specs.Grammar.{Sign, perhaps};
 ghost use Rattle.pm_stream.specs.declared.stream.TokenTree.TheVariants as trees_are;
 ghost use Rattle.pm_token.specs.Spelling.{spelled};
 ghost use Rattle.declarations.specs.Attribute.{is_word};
-ghost use Rattle.declarations.specs.Entry.{HasArgs, IsEntryAt, IsListAt, IsOnlyRest, ReadsEntry};
-ghost use Rattle.declarations.specs.Fault.{extent_at};
+ghost use Rattle.declarations.specs.Entry.{HasArgs, IsEntryAt, IsEntryFault, IsListAt, IsOnlyRest, ReadsEntry};
+ghost use Rattle.declarations.specs.Entry.{entry_extent, sole_name};
+ghost use Rattle.declarations.specs.Fault.{extent_at, first_extent};
 ghost use Rattle.declarations.specs.Reader.{Finds, ReadsRule, Sticks, classes_in};
 ghost use Rattle.declarations.specs.Reading.{FaultAt};
 ghost use Rattle.declarations.specs.rules.Entries.{continues, entry, entry_list, entry_literal, entry_path};
@@ -25,7 +27,9 @@ use crate::place::{Item, Place, Rule, Spot, State};
 use crate::reader::{begins, is, part, past};
 use crate::signs::first_sign;
 use crate::walk::walk_past;
+use pm_span::Span;
 use pm_stream::{Group, TokenTree};
+use pm_token::Ident;
 
 /// What an entry of an attribute's list is.
 #[derive(Clone, Copy, Debug)]
@@ -56,8 +60,8 @@ pub struct Entry<'a> {
 /// `true` and `false`, keywords too, so `unsafe(no_mangle)` is an entry with the path `unsafe`. As elsewhere only the
 /// end of an expression is found. Of `a::b = f(1) + 2, c` the path is `a::b`, the value `f(1) + 2`, and `, c` is left.
 ///
-/// Where no entry stands it answers the fault. The grammar is that of docs/DECLARATIONS.md, with the one reading that
-/// the grammar gives. It takes no memory.
+/// Where no entry stands it answers the fault. The grammar is that of crates/declarations/README.md, with the one
+/// reading that the grammar gives. It takes no memory.
 pub fn parse_entry(trees: &[TokenTree]) -> Result<(Entry<'_>, &[TokenTree]), Fault>
     ensures ok { IfOk result (λ found. IsEntryAt trees.now found.0 found.1.now) }
     ensures only { IfOk result (λ found. IsOnlyRest entry trees.now found.1.now) }
@@ -80,6 +84,55 @@ impl<'a> Entry<'a> {
             [TokenTree::Ident(name)] => name.eq_str(word),
             _ => false,
         }
+    }
+
+    /// The identifier that its path is alone, and `None` of a literal or a path of several segments.
+    ///
+    /// Of `rename = "a"` it is `rename`.
+    pub fn name(&self) -> Option<&'a Ident>
+        ensures { option_copied result ≡ sole_name self.now.path.now }
+    {
+        match self.path {
+            [TokenTree::Ident(name)] => Some(name),
+            _ => None,
+        }
+    }
+
+    /// The span of its first tree; each entry that is read has one.
+    pub fn span(&self) -> Option<Span>
+        ensures { result ≡ entry_extent self.now.kind self.now.path.now }
+    {
+        match self.kind {
+            EntryKind::Literal(literal) => first_span(literal),
+            EntryKind::Path | EntryKind::List(_) | EntryKind::Value(_) => first_span(self.path),
+        }
+    }
+}
+
+// The span of the first of the trees.
+fn first_span(trees: &[TokenTree]) -> Option<Span>
+    ensures { result ≡ first_extent trees.now }
+{
+    match trees.first() {
+        Some(tree) => Some(tree.span()),
+        None => None,
+    }
+}
+
+// The entry that all of these trees are.
+pub(crate) fn whole_entry(trees: &[TokenTree]) -> Result<Entry<'_>, Fault>
+    ensures ok { IfOk result (λ entry. IsEntryAt trees.now entry []) }
+    ensures err { IfErr result (λ fault. IsEntryFault trees.now fault) }
+{
+    match parse_entry(trees) {
+        Ok((entry, rest)) => {
+            if rest.is_empty() {
+                Ok(entry)
+            } else {
+                Err(Fault::ahead_of(trees.len() - rest.len(), rest))
+            }
+        }
+        Err(fault) => Err(fault),
     }
 }
 

@@ -1,14 +1,18 @@
 //! Lists whose entries must have known names, each once.
-ghost use Rattle.std.specs.Prelude.{◌≡◌, ℕ, ◌≤◌, [], IfErr, List, OnOk, length};
-ghost use Rattle.declarations.specs.EntryCheck.{HasNames, IsEntryError, number_of, place_of};
+ghost use Rattle.std.specs.Prelude.{◌≡◌, ℕ, ◌≤◌, [], IfErr, List, OnOk, length, option_copied};
+ghost use Rattle.std.specs.Fmt.{WritesOnOk};
+ghost use Rattle.declarations.specs.EntryCheck.{HasNames, IsEntryError, known_part, more_known, name_part, next_known};
+ghost use Rattle.declarations.specs.EntryCheck.{number_of, place_of, quoted};
 
 use crate::entry::Entry;
 use crate::entry_list::first_entry;
 use crate::fault::{Fault, are_same};
 use pm_span::Span;
 use pm_stream::TokenTree;
+use pm_token::Ident;
 use std::error::Error;
 use std::fmt;
+use std::fmt::Display;
 
 /// What is wrong with a list of entries.
 #[derive(Clone, Copy, Debug, PartialEq, Eq)]
@@ -30,6 +34,9 @@ pub struct EntryError<'a> {
     pub at: usize,
     /// The span of the first tree of it; `None` where the list ends too early.
     pub span: Option<Span>,
+    /// The name of the entry that is unknown or comes twice; `None` where it is a literal or another path, or where no
+    /// entry stands.
+    pub name: Option<&'a Ident>,
     /// The names that are known.
     pub known: &'a [&'a str],
 }
@@ -48,9 +55,9 @@ impl<'a> EntryError<'a> {
 /// The list is the trees in a group of an attribute, as `skip, rename = "a"` of `#[name(skip, rename = "a")]`. A name
 /// is a path of one identifier. The error is that of the first entry that has an unknown name or the name of an earlier
 /// one, or the fault where the list goes on with no entry. It has the names that are known, of which there can be 128.
-/// With the names `skip` and `rename` the list `skip, renam = "a"` has an error at `renam`, after 2 trees. It takes no
-/// memory.
-pub fn check_entries<'a>(list: &[TokenTree], known: &'a [&'a str]) -> Result<(), EntryError<'a>>
+/// With the names `skip` and `rename` the list `skip, renam = "a"` has an error at `renam`, after 2 trees, which is
+/// printed as "unknown entry `renam`; known are `skip`, `rename`". It takes no memory.
+pub fn check_entries<'a>(list: &'a [TokenTree], known: &'a [&'a str]) -> Result<(), EntryError<'a>>
     requires { length known.now ≤ 128 }
     ensures ok { OnOk result ((places : List ℕ) × HasNames known.now list.now places []) }
     ensures err { IfErr result (λ error. IsEntryError known.now list.now error) }
@@ -63,10 +70,12 @@ pub fn check_entries<'a>(list: &[TokenTree], known: &'a [&'a str]) -> Result<(),
             Ok((entry, next)) => {
                 let place = place_of(&entry, known);
                 if place == known.len() {
-                    return Err(wrong(EntryProblem::Unknown, Fault::ahead_of(before, left), known));
+                    let fault = Fault::ahead_of(before, left);
+                    return Err(wrong(EntryProblem::Unknown, fault, entry.name(), known));
                 }
                 if seen[place] {
-                    return Err(wrong(EntryProblem::Repeated, Fault::ahead_of(before, left), known));
+                    let fault = Fault::ahead_of(before, left);
+                    return Err(wrong(EntryProblem::Repeated, fault, entry.name(), known));
                 }
                 seen[place] = true;
                 left = next;
@@ -74,23 +83,30 @@ pub fn check_entries<'a>(list: &[TokenTree], known: &'a [&'a str]) -> Result<(),
             Err(fault) => {
                 let at = before + fault.at;
                 let span = fault.span;
-                return Err(wrong(EntryProblem::NoEntry, Fault { at, span }, known));
+                return Err(wrong(EntryProblem::NoEntry, Fault { at, span }, None, known));
             }
         }
     }
     Ok(())
 }
 
-fn wrong<'a>(problem: EntryProblem, fault: Fault, known: &'a [&'a str]) -> EntryError<'a>
+fn wrong<'a>(
+    problem: EntryProblem,
+    fault: Fault,
+    name: Option<&'a Ident>,
+    known: &'a [&'a str],
+) -> EntryError<'a>
     ensures problem { result.problem ≡ problem }
     ensures at { result.at ≡ fault.at }
     ensures span { result.span ≡ fault.span }
+    ensures name { result.name ≡ name.entry }
     ensures known { result.known.now ≡ known.now }
 {
     EntryError {
         problem,
         at: fault.at,
         span: fault.span,
+        name,
         known,
     }
 }
@@ -143,17 +159,79 @@ fn number_of(problem: EntryProblem) -> u8
     }
 }
 
-impl<'a> fmt::Display for EntryError<'a> {
-    ghost use Rattle.std.specs.Prelude.{Some};
-    ghost use Rattle.declarations.specs.EntryCheck.{problem_text};
+// Writes a space and the name, or nothing.
+fn write_name<W: fmt::Write>(name: Option<&Ident>, f: &mut fmt::Formatter<W>) -> fmt::Result
+    ensures { WritesOnOk W.write_str_gives f.old result (name_part (option_copied name.entry)) f.new }
+{
+    match name {
+        Some(ident) => {
+            f.write_str(" `")?;
+            ident.fmt(f)?;
+            f.write_str("`")
+        }
+        None => Ok(()),
+    }
+}
 
-    ghost output = { λ error. Some (problem_text error.problem) };
+// Writes the end of the sentence, with the names that are known.
+fn write_known<W: fmt::Write>(known: &[&str], f: &mut fmt::Formatter<W>) -> fmt::Result
+    ensures { WritesOnOk W.write_str_gives f.old result (known_part known.now) f.new }
+{
+    match known.split_first() {
+        Some((word, words)) => {
+            f.write_str("; known are ")?;
+            write_quoted(word, f)?;
+            write_more(words, f)
+        }
+        None => f.write_str("; no names are known"),
+    }
+}
+
+// Writes more names that are known.
+fn write_more<W: fmt::Write>(words: &[&str], f: &mut fmt::Formatter<W>) -> fmt::Result
+    ensures { WritesOnOk W.write_str_gives f.old result (more_known words.now) f.new }
+{
+    for word in words {
+        write_next(word, f)?;
+    }
+    Ok(())
+}
+
+// Writes one more name.
+fn write_next<W: fmt::Write>(word: &str, f: &mut fmt::Formatter<W>) -> fmt::Result
+    ensures { WritesOnOk W.write_str_gives f.old result (next_known word.now) f.new }
+{
+    f.write_str(", ")?;
+    write_quoted(word, f)
+}
+
+// Writes a name, as it stands in a sentence.
+fn write_quoted<W: fmt::Write>(word: &str, f: &mut fmt::Formatter<W>) -> fmt::Result
+    ensures { WritesOnOk W.write_str_gives f.old result (quoted word.now) f.new }
+{
+    f.write_str("`")?;
+    f.write_str(word)?;
+    f.write_str("`")
+}
+
+impl<'a> Display for EntryError<'a> {
+    ghost use Rattle.std.specs.Prelude.{Some, option_copied};
+    ghost use Rattle.declarations.specs.EntryCheck.{error_text};
+
+    ghost output = { λ error. Some (error_text error.problem (option_copied error.name) error.known.now) };
 
     fn fmt<W: fmt::Write>(&self, f: &mut fmt::Formatter<W>) -> fmt::Result {
         match self.problem {
             EntryProblem::NoEntry => f.write_str("not expected here"),
-            EntryProblem::Unknown => f.write_str("unknown name"),
-            EntryProblem::Repeated => f.write_str("this name comes twice"),
+            EntryProblem::Unknown => {
+                f.write_str("unknown entry")?;
+                write_name(self.name, f)?;
+                write_known(self.known, f)
+            }
+            EntryProblem::Repeated => {
+                f.write_str("a second entry")?;
+                write_name(self.name, f)
+            }
         }
     }
 }

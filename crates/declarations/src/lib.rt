@@ -6,11 +6,12 @@
 //! are the trees, and the part is what the grammar reads; by `only` it reads nothing else there; by `fault` it reads
 //! nothing, and the fault stands at the end of the longest front that some signs could follow so that it would.
 //!
-//! The grammar stands on signs, each a tree or two that are read as one: docs/DECLARATIONS.md has it whole.
+//! The grammar stands on signs, each a tree or two that are read as one: crates/declarations/README.md has it whole.
 #![tactic(auto)]
 
 mod any_item;
 mod attribute;
+mod attribute_entry;
 mod class;
 mod entry;
 mod entry_check;
@@ -29,6 +30,7 @@ pub mod laws;
 mod list;
 mod message;
 mod param_parts;
+mod parameter;
 mod parts;
 mod place;
 mod reader;
@@ -53,6 +55,7 @@ pub use item::{Body, Fields, TypeItem, parse_type_item};
 pub use keyword::is_keyword;
 pub use list::{FieldList, VariantList};
 pub use message::compile_error;
+pub use parameter::{Parameter, ParameterKind, Parameters, parse_parameter, split_pattern};
 pub use parts::{
     split_attributes, split_bounds, split_expression, split_field, split_fields, split_generics,
     split_inner_attributes, split_item, split_tuple_field, split_tuple_fields, split_type,

@@ -2,7 +2,7 @@
 //! trees, or those from the fault on.
 ghost use Rattle.std.specs.Prelude.{◌≡◌, ◌++◌};
 ghost use Rattle.grammars.specs.First.{heads};
-ghost use Rattle.declarations.specs.Reader.{IsBehind, ReadsRule, classes_in};
+ghost use Rattle.declarations.specs.Reader.{Remains, ReadsRule, classes_in};
 ghost use Rattle.declarations.specs.rules.Classes.{is};
 ghost use Rattle.declarations.specs.rules.Names.{one};
 
@@ -46,9 +46,9 @@ pub(crate) fn past(trees: &[TokenTree], class: Class) -> Result<&[TokenTree], &[
 }
 
 // The trees before the rest.
-#[tactic(auto, using(crate::proofs::ReaderLemmas::behind_whole))]
+#[tactic(auto, using(crate::proofs::ReaderLemmas::remains_whole))]
 pub(crate) fn part<'a>(trees: &'a [TokenTree], rest: &[TokenTree]) -> &'a [TokenTree]
-    requires { IsBehind rest.now trees.now }
+    requires { Remains rest.now trees.now }
     ensures { trees.now ≡ result.now ++ rest.now }
 {
     trees.split_at(trees.len() - rest.len()).0

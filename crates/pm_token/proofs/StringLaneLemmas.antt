@@ -50,6 +50,10 @@ stop_word word = bit_and (bit_or (2 ^ 64 - 1 - on_word word) word) 0x8080_8080_8
 abbrev plain_stop : ℕ → ℕ
 plain_stop b = cond (is_plain_ascii 34 b) 0 128
 
+-- how many bytes at the front stand for themselves
+abbrev front_size : List ℕ → ℕ
+front_size bytes = length (while_front (is_plain_ascii 34) bytes)
+
 stops_are : agree_below (λ b. nat_eq (stop b) (plain_stop b)) (λ b. true) 256 ≡ true
 stops_are = refl
 
@@ -110,7 +114,7 @@ module _ (bytes : List ℕ) (l : length bytes ≡ 8) (are : AreBytes bytes) (wor
   string_in_word =
       ap (λ w. count_trailing_zeros 64 w / 8) stops_is
       ∙ subst
-      (λ n. count_trailing_zeros (eights n) (word_of plain_stop bytes) / 8 ≡ length (while_front (is_plain_ascii 34) bytes))
+      (λ n. count_trailing_zeros (eights n) (word_of plain_stop bytes) / 8 ≡ front_size bytes)
       l
       (first_stop (is_plain_ascii 34) bytes)
 

@@ -124,6 +124,8 @@
 //!   parts
 //! - <a id="declarations.EntryCheck.IsEntryError"></a>**IsEntryError**: the entries up to some trees have known
 //!   names, each another, and these trees are wrong as the error says
+//! - <a id="declarations.Entry.IsEntryFault"></a>**IsEntryFault**: the fault of trees that are not one entry:
+//!   so many of them stand before it
 //! - <a id="declarations.Forms.IsExpression"></a>**IsExpression**: the expression of a discriminant, whose end
 //!   alone is read
 //! - <a id="declarations.Forms.IsField"></a>**IsField**: a field: attributes, a visibility, a name, `:` and a
@@ -144,6 +146,8 @@
 //! - <a id="declarations.Param.IsParamAt"></a>**IsParamAt**: the trees begin with a parameter, and these are
 //!   its parts: each is what its rule reads of the trees after the one before it, and a `,` follows the last,
 //!   or nothing
+//! - <a id="declarations.Parameter.IsParameterAt"></a>**IsParameterAt**: the trees begin with a parameter, and
+//!   these are its parts
 //! - <a id="declarations.Param.IsPredicateAt"></a>**IsPredicateAt**: the trees begin with a predicate, and
 //!   these are its parts: a type, and after `:` bounds
 //! - <a id="declarations.Forms.IsTupleField"></a>**IsTupleField**: a field without a name: attributes, a
@@ -188,6 +192,8 @@
 //! - <a id="declarations.Grammar.ends"></a>**ends**: whether what is read may end at this place of the grammar
 //! - <a id="declarations.rules.Entries.entry"></a>**entry**: an entry: a literal, or a path with what follows
 //!   it
+//! - <a id="declarations.Entry.entry_extent"></a>**entry_extent**: where the first tree of an entry of this
+//!   kind and path stands
 //! - <a id="declarations.rules.Expressions.expression"></a>**expression**: where an operand is wanted
 //! - <a id="declarations.Fault.extent_at"></a>**extent_at**: the span of the tree with this index, or nothing
 //!   where the trees end before it
@@ -197,6 +203,8 @@
 //!   type
 //! - <a id="declarations.rules.Parts.fields"></a>**fields**: fields
 //! - <a id="declarations.rules.Rules.follows"></a>**follows**: the classes of signs that may follow each rule
+//! - <a id="declarations.rules.Parameters.function_parameter"></a>**function_parameter**: a parameter of a
+//!   function: attributes, and a receiver, a pattern and its type, or `...`
 //! - <a id="declarations.rules.Parts.generics"></a>**generics**: generic parameters in angle brackets, or
 //!   nothing
 //! - <a id="declarations.rules.Parts.inner_attributes"></a>**inner_attributes**: any number of inner attributes
@@ -208,9 +216,11 @@
 //!   library gives them
 //! - <a id="declarations.Attribute.parts_of"></a>**parts_of**: the trees of an attribute's parts
 //! - <a id="declarations.Attribute.path_of"></a>**path_of**: the path at the front of the trees
+//! - <a id="declarations.rules.Parameters.pattern"></a>**pattern**: a pattern
 //! - <a id="declarations.Param.predicate_trees"></a>**predicate_trees**: the trees of a predicate's parts, as
 //!   the library gives them
 //! - <a id="declarations.rules.Rules.rules"></a>**rules**: what each rule says
+//! - <a id="declarations.Entry.sole_name"></a>**sole_name**: the identifier that the trees are alone
 //! - <a id="declarations.Grammar.step"></a>**step**: the place of the grammar that a sign leads to, or nothing
 //!   where it may not stand
 //! - <a id="declarations.CompileError.told_at"></a>**told_at**: where a fault is reported: at its tree, or in

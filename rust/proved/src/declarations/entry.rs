@@ -9,7 +9,9 @@ use crate::declarations::place::{Item, Place, Rule, Spot, State};
 use crate::declarations::reader::{begins, is, part, past};
 use crate::declarations::signs::first_sign;
 use crate::declarations::walk::walk_past;
+use crate::pm_span::Span;
 use crate::pm_stream::{Group, TokenTree};
+use crate::pm_token::Ident;
 
 /// What an entry of an attribute's list is.
 #[derive(Clone, Copy, Debug)]
@@ -83,6 +85,63 @@ impl<'a> Entry<'a> {
             [TokenTree::Ident(name)] => name.eq_str(word),
             _ => false,
         }
+    }
+
+    /// The identifier that its path is alone, and `None` of a literal or a path of several segments.
+    ///
+    /// Of `rename = "a"` it is `rename`.
+    ///
+    /// # Contract
+    ///
+    /// - `ensures`: <code>[option_copied] result ≡ [sole_name] self.now.path.now</code>
+    ///
+    /// [option_copied]: crate::contracts#std.option_copied
+    /// [sole_name]: crate::contracts#declarations.Entry.sole_name
+    pub fn name(&self) -> Option<&'a Ident>
+    {
+        match self.path {
+            [TokenTree::Ident(name)] => Some(name),
+            _ => None,
+        }
+    }
+
+    /// The span of its first tree; each entry that is read has one.
+    ///
+    /// # Contract
+    ///
+    /// - `ensures`: <code>result ≡ [entry_extent] self.now.kind self.now.path.now</code>
+    ///
+    /// [entry_extent]: crate::contracts#declarations.Entry.entry_extent
+    pub fn span(&self) -> Option<Span>
+    {
+        match self.kind {
+            EntryKind::Literal(literal) => first_span(literal),
+            EntryKind::Path | EntryKind::List(_) | EntryKind::Value(_) => first_span(self.path),
+        }
+    }
+}
+
+// The span of the first of the trees.
+fn first_span(trees: &[TokenTree]) -> Option<Span>
+{
+    match trees.first() {
+        Some(tree) => Some(tree.span()),
+        None => None,
+    }
+}
+
+// The entry that all of these trees are.
+pub(crate) fn whole_entry(trees: &[TokenTree]) -> Result<Entry<'_>, Fault>
+{
+    match parse_entry(trees) {
+        Ok((entry, rest)) => {
+            if rest.is_empty() {
+                Ok(entry)
+            } else {
+                Err(Fault::ahead_of(trees.len() - rest.len(), rest))
+            }
+        }
+        Err(fault) => Err(fault),
     }
 }
 

@@ -18,4 +18,6 @@ mod items;
 #[cfg(test)]
 mod lists;
 #[cfg(test)]
+mod parameters;
+#[cfg(test)]
 mod parts;

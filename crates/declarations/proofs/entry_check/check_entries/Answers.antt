@@ -1,4 +1,4 @@
-use Rattle.std.proofs.Common.{◌∙◌, arith}
+use Rattle.std.proofs.Common.{◌∙◌, ap, arith, option_copied}
 use Rattle.declarations.specs.rules.Entries as rule
 use Rattle.declarations.specs.rules.Pieces.{ByRule}
 use Rattle.declarations.proofs.EntryCheckLemmas.{checked_more, checked_none, list_fault_within, place_below}
@@ -23,11 +23,12 @@ bounds-seen-place-in-Ok c =
 pub returns-then-seen-place-clause-err : goal.returns-then-seen-place-clause-err
 returns-then-seen-place-clause-err c =
     let made = c.wrong-then-seen-place.ensures in
-    let fault = c.ahead_of-then-seen-place.ensures in
+    let fault = c.ahead_of-fault-then-seen-place.ensures in
     repeated_error c.args.known.now c.args.list.now c.loop-left.left.now c.in-Ok.next.now c.loop-left.seen
     c.in-Ok.entry c.place_of-place.result c.wrong-then-seen-place.result c.loop-left.invariant c.in-Ok.ensures.given
     c.place_of-place.ensures c.if-place-known.false c.requires c.if-seen-place.true made.problem
-    (made.at ∙ fault.at) (made.span ∙ fault.span) made.known
+    (made.at ∙ fault.at) (made.span ∙ fault.span)
+    (ap option_copied made.name ∙ c.name-then-seen-place.ensures) made.known
 
 pub loop-left-preserved : goal.loop-left-preserved
 loop-left-preserved c =

@@ -247,8 +247,98 @@ fn check_printed(rt: &(impl Abort + AllocGlobal), text: &str, want: &str) -> Res
 #[test]
 fn an_error_says_what_is_wrong() -> Result<(), Fail> {
     let rt = HostRuntime;
-    check_printed(&rt, "skip, renam", "unknown name")?;
-    check_printed(&rt, "skip, skip", "this name comes twice")?;
+    check_printed(
+        &rt,
+        "skip, renam = 1",
+        "unknown entry `renam`; known are `skip`, `rename`",
+    )?;
+    check_printed(
+        &rt,
+        "r#type",
+        "unknown entry `r#type`; known are `skip`, `rename`",
+    )?;
+    check_printed(
+        &rt,
+        "a::skip, skip",
+        "unknown entry; known are `skip`, `rename`",
+    )?;
+    check_printed(&rt, "\"a\"", "unknown entry; known are `skip`, `rename`")?;
+    check_printed(&rt, "skip, skip(a)", "a second entry `skip`")?;
     check_printed(&rt, "skip, =", "not expected here")?;
     check_printed(&rt, "rename =", "not expected here")
+}
+
+#[test]
+fn names_are_told_where_none_or_one_is_known() -> Result<(), Fail> {
+    let rt = HostRuntime;
+    let stream = TokenStream::from_str("skip", &mut SourceMap::new())?;
+    match check_entries(stream.trees(), &[]) {
+        Ok(()) => assert!(false),
+        Err(error) => {
+            let printed = format!("{error}")?;
+            assert_eq!(printed.as_str(),
+                "unknown entry `skip`; no names are known"
+            );
+            assert!(error.name.is_some());
+        }
+    }
+    match check_entries(stream.trees(), &["a"]) {
+        Ok(()) => assert!(false),
+        Err(error) => {
+            let printed = format!("{error}")?;
+            assert_eq!(printed.as_str(), "unknown entry `skip`; known are `a`");
+        }
+    }
+    Ok(())
+}
+
+// The entries that the attributes of each text are.
+fn check_attributes(
+    rt: &(impl Abort + AllocGlobal),
+    rows: &[(&str, &[Parts])],
+) -> Result<(), Fail> {
+    for (text, wanted) in rows {
+        let stream = TokenStream::from_str(text, &mut SourceMap::new())?;
+        let mut list = Attributes::new(stream.trees());
+        for one in *wanted {
+            match list.next() {
+                Some(attribute) => match attribute.entry() {
+                    Ok(entry) => {
+                        assert_eq!(shown(&entry), *one, "{text:?}");
+                        assert!(entry.span().is_some(), "{text:?}");
+                    }
+                    Err(fault) => assert_eq!(Parts::Fault(fault.at), *one, "{text:?}"),
+                },
+                None => assert!(false, "{text:?}"),
+            }
+        }
+        assert!(list.next().is_none(), "{text:?}");
+    }
+    Ok(())
+}
+
+#[test]
+fn an_attribute_is_one_entry() -> Result<(), Fail> {
+    let rt = HostRuntime;
+    check_attributes(
+        &rt,
+        &[
+            ("#[test] #![no_std]", &[Parts::Path(1), Parts::Path(1)]),
+            ("#[derive(Clone, Copy)]", &[Parts::List(1, 3)]),
+            ("#[serde(bound(T, U), skip)]", &[Parts::List(1, 4)]),
+            ("#[path = \"a.rs\"]", &[Parts::Value(1, 1)]),
+            ("#[doc = include_str!(\"a.md\")]", &[Parts::Value(1, 3)]),
+            ("#[a = -1 + f(2, 3)]", &[Parts::Value(1, 5)]),
+            ("#[rustfmt::skip]", &[Parts::Path(4)]),
+            ("#[unsafe(no_mangle)]", &[Parts::List(1, 1)]),
+            ("/// text", &[Parts::Value(1, 1)]),
+            // The trees of another grammar, which are read within the list alone, if at all.
+            ("#[error(\"{0}\" if x => y)]", &[Parts::List(1, 6)]),
+            ("#[a[b] c]", &[Parts::Fault(2)]),
+            ("#[a = 1, b]", &[Parts::Fault(3)]),
+            ("#[a b]", &[Parts::Fault(1)]),
+            ("#[a =]", &[Parts::Fault(2)]),
+            ("#[]", &[Parts::Fault(0)]),
+        ],
+    )
 }

@@ -1,0 +1,137 @@
+-- The parameters of functions.
+use Rattle.std.specs.Prelude.{Bool, false, not, ◌&&◌, ◌||◌, [], ◌∷◌}
+use Rattle.grammars.specs.Grammar.{Mark, Sign, Then, Either, Many, perhaps}
+use Rattle.declarations.specs.rules.Classes.{is, is_word, keyword, one_of}
+use Rattle.declarations.specs.rules.Names.{G, seq, alt, one, key, listed}
+use Rattle.declarations.specs.rules.Names.{Named, OfType, Outside, Parameter, Range, Rest}
+use Rattle.declarations.specs.rules.Types.{angle, type}
+use Rattle.declarations.specs.rules.Parts.{attributes}
+use Rattle.declarations.specs.declared.class.Class.{Class}
+use Rattle.declarations.specs.declared.class.Class.TheVariants as signs
+use Rattle.declarations.specs.declared.class.Keyword.TheVariants as keywords
+use Rattle.declarations.specs.declared.types.TypeState.TheVariants as types
+
+-- ---- patterns
+
+-- a sign with which a pattern may begin, but for angle brackets
+abbrev pub is_pattern : Class → Bool
+is_pattern c =
+    is_word c || (keyword keywords.Mut c || (keyword keywords.Other c || one_of (signs.SelfType ∷ signs.Super
+    ∷ signs.Crate ∷ signs.Underscore ∷ signs.Truth ∷ signs.Literal ∷ signs.PathSeparator ∷ signs.Restriction
+    ∷ signs.Parentheses ∷ signs.Brackets ∷ signs.Invisible ∷ signs.And ∷ signs.Minus ∷ []) c))
+
+-- a sign with which it may go on
+abbrev pub continues : Class → Bool
+continues c = is_pattern c || one_of (signs.Braces ∷ signs.Exclamation ∷ signs.Dot ∷ signs.Equals ∷ signs.Infix ∷ []) c
+
+-- one such sign
+abbrev pub pattern_sign : G
+pattern_sign = Sign continues
+
+-- more signs of a pattern
+abbrev pub pattern_signs : G
+pattern_signs = Many pattern_sign
+
+-- a path from its angle brackets on, and perhaps fields in braces
+abbrev pub pattern_angle : G
+pattern_angle = Then (angle (Range types.Whole Outside)) (perhaps (one signs.Braces))
+
+-- the rest of a pattern
+abbrev pub pattern_rest : G
+pattern_rest = Then pattern_signs (perhaps pattern_angle)
+
+-- a pattern that begins with no sign that passes the test
+abbrev pub pattern_but : (Class → Bool) → G
+pattern_but without = Either (Then (Sign (λ c. is_pattern c && not (without c))) pattern_rest) pattern_angle
+
+-- a pattern
+abbrev pub pattern : G
+pattern = pattern_but (λ c. false)
+
+-- ---- what follows a pattern or a receiver
+
+-- `..`
+abbrev pub two_dots : G
+two_dots = Then (one signs.Dot) (one signs.Dot)
+
+-- `...`
+abbrev pub dots : G
+dots = Then (one signs.Dot) two_dots
+
+-- `:` and a type
+abbrev pub with_type : G
+with_type = seq (Mark Rest ∷ one signs.Colon ∷ Mark OfType ∷ type ∷ [])
+
+-- a type or `...`
+abbrev pub typed_end : G
+typed_end = Either dots type
+
+-- `:` and a type or `...`
+abbrev pub typed : G
+typed = seq (Mark Rest ∷ one signs.Colon ∷ Mark OfType ∷ typed_end ∷ [])
+
+-- a pattern and its type
+abbrev pub typed_pattern : G
+typed_pattern = Then pattern typed
+
+-- after `self` or `mut self`: `:` and a type, or nothing
+abbrev pub self_type : G
+self_type = perhaps with_type
+
+-- ---- receivers
+
+-- `self` or `mut self`
+abbrev pub may_mutate : G
+may_mutate = Either (Then (key keywords.Mut) (one signs.SelfValue)) (one signs.SelfValue)
+
+-- the receiver after its `&`
+abbrev pub referred : G
+referred = Either (Then (one signs.Lifetime) may_mutate) may_mutate
+
+-- `self`, with `mut`, `&` and a lifetime before it or not
+abbrev pub receiver : G
+receiver = Either (Then (one signs.And) referred) may_mutate
+
+-- ---- parameters
+
+-- after `mut`
+abbrev pub after_mut : G
+after_mut = Either (Then (one signs.SelfValue) self_type) typed_pattern
+
+-- after `& mut`
+abbrev pub after_and_mut : G
+after_and_mut = Either (one signs.SelfValue) typed_pattern
+
+-- after `&`
+abbrev pub after_and : G
+after_and = alt (
+    Then (one signs.Lifetime) may_mutate
+    ∷ Then (key keywords.Mut) after_and_mut
+    ∷ one signs.SelfValue
+    ∷ Then (pattern_but (keyword keywords.Mut)) typed
+    ∷ [])
+
+-- a sign that may begin a receiver and a pattern
+abbrev pub is_shared : Class → Bool
+is_shared c = keyword keywords.Mut c || is signs.And c
+
+-- a parameter with a name, after its attributes: a receiver, or a pattern and its type
+abbrev pub named_parameter : G
+named_parameter = alt (
+    Then (one signs.SelfValue) self_type
+    ∷ Then (key keywords.Mut) after_mut
+    ∷ Then (one signs.And) after_and
+    ∷ Then (pattern_but is_shared) typed
+    ∷ [])
+
+-- a parameter, after its attributes
+abbrev pub parameter_rest : G
+parameter_rest = Then (Mark Named) (Either dots named_parameter)
+
+-- a parameter of a function: attributes, and a receiver, a pattern and its type, or `...`
+abbrev pub function_parameter : G
+function_parameter = Then (Mark Parameter) (Then attributes parameter_rest)
+
+-- parameters, with `,` between two and perhaps after the last
+abbrev pub function_parameters : G
+function_parameters = listed function_parameter

@@ -1,0 +1,611 @@
+//! The parameters of functions, one at a time.
+ghost use Rattle.std.specs.Prelude.{◌≡◌, ◌<◌, ◌||◌, IfErr, IfNone, IfOk, IfSome, MatchResult, false, length, true};
+ghost use Rattle.grammars.specs.First.{heads};
+ghost use Rattle.grammars.specs.Grammar.{perhaps};
+ghost use Rattle.declarations.specs.Entry.{IsOnlyRest};
+ghost use Rattle.declarations.specs.Fault.{extent_at};
+ghost use Rattle.declarations.specs.List.{AreInside, IsFirst, IsListFault};
+ghost use Rattle.declarations.specs.Parameter.{IsParameterAt, ReadsEnd, ReadsFront, ReadsNamed, ReadsParameter};
+ghost use Rattle.declarations.specs.Parameter.{ReadsPattern, ReadsTyped, left_of};
+ghost use Rattle.declarations.specs.Reader.{Finds, ReadsRule, classes_in};
+ghost use Rattle.declarations.specs.Reading.{FaultAt, IsOnly, Reads};
+ghost use Rattle.declarations.specs.rules.Classes.{opens};
+ghost use Rattle.declarations.specs.rules.Names.{one};
+ghost use Rattle.declarations.specs.rules.Parameters.{after_and, after_and_mut, after_mut, continues, dots};
+ghost use Rattle.declarations.specs.rules.Parameters.{function_parameter, is_pattern, may_mutate, named_parameter};
+ghost use Rattle.declarations.specs.rules.Parameters.{parameter_rest, pattern, pattern_angle, pattern_rest};
+ghost use Rattle.declarations.specs.rules.Parameters.{pattern_sign, pattern_signs, receiver, referred, self_type, two_dots};
+ghost use Rattle.declarations.specs.rules.Parameters.{typed};
+ghost use Rattle.declarations.specs.rules.Parts.{attributes};
+ghost use Rattle.declarations.specs.rules.Pieces.{ByRule};
+ghost use Rattle.declarations.specs.rules.Types.{type};
+ghost use Rattle.declarations.specs.declared.class.Class.TheVariants as signs;
+ghost use Rattle.declarations.specs.declared.parameter.Shape.TheVariants as shapes;
+
+use crate::class::{Class, Keyword};
+use crate::fault::Fault;
+use crate::list::{fault_after, past_comma};
+use crate::place::{Item, Part, Place, Rule, Spot, State};
+use crate::reader::{begins, is, part, past};
+use crate::signs::first_sign;
+use crate::types::TypeState;
+use crate::walk::walk_past;
+use pm_stream::{Group, TokenTree};
+
+/// What a parameter of a function is.
+#[derive(Clone, Copy, Debug)]
+pub enum ParameterKind<'a> {
+    /// A receiver without a type, as `self`, `mut self`, `&self` or `&'a mut self`.
+    Receiver,
+    /// A receiver with this type, as `self: Box<Self>`.
+    TypedReceiver(&'a [TokenTree]),
+    /// A pattern with this type, as `(a, b): (u8, u8)`.
+    Typed(&'a [TokenTree]),
+    /// `...`, or a pattern with it, as `rest: ...`.
+    Variadic,
+}
+
+/// A parameter of a function, as `&self`, `x: u8` or `#[a] (x, y): (u8, u8)`.
+#[derive(Clone, Copy, Debug)]
+pub struct Parameter<'a> {
+    /// The attributes.
+    pub attributes: &'a [TokenTree],
+    /// The pattern; the receiver, as `&'a mut self`, up to a `:`. It has no trees if the parameter is `...` alone.
+    pub pattern: &'a [TokenTree],
+    /// What the parameter is, with its type.
+    pub kind: ParameterKind<'a>,
+}
+
+/// What is read of a parameter up to its `:`, or its end.
+#[derive(Clone, Copy)]
+pub enum Shape {
+    /// A pattern.
+    Pattern,
+    /// `self` or `mut self`, which a type may follow.
+    Receiver,
+    /// `self` after `&`.
+    Reference,
+}
+
+// Whether a pattern may begin with the sign, which is no angle bracket.
+fn is_pattern(class: Class) -> bool
+    ensures { result ≡ is_pattern class }
+{
+    match class {
+        Class::Word(_) | Class::Keyword(Keyword::Mut | Keyword::Other) => true,
+        Class::SelfType | Class::Super | Class::Crate | Class::Underscore => true,
+        Class::Truth | Class::Literal | Class::PathSeparator => true,
+        Class::Restriction | Class::Parentheses | Class::Brackets | Class::Invisible => true,
+        Class::And | Class::Minus => true,
+        _ => false,
+    }
+}
+
+// Whether a pattern may go on with the sign.
+fn continues(class: Class) -> bool
+    ensures { result ≡ continues class }
+{
+    match class {
+        Class::Braces | Class::Exclamation | Class::Dot | Class::Equals | Class::Infix => true,
+        _ => is_pattern(class),
+    }
+}
+
+fn opens(class: Class) -> bool
+    ensures { result ≡ opens class }
+{
+    match class {
+        Class::Less | Class::LessJoint => true,
+        _ => false,
+    }
+}
+
+// Whether a pattern may begin with the sign.
+fn may_begin(class: Class) -> bool
+    ensures { result ≡ (is_pattern class || opens class) }
+{
+    is_pattern(class) || opens(class)
+}
+
+// Past a type.
+#[tactic(auto, using(crate::proofs::ParameterLemmas::type_reads))]
+fn past_type(trees: &[TokenTree]) -> Result<&[TokenTree], &[TokenTree]>
+    ensures { ReadsRule type trees.now result }
+{
+    let start = Place {
+        item: Item::Alone,
+        rule: Rule::Alone,
+        state: State::Range(TypeState::Wanted),
+        depth: 0,
+    };
+    walk_past(trees, start)
+}
+
+// Past attributes.
+#[tactic(auto, using(crate::proofs::ParameterLemmas::attributes_read))]
+fn past_attributes(trees: &[TokenTree]) -> Result<&[TokenTree], &[TokenTree]>
+    ensures { ReadsRule attributes trees.now result }
+{
+    let start = Place {
+        item: Item::Alone,
+        rule: Rule::Alone,
+        state: State::At(Spot::Before(Part::Attributes)),
+        depth: 0,
+    };
+    walk_past(trees, start)
+}
+
+// Past a sign with which a pattern goes on, if one is next.
+#[tactic(auto, using(crate::proofs::ReaderLemmas::steps))]
+fn pattern_sign(trees: &[TokenTree]) -> Option<&[TokenTree]>
+    ensures found { IfSome result (λ rest. Finds pattern_sign trees.now rest.now) }
+    ensures begins { IfSome result (λ rest. heads pattern_sign (classes_in trees.now) ≡ true) }
+    ensures none { IfNone result (heads pattern_sign (classes_in trees.now) ≡ false) }
+{
+    match first_sign(trees) {
+        Some((class, rest)) => { if continues(class) { Some(rest) } else { None } }
+        None => None,
+    }
+}
+
+// Past more signs of a pattern.
+fn pattern_signs(trees: &[TokenTree]) -> &[TokenTree]
+    ensures { Finds pattern_signs trees.now result.now }
+{
+    let mut left = trees;
+    while let Some(next) = pattern_sign(left) {
+        left = next;
+    }
+    left
+}
+
+// Past braces, or nothing.
+#[tactic(auto, using(crate::proofs::ReaderLemmas::steps))]
+fn braces(trees: &[TokenTree]) -> Result<&[TokenTree], &[TokenTree]>
+    ensures { ReadsRule (perhaps (one signs.Braces)) trees.now result }
+{
+    if begins(trees, Class::Braces) {
+        past(trees, Class::Braces)
+    } else {
+        Ok(trees)
+    }
+}
+
+// Whether angle brackets are next.
+#[tactic(auto, using(crate::proofs::ParameterLemmas::angles))]
+fn begins_angle(trees: &[TokenTree]) -> bool
+    ensures { result ≡ heads pattern_angle (classes_in trees.now) }
+{
+    match first_sign(trees) {
+        Some((class, _)) => opens(class),
+        None => false,
+    }
+}
+
+// Past a path from its angle brackets on, and fields in braces.
+#[tactic(auto, using(crate::proofs::ParameterLemmas::angles))]
+fn pattern_angle(trees: &[TokenTree]) -> Result<&[TokenTree], &[TokenTree]>
+    requires { heads pattern_angle (classes_in trees.now) ≡ true }
+    ensures { ReadsRule pattern_angle trees.now result }
+{
+    match past_type(trees) {
+        Ok(rest) => braces(rest),
+        Err(left) => Err(left),
+    }
+}
+
+// Past a path from its angle brackets on, or nothing.
+#[tactic(auto, using(crate::proofs::ReaderLemmas::steps))]
+fn perhaps_angle(trees: &[TokenTree]) -> Result<&[TokenTree], &[TokenTree]>
+    ensures { ReadsRule (perhaps pattern_angle) trees.now result }
+{
+    if begins_angle(trees) {
+        pattern_angle(trees)
+    } else {
+        Ok(trees)
+    }
+}
+
+// Past the rest of a pattern.
+#[tactic(auto, using(crate::proofs::ReaderLemmas::steps))]
+fn pattern_rest(trees: &[TokenTree]) -> Result<&[TokenTree], &[TokenTree]>
+    ensures { ReadsRule pattern_rest trees.now result }
+{
+    perhaps_angle(pattern_signs(trees))
+}
+
+// Whether a pattern begins.
+#[tactic(auto, using(crate::proofs::ParameterLemmas::patterns))]
+fn begins_pattern(trees: &[TokenTree]) -> bool
+    ensures { result ≡ heads pattern (classes_in trees.now) }
+{
+    match first_sign(trees) {
+        Some((class, _)) => may_begin(class),
+        None => false,
+    }
+}
+
+// Past a pattern.
+#[tactic(auto, using(crate::proofs::ParameterLemmas::patterns))]
+fn past_pattern(trees: &[TokenTree]) -> Result<&[TokenTree], &[TokenTree]>
+    ensures { ReadsRule pattern trees.now result }
+{
+    if begins_pattern(trees) {
+        pattern_rest(trees)
+    } else {
+        Err(trees)
+    }
+}
+
+// Past `self` or `mut self`.
+#[tactic(auto, using(crate::proofs::ReaderLemmas::steps))]
+fn may_mutate(trees: &[TokenTree]) -> Result<&[TokenTree], &[TokenTree]>
+    ensures { ReadsRule may_mutate trees.now result }
+{
+    if begins(trees, Class::Keyword(Keyword::Mut)) {
+        past(past(trees, Class::Keyword(Keyword::Mut))?, Class::SelfValue)
+    } else {
+        past(trees, Class::SelfValue)
+    }
+}
+
+// Past `..`.
+#[tactic(auto, using(crate::proofs::ReaderLemmas::steps))]
+fn two_dots(trees: &[TokenTree]) -> Result<&[TokenTree], &[TokenTree]>
+    ensures { ReadsRule (two_dots) trees.now result }
+{
+    past(past(trees, Class::Dot)?, Class::Dot)
+}
+
+// Past `...`.
+#[tactic(auto, using(crate::proofs::ReaderLemmas::steps))]
+fn dots(trees: &[TokenTree]) -> Result<&[TokenTree], &[TokenTree]>
+    ensures { ReadsRule dots trees.now result }
+{
+    two_dots(past(trees, Class::Dot)?)
+}
+
+// What follows `mut`, up to a `:`.
+#[tactic(auto, using(crate::proofs::ParameterLemmas::fronts))]
+fn after_mut(trees: &[TokenTree]) -> Result<(Shape, &[TokenTree]), &[TokenTree]>
+    ensures { ReadsFront after_mut (one signs.SelfValue) trees.now result }
+{
+    match first_sign(trees) {
+        Some((class, rest)) => {
+            if is(Class::SelfValue, class) {
+                Ok((Shape::Receiver, rest))
+            } else {
+                pattern_shape(trees)
+            }
+        }
+        None => Err(trees),
+    }
+}
+
+// A pattern, up to its `:`.
+fn pattern_shape(trees: &[TokenTree]) -> Result<(Shape, &[TokenTree]), &[TokenTree]>
+    ensures { ReadsPattern trees.now result }
+{
+    match past_pattern(trees) {
+        Ok(rest) => Ok((Shape::Pattern, rest)),
+        Err(left) => Err(left),
+    }
+}
+
+// What follows `& mut`, up to a `:`.
+#[tactic(auto, using(crate::proofs::ParameterLemmas::fronts))]
+fn after_and_mut(trees: &[TokenTree]) -> Result<(Shape, &[TokenTree]), &[TokenTree]>
+    ensures { ReadsFront after_and_mut (one signs.SelfValue) trees.now result }
+{
+    match first_sign(trees) {
+        Some((class, rest)) => {
+            if is(Class::SelfValue, class) {
+                Ok((Shape::Reference, rest))
+            } else {
+                pattern_shape(trees)
+            }
+        }
+        None => Err(trees),
+    }
+}
+
+// What follows `&`, up to a `:`.
+#[tactic(auto, using(crate::proofs::ParameterLemmas::fronts))]
+fn after_and(trees: &[TokenTree]) -> Result<(Shape, &[TokenTree]), &[TokenTree]>
+    ensures { ReadsFront after_and referred trees.now result }
+{
+    match first_sign(trees) {
+        Some((class, rest)) => {
+            if is(Class::Lifetime, class) {
+                return match may_mutate(rest) {
+                    Ok(after) => Ok((Shape::Reference, after)),
+                    Err(left) => Err(left),
+                };
+            }
+            if is(Class::Keyword(Keyword::Mut), class) {
+                return after_and_mut(rest);
+            }
+            if is(Class::SelfValue, class) {
+                return Ok((Shape::Reference, rest));
+            }
+            pattern_shape(trees)
+        }
+        None => Err(trees),
+    }
+}
+
+// A receiver or a pattern, up to a `:`.
+#[tactic(auto, using(crate::proofs::ParameterLemmas::fronts))]
+fn named_front(trees: &[TokenTree]) -> Result<(Shape, &[TokenTree]), &[TokenTree]>
+    ensures { ReadsFront named_parameter receiver trees.now result }
+{
+    match first_sign(trees) {
+        Some((class, rest)) => {
+            if is(Class::SelfValue, class) {
+                return Ok((Shape::Receiver, rest));
+            }
+            if is(Class::Keyword(Keyword::Mut), class) {
+                return after_mut(rest);
+            }
+            if is(Class::And, class) {
+                return after_and(rest);
+            }
+            pattern_shape(trees)
+        }
+        None => Err(trees),
+    }
+}
+
+// The kind of a receiver with the type that follows it, and the trees after it.
+#[tactic(auto, using(crate::proofs::ParameterLemmas::self_types))]
+fn self_type(trees: &[TokenTree]) -> Result<(ParameterKind<'_>, &[TokenTree]), &[TokenTree]>
+    ensures { ReadsEnd self_type shapes.Receiver trees.now result }
+{
+    match first_sign(trees) {
+        Some((class, from_type)) => {
+            if is(Class::Colon, class) {
+                match past_type(from_type) {
+                    Ok(rest) => Ok((ParameterKind::TypedReceiver(part(from_type, rest)), rest)),
+                    Err(left) => Err(left),
+                }
+            } else {
+                Ok((ParameterKind::Receiver, trees))
+            }
+        }
+        None => Ok((ParameterKind::Receiver, trees)),
+    }
+}
+
+// The kind of a parameter with a pattern, after its `:`, and the trees after it.
+#[tactic(auto, using(crate::proofs::ParameterLemmas::typed_ends))]
+fn typed_end(trees: &[TokenTree]) -> Result<(ParameterKind<'_>, &[TokenTree]), &[TokenTree]>
+    ensures { ReadsTyped trees.now result }
+{
+    if begins(trees, Class::Dot) {
+        match dots(trees) {
+            Ok(rest) => Ok((ParameterKind::Variadic, rest)),
+            Err(left) => Err(left),
+        }
+    } else {
+        match past_type(trees) {
+            Ok(rest) => Ok((ParameterKind::Typed(part(trees, rest)), rest)),
+            Err(left) => Err(left),
+        }
+    }
+}
+
+// The same, from its `:` on.
+#[tactic(auto, using(crate::proofs::ParameterLemmas::typeds))]
+fn typed(trees: &[TokenTree]) -> Result<(ParameterKind<'_>, &[TokenTree]), &[TokenTree]>
+    ensures { ReadsEnd typed shapes.Pattern trees.now result }
+{
+    match first_sign(trees) {
+        Some((class, from_end)) => {
+            if is(Class::Colon, class) {
+                typed_end(from_end)
+            } else {
+                Err(trees)
+            }
+        }
+        None => Err(trees),
+    }
+}
+
+// The kind of a parameter, after what is read up to its `:` or its end, and the trees after it.
+#[tactic(auto, using(crate::proofs::ParameterLemmas::ends))]
+fn end_of(
+    shape: Shape,
+    trees: &[TokenTree],
+) -> Result<(ParameterKind<'_>, &[TokenTree]), &[TokenTree]>
+    ensures { ReadsEnd (left_of shape) shape trees.now result }
+{
+    match shape {
+        Shape::Pattern => typed(trees),
+        Shape::Receiver => self_type(trees),
+        Shape::Reference => Ok((ParameterKind::Receiver, trees)),
+    }
+}
+
+/// A parameter without its attributes.
+#[derive(Clone, Copy)]
+pub struct Named<'a> {
+    /// The pattern or the receiver.
+    pub pattern: &'a [TokenTree],
+    /// What the parameter is.
+    pub kind: ParameterKind<'a>,
+}
+
+// A receiver, or a pattern with its type, and the trees after it.
+#[tactic(auto, using(crate::proofs::ParameterLemmas::named))]
+fn named_of(trees: &[TokenTree]) -> Result<(Named<'_>, &[TokenTree]), &[TokenTree]>
+    ensures { ReadsNamed named_parameter trees.now result }
+{
+    match named_front(trees) {
+        Ok((shape, from_end)) => match end_of(shape, from_end) {
+            Ok((kind, rest)) => {
+                let pattern = part(trees, from_end);
+                Ok((Named { pattern, kind }, rest))
+            }
+            Err(left) => Err(left),
+        },
+        Err(left) => Err(left),
+    }
+}
+
+// The same, or `...`.
+#[tactic(auto, using(crate::proofs::ParameterLemmas::rests))]
+fn rest_of(trees: &[TokenTree]) -> Result<(Named<'_>, &[TokenTree]), &[TokenTree]>
+    ensures { ReadsNamed parameter_rest trees.now result }
+{
+    if begins(trees, Class::Dot) {
+        match dots(trees) {
+            Ok(rest) => Ok((
+                Named {
+                    pattern: &[],
+                    kind: ParameterKind::Variadic,
+                },
+                rest,
+            )),
+            Err(left) => Err(left),
+        }
+    } else {
+        named_of(trees)
+    }
+}
+
+// The parameter at the front of the trees, and the trees after it; or those from the fault on.
+#[tactic(auto, using(crate::proofs::ParameterLemmas::whole))]
+fn parameter_of(trees: &[TokenTree]) -> Result<(Parameter<'_>, &[TokenTree]), &[TokenTree]>
+    ensures { ReadsParameter trees.now result }
+{
+    match past_attributes(trees) {
+        Ok(after) => match rest_of(after) {
+            Ok((named, rest)) => {
+                let attributes = part(trees, after);
+                Ok((
+                    Parameter {
+                        attributes,
+                        pattern: named.pattern,
+                        kind: named.kind,
+                    },
+                    rest,
+                ))
+            }
+            Err(left) => Err(left),
+        },
+        Err(left) => Err(left),
+    }
+}
+
+/// The parameter of a function at the front of the trees, and the trees after it.
+///
+/// The trees are those in the parentheses of a function, or what an earlier call left of them. A parameter has
+/// attributes, and is a receiver, a pattern with its type, or `...`. Of a pattern and a type only the end is found: of
+/// `(a, b): Fn(A, B) -> C, d: D` the pattern is `(a, b)`, the type `Fn(A, B) -> C`, and `, d: D` is left. A receiver is
+/// `self`, `mut self`, `&self` or `&mut self`, perhaps with a lifetime after `&`; without `&` it may have a type.
+///
+/// Where no parameter stands it answers the fault. The grammar is that of crates/declarations/README.md, with the one
+/// reading that the grammar gives; that a receiver comes first, and `...` last, isn't asked. It takes no memory.
+pub fn parse_parameter(trees: &[TokenTree]) -> Result<(Parameter<'_>, &[TokenTree]), Fault>
+    ensures ok { IfOk result (λ found. IsParameterAt trees.now found.0 found.1.now) }
+    ensures only { IfOk result (λ found. IsOnlyRest function_parameter trees.now found.1.now) }
+    ensures fewer { IfOk result (λ found. length found.1.now < length trees.now) }
+    ensures fault { IfErr result (λ fault. FaultAt (ByRule function_parameter) trees.now fault.at) }
+    ensures span { IfErr result (λ fault. fault.span ≡ extent_at trees.now fault.at) }
+{
+    match parameter_of(trees) {
+        Ok((parameter, rest)) => Ok((parameter, rest)),
+        Err(left) => Err(Fault::ahead_of(trees.len() - left.len(), left)),
+    }
+}
+
+/// The pattern at the front of the trees, and the trees after it.
+///
+/// A pattern isn't parsed: its end is found, which is before a `:` or any other sign of which no pattern is made. Of
+/// `(a, b): (A, B)` it is `(a, b)`. It is the pattern of a parameter, so neither `self` nor a `|` outside of groups is
+/// in it, and keywords such as `in` don't end it. It is for trees of a macro's own grammar, as the parameters of a
+/// closure.
+#[tactic(auto, using(crate::proofs::ParameterLemmas::splits))]
+pub fn split_pattern(trees: &[TokenTree]) -> Result<(&[TokenTree], &[TokenTree]), Fault>
+    ensures ok { IfOk result (λ found. Reads (ByRule pattern) trees.now found.0.now found.1.now) }
+    ensures only { IfOk result (λ found. IsOnly (ByRule pattern) trees.now found.0.now found.1.now) }
+    ensures fault { IfErr result (λ fault. FaultAt (ByRule pattern) trees.now fault.at) }
+    ensures span { IfErr result (λ fault. fault.span ≡ extent_at trees.now fault.at) }
+{
+    match past_pattern(trees) {
+        Ok(rest) => Ok((part(trees, rest), rest)),
+        Err(left) => Err(Fault::ahead_of(trees.len() - left.len(), left)),
+    }
+}
+
+/// The parameters of a function, in order, with `,` between two and perhaps after the last.
+///
+/// It gives each parameter as [`parse_parameter`] answers it of the trees that are left, or the fault, whose trees are
+/// counted from there on. After a fault it gives nothing. Of `(&self, x: u8)` it gives `&self` and `x: u8`. It takes no
+/// memory.
+///
+/// ```text
+/// for parameter in Parameters::new(group) {
+///     let parameter = parameter?;
+///     if let ParameterKind::Typed(ty) = parameter.kind { .. }
+/// }
+/// ```
+#[derive(Clone, Copy, Debug)]
+pub struct Parameters<'a> {
+    /// The trees that are left.
+    pub left: &'a [TokenTree],
+}
+
+impl<'a> Parameters<'a> {
+    /// The parameters in these parentheses.
+    pub fn new(group: &'a Group) -> Parameters<'a>
+        ensures { AreInside result.left.now group.now }
+    {
+        Parameters {
+            left: group.stream_ref().trees(),
+        }
+    }
+}
+
+impl<'a> Iterator for Parameters<'a> {
+    ghost use Rattle.std.specs.Iterator.{at_most};
+    ghost use Rattle.declarations.specs.Parameter.{GivesParameter};
+
+    type Item = Result<Parameter<'a>, Fault>;
+
+    ghost next_gives = { GivesParameter };
+
+    // No more come than trees are left.
+    ghost remaining = { λ list. at_most (length list.left.now) };
+
+    fn next(&mut self) -> Option<Result<Parameter<'a>, Fault>> {
+        if self.left.is_empty() {
+            return None;
+        }
+        match first_parameter(self.left) {
+            Ok((parameter, left)) => {
+                self.left = left;
+                Some(Ok(parameter))
+            }
+            Err(fault) => {
+                self.left = &[];
+                Some(Err(fault))
+            }
+        }
+    }
+}
+
+// The first parameter of a list, and the trees after its comma.
+fn first_parameter(trees: &[TokenTree]) -> Result<(Parameter<'_>, &[TokenTree]), Fault>
+    ensures given { MatchResult result (λ found. IsFirst IsParameterAt trees.now found.0 found.1.now)
+        (λ fault. IsListFault (ByRule function_parameter) trees.now fault) }
+    ensures fewer { IfOk result (λ found. length found.1.now < length trees.now) }
+{
+    match parse_parameter(trees) {
+        Ok((parameter, rest)) => match past_comma(rest) {
+            Some(left) => Ok((parameter, left)),
+            None => Err(fault_after(trees, rest)),
+        },
+        Err(fault) => Err(fault),
+    }
+}
