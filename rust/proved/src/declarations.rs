@@ -7,7 +7,7 @@
 //! are the trees, and the part is what the grammar reads; by `only` it reads nothing else there; by `fault` it reads
 //! nothing, and the fault stands at the end of the longest front that some signs could follow so that it would.
 //!
-//! The grammar stands on signs, each a tree or two that are read as one: docs/DECLARATIONS.md has it whole.
+//! The grammar stands on signs, each a tree or two that are read as one: crates/declarations/README.md has it whole.
 
 mod any_item;
 mod attribute;

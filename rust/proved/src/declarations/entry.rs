@@ -42,8 +42,8 @@ pub struct Entry<'a> {
 /// `true` and `false`, keywords too, so `unsafe(no_mangle)` is an entry with the path `unsafe`. As elsewhere only the
 /// end of an expression is found. Of `a::b = f(1) + 2, c` the path is `a::b`, the value `f(1) + 2`, and `, c` is left.
 ///
-/// Where no entry stands it answers the fault. The grammar is that of docs/DECLARATIONS.md, with the one reading that
-/// the grammar gives. It takes no memory.
+/// Where no entry stands it answers the fault. The grammar is that of crates/declarations/README.md, with the one
+/// reading that the grammar gives. It takes no memory.
 ///
 /// # Contract
 ///

@@ -424,10 +424,10 @@ fn parameter_of(trees: &[TokenTree]) -> Result<(Parameter<'_>, &[TokenTree]), &[
 /// The trees are those in the parentheses of a function, or what an earlier call left of them. A parameter has
 /// attributes, and is a receiver, a pattern with its type, or `...`. Of a pattern and a type only the end is found: of
 /// `(a, b): Fn(A, B) -> C, d: D` the pattern is `(a, b)`, the type `Fn(A, B) -> C`, and `, d: D` is left. A receiver is
-/// `self`, `mut self`, `&self` or `&mut self`, perhaps with a lifetime after `&`, and without a `&` perhaps with a type.
+/// `self`, `mut self`, `&self` or `&mut self`, perhaps with a lifetime after `&`; without `&` it may have a type.
 ///
-/// Where no parameter stands it answers the fault. The grammar is that of docs/DECLARATIONS.md, with the one reading
-/// that the grammar gives; that a receiver comes first, and `...` last, isn't asked. It takes no memory.
+/// Where no parameter stands it answers the fault. The grammar is that of crates/declarations/README.md, with the one
+/// reading that the grammar gives; that a receiver comes first, and `...` last, isn't asked. It takes no memory.
 ///
 /// # Contract
 ///
