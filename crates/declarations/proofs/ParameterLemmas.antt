@@ -38,7 +38,8 @@ use Rattle.declarations.specs.declared.place.Spot.TheVariants as spots
 use Rattle.declarations.specs.declared.place.State.TheVariants as states
 use Rattle.declarations.specs.declared.types.TypeState.TheVariants as types
 use Rattle.declarations.specs.rules.Classes.{is, keyword, opens}
-use Rattle.declarations.specs.rules.Names.{G, Label, Named as NamedPart, OfType, Outside, Parameter as ParameterPart, Range}
+use Rattle.declarations.specs.rules.Names.{G, Label, Named as NamedPart, OfType, Outside}
+use Rattle.declarations.specs.rules.Names.{Parameter as ParameterPart, Range}
 use Rattle.declarations.specs.rules.Names.{Rest, key, one}
 use Rattle.declarations.specs.rules.Parameters as rule
 use Rattle.declarations.specs.rules.Parts.{attributes}
@@ -212,7 +213,8 @@ angled = angle (Range types.Whole Outside)
 
 angle_first : (c : Class) → may_begin rule.pattern_angle c ≡ opens c
 angle_first c =
-    or_nothing (may_begin angled c) (may_begin (perhaps (one signs.Braces)) c) ∙ or_nothing (opens c) (is signs.Greater c)
+    or_nothing (may_begin angled c) (may_begin (perhaps (one signs.Braces)) c)
+    ∙ or_nothing (opens c) (is signs.Greater c)
 
 pub angle_begins : (trees rest : List TokenTree) (class : Class) (b : Bool) → BeginsWith trees class rest
     → b ≡ opens class
@@ -300,7 +302,8 @@ abbrev angle_end : G
 angle_end = perhaps rule.pattern_angle
 
 -- the rest of a pattern is a pattern where one begins
-pattern_whole : (cs : List Class) → heads rule.pattern cs ≡ true → find rules rule.pattern cs ≡ find rules rule.pattern_rest cs
+pattern_whole : (cs : List Class) → heads rule.pattern cs ≡ true
+    → find rules rule.pattern cs ≡ find rules rule.pattern_rest cs
 unfolding find
 pattern_whole [] h = absurd (both_ways _ refl h)
 pattern_whole (c ∷ cs) h = go (rule.is_pattern c) refl
@@ -316,11 +319,13 @@ pattern_whole (c ∷ cs) h = go (rule.is_pattern c) refl
         let begins : opens c ≡ true = sym (ap (λ b. b || opens c) e) ∙ (sym (pattern_first c) ∙ h) in
         let angle_heads : may_begin rule.pattern_angle c ≡ true = angle_first c ∙ begins in
         let stays = find_skips rules rule.pattern_signs (c ∷ cs) (angle_apart c begins) refl in
-        find_other rules (Then (Sign (λ d. rule.is_pattern d && not false)) rule.pattern_rest) rule.pattern_angle (c ∷ cs)
+        find_other rules (Then (Sign (λ d. rule.is_pattern d && not false)) rule.pattern_rest) rule.pattern_angle
+        (c ∷ cs)
         (rw e refl) refl
         ∙ sym (find_then rules rule.pattern_signs angle_end (c ∷ cs)
         ∙ (ap (λ x. and_then x (find rules angle_end)) stays
-        ∙ (front_none (find rules angle_end (c ∷ cs)) ∙ find_first rules rule.pattern_angle Nothing (c ∷ cs) angle_heads)))
+        ∙ (front_none (find rules angle_end (c ∷ cs))
+        ∙ find_first rules rule.pattern_angle Nothing (c ∷ cs) angle_heads)))
 
 pub pattern_reads : (trees : List TokenTree) (result : Result (Bor (List TokenTree)) (Bor (List TokenTree)))
     → heads rule.pattern (classes_in trees) ≡ true → ReadsRule rule.pattern_rest trees result
@@ -349,7 +354,8 @@ but_same : (without : Class → Bool) (trees rest : List TokenTree) (class : Cla
     → find rules (rule.pattern_but without) (classes_in trees) ≡ find rules rule.pattern (classes_in trees)
 but_same without trees rest class b h =
     ap (find rules (rule.pattern_but without)) (classes_sign trees rest class b)
-    ∙ (but_find without class (classes_in rest) h ∙ ap (find rules rule.pattern) (sym (classes_sign trees rest class b)))
+    ∙ (but_find without class (classes_in rest) h
+    ∙ ap (find rules rule.pattern) (sym (classes_sign trees rest class b)))
 
 -- a pattern after a sign with which one may begin
 pattern_more : (trees mid rest : List TokenTree) (class : Class) → BeginsWith trees class mid
@@ -503,7 +509,8 @@ module _ (trees rest : List TokenTree) (class : Class) (b : BeginsWith trees cla
   mut_pattern (Ok (shape, mid)) f =
       let none = no_then signs.SelfValue rule.self_type trees rest class b no_self in
       let found : Finds rule.pattern trees mid.now = f.1 in
-      subst (λ s. LeadsTo rule.after_mut trees (left_of s) mid.now × Finds (front_of (one signs.SelfValue) s) trees mid.now)
+      subst
+      (λ s. LeadsTo rule.after_mut trees (left_of s) mid.now × Finds (front_of (one signs.SelfValue) s) trees mid.now)
       (sym f.0) (
         other_leads (Then (one signs.SelfValue) rule.self_type) rule.typed_pattern rule.typed trees mid.now none refl
             (finds_leads rule.pattern rule.typed trees mid.now found),
@@ -521,7 +528,8 @@ module _ (trees rest : List TokenTree) (class : Class) (b : BeginsWith trees cla
       let none = no_one signs.SelfValue trees rest class b no_self in
       let found : Finds rule.pattern trees mid.now = f.1 in
       subst
-      (λ s. LeadsTo rule.after_and_mut trees (left_of s) mid.now × Finds (front_of (one signs.SelfValue) s) trees mid.now)
+      (λ s. LeadsTo rule.after_and_mut trees (left_of s) mid.now
+      × Finds (front_of (one signs.SelfValue) s) trees mid.now)
       (sym f.0) (
         other_leads (one signs.SelfValue) rule.typed_pattern rule.typed trees mid.now none refl
             (finds_leads rule.pattern rule.typed trees mid.now found),
@@ -570,7 +578,8 @@ module _ (trees rest : List TokenTree) (class : Class) (b : BeginsWith trees cla
         let found : Finds rule.pattern trees mid.now = f.1 in
         let but = same_finds (rule.pattern_but rule.is_shared) rule.pattern trees mid.now
         (but_same rule.is_shared trees rest class b (rw (no_mut, no_and) refl)) found in
-        subst (λ s. LeadsTo rule.named_parameter trees (left_of s) mid.now × Finds (front_of rule.receiver s) trees mid.now)
+        subst
+        (λ s. LeadsTo rule.named_parameter trees (left_of s) mid.now × Finds (front_of rule.receiver s) trees mid.now)
         (sym f.0) (
           other_leads (Then (one signs.SelfValue) rule.self_type) _ rule.typed trees mid.now
               (no_then signs.SelfValue rule.self_type trees rest class b no_self) refl
@@ -711,8 +720,10 @@ type_read trees ty rest f whole = found_reads type starts_type trees ty rest f w
 
 pub dots_read : (trees rest : List TokenTree) → Finds rule.dots trees rest
     → (ended : List TokenTree) × Reads (ByRule rule.dots) trees ended rest
-dots_read trees rest f =
-    (trees_of f.remains.front, found_reads rule.dots starts_dots trees (trees_of f.remains.front) rest f f.remains.whole)
+dots_read trees rest f = (
+  trees_of f.remains.front,
+  found_reads rule.dots starts_dots trees (trees_of f.remains.front) rest f f.remains.whole,
+)
 
 pub ruleset typed_ends = (end_dots, end_dots_sticks, end_type, end_type_sticks, type_read, dots_read)
 
@@ -743,7 +754,9 @@ pub typed_other : (trees rest : List TokenTree) (class : Class) → BeginsWith t
     → is signs.Colon class ≡ false
     → Sticks rule.typed trees trees
 typed_other trees rest class b h =
-    typed_lacks trees (heads_sign rule.typed trees rest class b ∙ (or_nothing (is signs.Colon class) (may_begin (Then (Mark OfType) rule.typed_end) class) ∙ h))
+    typed_lacks trees
+    (heads_sign rule.typed trees rest class b
+    ∙ (or_nothing (is signs.Colon class) (may_begin (Then (Mark OfType) rule.typed_end) class) ∙ h))
 
 pub typed_none : (trees : List TokenTree) → trees ≡ [] → Sticks rule.typed trees trees
 typed_none trees e = typed_lacks trees (heads_none rule.typed trees e)
@@ -757,9 +770,9 @@ pub ruleset ends = (ends_here)
 
 -- ---- parameters without attributes
 
-has_type : (name end : G) (start : IsStart rules follows (name ∷ [])) (trees pattern mid from_end ended rest : List TokenTree)
-    → Finds name trees mid → trees ≡ pattern ++ mid → BeginsWith mid signs.Colon from_end
-    → Reads (ByRule end) from_end ended rest
+has_type : (name end : G) (start : IsStart rules follows (name ∷ []))
+    (trees pattern mid from_end ended rest : List TokenTree) → Finds name trees mid → trees ≡ pattern ++ mid
+    → BeginsWith mid signs.Colon from_end → Reads (ByRule end) from_end ended rest
     → HasType name end trees pattern ended rest
 has_type name end start trees pattern mid from_end ended rest f whole b reads = record {
   from_colon = mid;
@@ -797,8 +810,8 @@ named_kind shapes.Pattern kind trees pattern mid rest f whole h = pattern_kind k
 named_kind shapes.Receiver kind trees pattern mid rest f whole h = self_kind kind trees pattern mid rest f whole h
 named_kind shapes.Reference kind trees pattern mid rest f whole h = self_kind kind trees pattern mid rest f whole h
 
-pub named_finds : (shape : Shape) (trees mid rest : List TokenTree) → LeadsTo rule.named_parameter trees (left_of shape) mid
-    → Finds (left_of shape) mid rest
+pub named_finds : (shape : Shape) (trees mid rest : List TokenTree)
+    → LeadsTo rule.named_parameter trees (left_of shape) mid → Finds (left_of shape) mid rest
     → Finds rule.named_parameter trees rest
 named_finds shape trees mid rest l f = leads_finds rule.named_parameter (left_of shape) trees mid rest l f
 
@@ -873,11 +886,11 @@ whole_sticks trees left h =
     mark_sticks ParameterPart (Then attributes rule.parameter_rest) trees left
     (then_sticks attributes rule.parameter_rest trees left h)
 
-pub whole_parts : (trees after given pattern rest : List TokenTree) (kind : ParameterKind) → Finds attributes trees after
-    → trees ≡ given ++ after → HasKind kind after pattern rest
+pub whole_parts : (trees left given pattern rest : List TokenTree) (kind : ParameterKind) → Finds attributes trees left
+    → trees ≡ given ++ left → HasKind kind left pattern rest
     → (from : List TokenTree) × Reads (ByRule attributes) trees given from × HasKind kind from pattern rest
-whole_parts trees after given pattern rest kind f whole h =
-    (after, found_reads attributes starts_attributes trees given after f whole, h)
+whole_parts trees left given pattern rest kind f whole h =
+    (left, found_reads attributes starts_attributes trees given left f whole, h)
 
 pub ruleset whole = (whole_finds, whole_fails, whole_sticks, whole_parts)
 
