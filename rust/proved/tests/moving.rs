@@ -7,10 +7,11 @@
 #![cfg(feature = "explain")]
 use proved_tokens::check::{advice, explain, Hint};
 use proved_tokens::cursor::TokenBuffer;
+use proved_tokens::error::CompileError;
 use proved_tokens::items::{
-    compile_error, impl_generics, impl_header, impl_header_where, parse_file, parse_param, parse_type_item,
-    split_attributes, split_type, split_visibility, type_generics, where_clause, where_clause_with_bound,
-    within_generics, Attributes, Body, ParamKind,
+    check_entries, compile_error, impl_generics, impl_header, impl_header_where, parse_file, parse_param,
+    parse_parameter, parse_type_item, split_attributes, split_type, split_visibility, type_generics, where_clause,
+    where_clause_with_bound, within_generics, Attributes, Body, Entries, EntryKind, ParamKind, ParameterKind, Parameters,
 };
 use proved_tokens::print::to_pretty_string;
 use proved_tokens::quote::{Hole, Quote};
@@ -108,6 +109,7 @@ fn calls_in_place_of_quotes() -> Outcome {
     let mut quote = Quote::new();
     quote.parse("fn #name() {}", &mut map, &[Hole::one("name", &name)])?;
     assert_eq!(quote.finish()?.to_string(), "fn g () { }");
+    assert_eq!(quote.into_stream().to_string(), "fn g () { }");
 
     assert!(TokenBuffer::new(text)?.begin().ident().is_some());
     let buffer = TokenBuffer::new(text)?;
@@ -143,6 +145,38 @@ fn calls_in_place_of_syns() -> Outcome {
     assert_eq!(compile_error(text, span)?.to_string(), ":: core :: compile_error ! { \"a\" }");
     let error = parse_type_item(path.trees()).err().ok_or("it is no item")?;
     assert_eq!(error.to_compile_error()?.to_string(), ":: core :: compile_error ! { \"not expected here\" }");
+    Ok(())
+}
+
+#[test]
+fn calls_in_place_of_syns_on_attributes_parameters_and_errors() -> Outcome {
+    let stream: TokenStream = "#[a = 1] #[b(skip, c = 2)]".parse()?;
+    let mut attributes = Attributes::new(stream.trees());
+    let attribute = attributes.next().ok_or("no attribute")?;
+    assert!(matches!(attribute.entry()?.kind, EntryKind::Value([TokenTree::Literal(_)])));
+    let attribute = attributes.next().ok_or("no second attribute")?;
+    let EntryKind::List(group) = attribute.entry()?.kind else { panic!("it is a list") };
+    let (trees, known) = (group.stream_ref().trees(), &["skip", "d"]);
+    for entry in Entries::new(group) {
+        let entry = entry?;
+        assert_ne!(entry.is("skip"), entry.is("c"));
+    }
+    let checked = || -> Result<(), CompileError> { Ok(check_entries(trees, known)?) };
+    let mut error = checked().err().ok_or("it is known")?;
+    assert_eq!(error.to_string(), "unknown entry `c`; known are `skip`, `d`");
+
+    let stream: TokenStream = "(&self, x: u8)".parse()?;
+    let TokenTree::Group(group) = &stream.trees()[0] else { panic!("it is a group") };
+    assert_eq!(Parameters::new(group).count(), 2);
+    let trees = group.stream_ref().trees();
+    assert!(matches!(parse_parameter(trees)?.0.kind, ParameterKind::Receiver));
+
+    let (text, span) = ("a", trees[0].span());
+    let mut other = CompileError::new(span, text);
+    other.combine(CompileError::new_spanned(trees, text));
+    error.combine(other);
+    assert_eq!(error.to_string().lines().count(), 3);
+    assert_eq!(error.to_compile_error().trees().len(), 24);
     Ok(())
 }
 
