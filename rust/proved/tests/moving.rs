@@ -11,7 +11,8 @@ use proved_tokens::error::CompileError;
 use proved_tokens::items::{
     check_entries, compile_error, impl_generics, impl_header, impl_header_where, parse_file, parse_param,
     parse_parameter, parse_type_item, split_attributes, split_type, split_visibility, type_generics, where_clause,
-    where_clause_with_bound, within_generics, Attributes, Body, Entries, EntryKind, ParamKind, ParameterKind, Parameters,
+    where_clause_with_bound, within_generics, Attributes, Body, Entries, EntryKind, ParamKind, ParameterKind,
+    Parameters,
 };
 use proved_tokens::print::to_pretty_string;
 use proved_tokens::quote::{Hole, Quote};
