@@ -77,8 +77,8 @@ repeated holes gives depth body span between None = Err (NoList span)
 repeated holes gives depth body span between (Some turns) =
     unless_fault gives between turns (checked holes depth turns body)
 
--- what comes in the place of what has a meaning, where so many repetitions may nest, and groups so deep. In each turn of
--- a repetition every list is its value for the turn, for the repetitions inside too: so it is used up by the outermost
+-- what comes in the place of what has a meaning, where so many repetitions may nest, and groups so deep. In a turn of a
+-- repetition every list is its value for the turn, for the repetitions inside too: so it is used up by the outermost
 -- repetition in which it stands
 abbrev pub comes : ℕ → List Named → ℕ → Interpolation → Outcome
 comes more holes depth (Names name span) = put_in span (filling_of holes name)

@@ -6,7 +6,7 @@ use Rattle.std.specs.Borrow.{Bor}
 use Rattle.std.specs.Char.{is_ascii_digit}
 use Rattle.std.specs.List.{list_all}
 use Rattle.std.specs.Str.{chars}
-use Rattle.pm_token.specs.Escaped.{string_text}
+use Rattle.proc_macro2.specs.Escaped.{string_text}
 use Rattle.proc_macro2.specs.Building.{split}
 use Rattle.proc_macro2.specs.Character.{hash_sign}
 use Rattle.proc_macro2.specs.Extent.{Extent}

@@ -9,7 +9,8 @@ use Rattle.proc_macro2.specs.declared.ParseError.TheVariants as parsing
 use Rattle.quoting.specs.declared.errors.QuoteError.TheVariants.{NoneGroup, LoneQuote, Memory}
 use Rattle.quoting.specs.declared.errors.TemplateError.{TemplateError}
 use Rattle.quoting.specs.declared.errors.TemplateError.TheVariants.{NoHole, LoneList, NoList, UnequalLists}
-use Rattle.quoting.specs.declared.errors.TemplateError.TheVariants.{NotIdent, NotFinite, TooDeep, Parse, Memory as NoMemory}
+use Rattle.quoting.specs.declared.errors.TemplateError.TheVariants.{NotIdent, NotFinite, TooDeep, Parse}
+use Rattle.quoting.specs.declared.errors.TemplateError.TheVariants.{Memory as NoMemory}
 
 -- what the errors of quotes say
 abbrev pub quote_message : QuoteError → List ℕ

@@ -3,9 +3,9 @@ use Rattle.std.specs.Prelude.{ℕ, Bool, true, false, List, [], ◌∷◌, ◌++
 use Rattle.std.specs.Fmt.{decimal, signed_decimal}
 use Rattle.std.specs.Borrow.{Bor}
 use Rattle.std.specs.Str.{chars}
-use Rattle.pm_token.specs.Escaped.{character_text, string_text}
-use Rattle.pm_token.specs.IdentFault.{ident_fault}
-use Rattle.pm_token.specs.declared.identifiers.faults.IdentError.{IdentError}
+use Rattle.proc_macro2.specs.Escaped.{character_text, string_text}
+use Rattle.proc_macro2.specs.IdentFault.{ident_fault}
+use Rattle.proc_macro2.specs.declared.IdentError.{IdentError}
 use Rattle.proc_macro2.specs.Building.{split}
 use Rattle.proc_macro2.specs.Extent.{nowhere}
 use Rattle.proc_macro2.specs.Forest.{Forest, nil}

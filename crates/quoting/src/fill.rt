@@ -1,25 +1,24 @@
 //! Templates whose holes are filled.
 //!
 //! Groups nest no deeper in a template than a limit, so that the functions may call themselves for them.
-ghost use Rattle.std.specs.Prelude.{◌≡◌, All, IfErr, IfOk, Ok, Err, OnOk};
+ghost use Rattle.std.specs.Prelude.{◌≡◌, ◌≤◌, ◌+◌, ◌++◌, ◌∷◌, [], All, IfErr, IfOk, Ok, Err, OnOk, length};
 ghost use Rattle.std.specs.List.{list_all};
 ghost use Rattle.proc_macro2.specs.Forest.{joined};
 ghost use Rattle.proc_macro2.specs.Trees.{forest, GoesInside};
-ghost use Rattle.quoting.specs.Filled.{before_turn, followed, has_meaning, filled_by};
+ghost use Rattle.quoting.specs.Filled.{before_turn, depth_limit, followed, has_meaning, filled_by};
 ghost use Rattle.quoting.specs.Given.{UnlessMemory, apart_before, gives, inside_at, is_fixed, repeats_of, separator_of};
 
 use crate::builder::StreamBuilder;
 use crate::errors::TemplateError;
 use crate::holes::Hole;
-use crate::putting::put_name;
 use crate::interpolation::{FoundInterpolation, Repetition, interpolation_at};
+use crate::putting::put_name;
 use crate::respace::{regrouped, spaced};
 use crate::turns::{checked, turns_of};
 use proc_macro2::{Group, Punct, Spacing, TokenStream, TokenTree};
 use std::alloc::{AllocError, Global};
 
-// The trees with the holes filled, where groups may nest so deep. In a turn of a repetition the turn's stream of each
-// list comes.
+// The trees with the holes filled in these turns of repetitions, where groups may nest so deep.
 #[cycle(filled)]
 pub(crate) fn filled(
     alloc: Global,
@@ -28,6 +27,7 @@ pub(crate) fn filled(
     turns: &[usize],
     depth: usize,
 ) -> Result<TokenStream, TemplateError>
+    requires { length turns.now + depth ≤ depth_limit }
     ensures ok { IfOk result (λ stream. filled_by (gives holes.now turns.now) depth 0 template.now ≡ Ok stream) }
     ensures fault { IfErr result (λ fault.
         UnlessMemory fault (filled_by (gives holes.now turns.now) depth 0 template.now ≡ Err fault)) }
@@ -48,7 +48,8 @@ fn fill_onto(
     turns: &[usize],
     depth: usize,
 ) -> Result<(), TemplateError>
-    requires { All GoesInside template.now }
+    requires inside { All GoesInside template.now }
+    requires few { length turns.now + depth ≤ depth_limit }
     ensures ok { OnOk result (followed (Ok out.old)
         (filled_by (gives holes.now turns.now) depth 0 (forest template.now)) ≡ Ok out.new) }
     ensures fault { IfErr result (λ fault.
@@ -111,6 +112,7 @@ fn filled_inside(
     turns: &[usize],
     depth: usize,
 ) -> Result<TokenStream, TemplateError>
+    requires { length turns.now + depth ≤ depth_limit }
     ensures ok { IfOk result (λ inside. inside_at (gives holes.now turns.now) depth group.now ≡ Ok inside) }
     ensures fault { IfErr result (λ fault.
         UnlessMemory fault (inside_at (gives holes.now turns.now) depth group.now ≡ Err fault)) }
@@ -160,6 +162,7 @@ pub(crate) fn repeat_onto(
     turns: &[usize],
     depth: usize,
 ) -> Result<(), TemplateError>
+    requires { length turns.now + depth ≤ depth_limit }
     ensures ok { OnOk result (followed (Ok out.old)
         (gives holes.now turns.now depth (repeats_of repetition.now)) ≡ Ok out.new) }
     ensures fault { IfErr result (λ fault.
@@ -176,10 +179,36 @@ pub(crate) fn repeat_onto(
     checked(trees, holes, turns, inner, count)?;
     for turn in 0..count {
         separate(out, repetition.separator, turn, trees.len())?;
-        let here = and_turn(alloc, turns, turn)?;
-        fill_onto(alloc, out, trees, holes, here.as_slice(), inner)?;
+        fill_turn(alloc, out, trees, holes, turns, turn, inner)?;
     }
     Ok(())
+}
+
+// Puts the trees with the holes filled in a turn of a repetition after those of the stream. These are the turns of the
+// repetitions outside.
+#[cycle(filled)]
+fn fill_turn(
+    alloc: Global,
+    out: &mut StreamBuilder,
+    template: &[TokenTree],
+    holes: &[Hole<'_>],
+    turns: &[usize],
+    turn: usize,
+    depth: usize,
+) -> Result<(), TemplateError>
+    requires inside { All GoesInside template.now }
+    requires few { length turns.now + (1 + depth) ≤ depth_limit }
+    ensures ok { OnOk result (followed (Ok out.old)
+        (filled_by (gives holes.now (turns.now ++ turn ∷ [])) depth 0 (forest template.now)) ≡ Ok out.new) }
+    ensures fault { IfErr result (λ fault. UnlessMemory fault
+        (filled_by (gives holes.now (turns.now ++ turn ∷ [])) depth 0 (forest template.now) ≡ Err fault)) }
+{
+    // Most repetitions stand in no other, so that no list has to be made.
+    if turns.is_empty() {
+        return fill_onto(alloc, out, template, holes, &[turn], depth);
+    }
+    let here = and_turn(alloc, turns, turn)?;
+    fill_onto(alloc, out, template, holes, here.as_slice(), depth)
 }
 
 // The turns of the repetitions outside, and this one.

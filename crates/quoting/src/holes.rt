@@ -47,7 +47,8 @@ impl<'a> Hole<'a> {
 
     /// The hole `#name`, which stands for the next of these streams in each turn of a repetition.
     pub fn each(name: &'a str, streams: &'a [TokenStream]) -> Hole<'a>
-        ensures { named result ≡ record { name = chars name.now; filling = EachStream (each_of OneStream streams.now) } }
+        ensures { named result
+            ≡ record { name = chars name.now; filling = EachStream (each_of OneStream streams.now) } }
     {
         Hole {
             name,
@@ -71,7 +72,7 @@ impl<'a> Hole<'a> {
 impl<'a> Filling<'a> {
     // What it is in a turn of a repetition: the value of a list for the turn, or else itself.
     fn in_turn(self, turn: usize) -> Filling<'a>
-        ensures { filling_by result ≡ in_turn turn (filling_by self) }
+        ensures { filling_by result ≡ in_turn turn (filling_by self.entry) }
     {
         match self.value_at(turn) {
             Some(value) => value,
@@ -80,8 +81,9 @@ impl<'a> Filling<'a> {
     }
 
     // The value of a list for a turn.
+    #[tactic(auto, using(crate::proofs::ItemLemmas::item_at_each))]
     fn value_at(self, turn: usize) -> Option<Filling<'a>>
-        ensures { looked_up result ≡ value_at turn (filling_by self) }
+        ensures { looked_up result ≡ value_at turn (filling_by self.entry) }
     {
         match self {
             Filling::Each(streams) => Some(Filling::One(streams.get(turn)?)),
@@ -95,8 +97,9 @@ impl<'a> Filling<'a> {
     }
 
     // How many values the list has, if it is one.
+    #[tactic(auto, using(crate::proofs::ItemLemmas::item_count_each))]
     pub(crate) fn len(self) -> Option<usize>
-        ensures { result ≡ list_length (Some (filling_by self)) }
+        ensures { result ≡ list_length (Some (filling_by self.entry)) }
     {
         match self {
             Filling::Each(streams) => Some(streams.len()),
@@ -111,6 +114,7 @@ impl<'a> Filling<'a> {
 }
 
 // The value for a turn, if the value is a list.
+#[tactic(auto, using(crate::proofs::ItemLemmas::item_at_each))]
 fn list_value<'a>(value: &'a Value<'a>, turn: usize) -> Option<Filling<'a>>
     ensures { looked_up result ≡ value_at turn (value_of value.now) }
 {
@@ -126,6 +130,7 @@ fn list_value<'a>(value: &'a Value<'a>, turn: usize) -> Option<Filling<'a>>
 }
 
 // How many values it has, if it is a list.
+#[tactic(auto, using(crate::proofs::ItemLemmas::item_count_each))]
 fn list_len(value: &Value<'_>) -> Option<usize>
     ensures { result ≡ list_length (Some (value_of value.now)) }
 {
@@ -181,6 +186,7 @@ impl<'a> HoleName<'a> {
     }
 
     // What the first hole of this name stands for in these turns.
+    #[tactic(auto, using(crate::proofs::ItemLemmas::filling_begun))]
     pub(crate) fn filling<'h>(&self, holes: &[Hole<'h>], turns: &[usize]) -> Option<Filling<'h>>
         ensures { looked_up result ≡ filling_of (in_turns holes.now turns.now) (text_of self.now) }
     {

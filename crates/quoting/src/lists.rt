@@ -20,8 +20,9 @@ impl<'a> Values<'a> {
     /// dropped.
     ///
     /// With the lists of `1u8` and of nothing in it, `#( f(#( #x ),*) );*` is `f(1u8); f()`.
+    #[tactic(auto, using(crate::proofs::ItemLemmas::each_push))]
     pub fn push(&mut self, value: Value<'a>) -> Result<(), AllocError>
-        ensures ok { OnOk result (self.new ≡ and_last self.old (value_of value)) }
+        ensures ok { OnOk result (self.new ≡ and_last self.old (value_of value.entry)) }
         ensures err { OnErr result (self.new ≡ self.old) }
     {
         self.list.push(value)?;
@@ -29,6 +30,7 @@ impl<'a> Values<'a> {
     }
 
     // How many values there are.
+    #[tactic(auto, using(crate::proofs::ItemLemmas::item_count_each))]
     pub(crate) fn len(&self) -> usize
         ensures { result ≡ item_count self.now }
     {
@@ -36,6 +38,7 @@ impl<'a> Values<'a> {
     }
 
     // The value at this index, from 0.
+    #[tactic(auto, using(crate::proofs::ItemLemmas::item_at_each))]
     pub(crate) fn get(&self, index: usize) -> Option<&Value<'a>>
         ensures { MatchOption result (item_at index self.now ≡ None)
             (λ value. item_at index self.now ≡ Some (value_of value.now)) }

@@ -1,10 +1,10 @@
 //! Templates that belong to no one else: their lists are filled where they stand.
 //!
 //! Groups nest no deeper in a template than a limit, so that the functions may call themselves for them.
-ghost use Rattle.std.specs.Prelude.{◌≡◌, IfErr, IfOk, Ok, Err, OnOk, []};
+ghost use Rattle.std.specs.Prelude.{◌≡◌, ◌≤◌, [], IfErr, IfOk, Ok, Err, OnOk};
 ghost use Rattle.proc_macro2.specs.Forest.{Forest, IsBuilt};
 ghost use Rattle.proc_macro2.specs.Trees.{alone, forest, GoesInside};
-ghost use Rattle.quoting.specs.Filled.{followed, filled_by};
+ghost use Rattle.quoting.specs.Filled.{depth_limit, followed, filled_by};
 ghost use Rattle.quoting.specs.Given.{Settles, UnlessMemory, apart, apart_before, gives, inside_at, inside_tree};
 
 use crate::builder::StreamBuilder;
@@ -27,6 +27,7 @@ pub(crate) fn filled_in_place(
     holes: &[Hole<'_>],
     depth: usize,
 ) -> Result<TokenStream, TemplateError>
+    requires { depth ≤ depth_limit }
     ensures ok { IfOk result (λ stream. filled_by (gives holes.now []) depth 0 template ≡ Ok stream) }
     ensures fault { IfErr result (λ fault.
         UnlessMemory fault (filled_by (gives holes.now []) depth 0 template ≡ Err fault)) }
@@ -60,7 +61,8 @@ fn fill_rest(
     holes: &[Hole<'_>],
     depth: usize,
 ) -> Result<(), TemplateError>
-    requires { IsBuilt (forest rest.items) }
+    requires built { IsBuilt (forest rest.items) }
+    requires few { depth ≤ depth_limit }
     ensures ok { OnOk result (followed (Ok out.old)
         (filled_by (gives holes.now []) depth 0 (forest rest.items)) ≡ Ok out.new) }
     ensures fault { IfErr result (λ fault.
@@ -102,7 +104,8 @@ fn settle(
     holes: &[Hole<'_>],
     depth: usize,
 ) -> Result<(), TemplateError>
-    requires { GoesInside tree.old }
+    requires inside { GoesInside tree.old }
+    requires few { depth ≤ depth_limit }
     ensures ok { OnOk result (Settles (gives holes.now []) depth apart tree.old tree.new) }
     ensures inside { OnOk result (GoesInside tree.new) }
     ensures built { OnOk result (IsBuilt (alone tree.new)) }
@@ -125,7 +128,8 @@ fn change(
     holes: &[Hole<'_>],
     depth: usize,
 ) -> Result<(), TemplateError>
-    requires { GoesInside tree.old }
+    requires inside { GoesInside tree.old }
+    requires few { depth ≤ depth_limit }
     ensures ok { OnOk result (Settles (gives holes.now []) depth apart tree.old tree.new) }
     ensures inside { OnOk result (GoesInside tree.new) }
     ensures fault { IfErr result (λ fault.
@@ -151,6 +155,7 @@ fn fill_group(
     holes: &[Hole<'_>],
     depth: usize,
 ) -> Result<(), TemplateError>
+    requires { depth ≤ depth_limit }
     ensures ok { OnOk result ((inside : Forest) × (inside_at (gives holes.now []) depth group.old ≡ Ok inside)
         × (group.new ≡ record group.old { stream = inside })) }
     ensures fault { IfErr result (λ fault.

@@ -1,20 +1,24 @@
 //! What comes in the place of a hole is put in.
-ghost use Rattle.std.specs.Prelude.{◌≡◌, IfErr, IfOk, Ok, Err, OnOk, Some};
+ghost use Rattle.std.specs.Prelude.{◌≡◌, false, IfErr, IfOk, Ok, Err, OnOk, Some};
 ghost use Rattle.std.specs.Str.{chars};
-ghost use Rattle.pm_token.specs.Negative.{has_minus};
+ghost use Rattle.proc_macro2.specs.Negative.{has_minus};
 ghost use Rattle.proc_macro2.specs.Building.{split};
 ghost use Rattle.proc_macro2.specs.Extent.{nowhere};
 ghost use Rattle.proc_macro2.specs.Forest.{joined};
-ghost use Rattle.proc_macro2.specs.declared.TokenTree.TheVariants.{Literal as LiteralTree};
+ghost use Rattle.proc_macro2.specs.IdentFault.{ident_fault};
+ghost use Rattle.proc_macro2.specs.Trees.{alone};
+ghost use Rattle.proc_macro2.specs.declared.TokenTree.TheVariants.{Ident as IdentTree, Literal as LiteralTree};
 ghost use Rattle.quoting.specs.Filled.{followed};
 ghost use Rattle.quoting.specs.Given.{UnlessMemory, filling_by, in_turns, span_of, text_of};
 ghost use Rattle.quoting.specs.Holes.{filling_of, put_in};
-ghost use Rattle.quoting.specs.Values.{number_text, plain_name, truth_text, value_of};
+ghost use Rattle.quoting.specs.Items.{One};
+ghost use Rattle.quoting.specs.Values.{name_unless, number_text, plain_name, truth_text, value_of};
 
 use crate::builder::StreamBuilder;
 use crate::errors::TemplateError;
 use crate::holes::{Filling, Hole, HoleName};
 use crate::values::{Number, Value};
+use pm_stream::parts;
 use proc_macro2::{Ident, IdentError, Literal, Span, TokenStream, TokenTree};
 use std::alloc::{AllocError, Global};
 
@@ -48,9 +52,9 @@ fn put_filling(
     span: Span,
     more: usize,
 ) -> Result<(), TemplateError>
-    ensures ok { OnOk result (followed (Ok out.old) (put_in span (Some (filling_by filling))) ≡ Ok out.new) }
+    ensures ok { OnOk result (followed (Ok out.old) (put_in span (Some (filling_by filling.entry))) ≡ Ok out.new) }
     ensures fault { IfErr result (λ fault.
-        UnlessMemory fault (put_in span (Some (filling_by filling)) ≡ Err fault)) }
+        UnlessMemory fault (put_in span (Some (filling_by filling.entry)) ≡ Err fault)) }
 {
     match filling {
         Filling::One(stream) => Ok(out.append(stream, more)?),
@@ -83,11 +87,7 @@ fn put_value(
         Value::OwnedTree(tree) => Ok(put_tree(alloc, out, tree, more)?),
         Value::Ident(ident) => Ok(out.put(TokenTree::Ident((*ident).clone()?), more)?),
         Value::Literal(literal) => Ok(put_literal(alloc, out, (*literal).clone()?, more)?),
-        Value::Name(name) => match Ident::new(alloc, name, Span::call_site()) {
-            Ok(ident) => Ok(out.put(TokenTree::Ident(ident), more)?),
-            Err(IdentError::Memory(error)) => Err(TemplateError::Memory(error)),
-            Err(_) => Err(TemplateError::NotIdent(span)),
-        },
+        Value::Name(name) => { Ok(out.put(TokenTree::Ident(ident_of(alloc, name, span)?), more)?) }
         Value::Boolean(truth) => Ok(put_truth(alloc, out, *truth, more)?),
         Value::NotFinite => Err(TemplateError::NotFinite(span)),
         Value::String(text) => Ok(put_literal(alloc, out, Literal::string(alloc, text)?, more)?),
@@ -104,6 +104,29 @@ fn put_value(
     }
 }
 
+// The identifier with this name. The name of its hole has this span.
+fn ident_of(alloc: Global, name: &str, span: Span) -> Result<Ident, TemplateError>
+    ensures ok { IfOk result (λ ident. name_unless (ident_fault false (chars name.now)) (chars name.now)
+        ≡ One (alone (IdentTree ident))) }
+    ensures fault { IfErr result (λ fault. UnlessMemory fault
+        (put_in span (Some (name_unless (ident_fault false (chars name.now)) (chars name.now))) ≡ Err fault)) }
+{
+    match Ident::new(alloc, name, Span::call_site()) {
+        Ok(ident) => Ok(ident),
+        Err(IdentError::Memory(error)) => Err(TemplateError::Memory(error)),
+        Err(IdentError::Empty | IdentError::Number | IdentError::Invalid | IdentError::Reserved) =>
+            Err(TemplateError::NotIdent(span)),
+    }
+}
+
+// The name of a truth value.
+#[tactic(auto, using(crate::proofs::NameLemmas::true_chars, crate::proofs::NameLemmas::false_chars))]
+fn truth_name(truth: bool) -> &'static str
+    ensures { chars result.now ≡ truth_text truth }
+{
+    if truth { "true" } else { "false" }
+}
+
 // Puts the identifier `true` or `false` after the trees of the stream.
 fn put_truth(
     alloc: Global,
@@ -113,8 +136,7 @@ fn put_truth(
 ) -> Result<(), AllocError>
     ensures { OnOk result (out.new ≡ joined out.old (plain_name (truth_text truth))) }
 {
-    let name = if truth { "true" } else { "false" };
-    match Ident::new(alloc, name, Span::call_site()) {
+    match Ident::new(alloc, truth_name(truth), Span::call_site()) {
         Ok(ident) => out.put(TokenTree::Ident(ident), more),
         Err(_) => Err(AllocError),
     }
@@ -165,9 +187,9 @@ fn put_literal(
     ensures { OnOk result (out.new ≡ joined out.old (split (LiteralTree literal))) }
 {
     if has_minus(literal.text()) {
-        let mut parts = TokenStream::new(alloc);
-        parts.extend_trees([TokenTree::Literal(literal)])?;
-        return out.append(&parts, more);
+        let mut both = TokenStream::new(alloc);
+        parts::put_literal(&mut both, literal)?;
+        return out.append(&both, more);
     }
     // It computes nothing: proofs learn what the text of every literal is.
     literal.span();

@@ -98,11 +98,12 @@ impl<'a> Model for Values<'a> {
     ghost use Rattle.std.proofs.Common.{arith};
     ghost use Rattle.quoting.specs.Items.{height};
     ghost use Rattle.quoting.specs.Values.{values_of};
-    ghost use Rattle.quoting.specs.InnerHeight.{most_le-height};
 
     ghost view = { λ values. values_of values.list.items };
 
     ghost size = { height };
+
+    ghost use Rattle.quoting.specs.InnerHeight.{most_le-height};
 
     ghost size_decreases = { λ a h. omega (arith, most_le-height a.list.items) };
 }

@@ -389,13 +389,7 @@ fn a_list_is_found_deeper_than_groups_may_nest(rt: HostRuntime) -> Result<(), Fa
         ),
         // At one pair of parentheses depth comes before lists.
         ("", "#( #x )*", "", 64, (too_deep, 65, 71)),
-        (
-            "",
-            "#( #two #( #x )* )*",
-            "",
-            63,
-            (too_deep, 72, 78),
-        ),
+        ("", "#( #two #( #x )* )*", "", 63, (too_deep, 72, 78)),
         ("", "#( #two [#x] )*", "", 63, (too_deep, 71, 75)),
     ];
     for (before, inside, after, levels, want) in rows {

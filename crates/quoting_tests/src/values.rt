@@ -8,7 +8,11 @@ use std::test::Fail;
 // What the template prints with this value for `x`.
 fn printed(alloc: Global, template: &str, value: &Value<'_>) -> Result<String, Fail> {
     let mut quote = Quote::new(alloc);
-    quote.parse(template, &mut SourceMap::new(alloc), &[Hole::of("x", value)])?;
+    quote.parse(
+        template,
+        &mut SourceMap::new(alloc),
+        &[Hole::of("x", value)],
+    )?;
     let stream = quote.into_stream();
     Ok(format!(in alloc; "{stream}")?)
 }
@@ -48,7 +52,10 @@ fn values_of_every_kind_are_put_in(rt: HostRuntime) -> Result<(), Fail> {
         (Value::Stream(&stream), "(c + d , c + d)"),
         (Value::OwnedStream(stream.clone()?), "(c + d , c + d)"),
         (Value::Tree(&tree), "(- 4i8 , - 4i8)"),
-        (Value::OwnedTree(TokenTree::Ident(word(alloc, "e")?)), "(e , e)"),
+        (
+            Value::OwnedTree(TokenTree::Ident(word(alloc, "e")?)),
+            "(e , e)",
+        ),
         (Value::Ident(&ident), "(a , a)"),
         (Value::Literal(&literal), "(\"b\" , \"b\")"),
         (Value::Literal(&negative), "(- 3 , - 3)"),
@@ -72,13 +79,19 @@ fn numbers_have_their_suffix(rt: HostRuntime) -> Result<(), Fail> {
         (Number::U16(7), "7u16"),
         (Number::U32(7), "7u32"),
         (Number::U64(u64::MAX), "18446744073709551615u64"),
-        (Number::U128(u128::MAX), "340282366920938463463374607431768211455u128"),
+        (
+            Number::U128(u128::MAX),
+            "340282366920938463463374607431768211455u128",
+        ),
         (Number::Usize(0), "0usize"),
         (Number::I8(i8::MIN), "- 128i8"),
         (Number::I16(-7), "- 7i16"),
         (Number::I32(7), "7i32"),
         (Number::I64(-7), "- 7i64"),
-        (Number::I128(i128::MIN), "- 170141183460469231731687303715884105728i128"),
+        (
+            Number::I128(i128::MIN),
+            "- 170141183460469231731687303715884105728i128",
+        ),
         (Number::Isize(-1), "- 1isize"),
     ];
     for &(number, want) in &rows {
@@ -89,7 +102,9 @@ fn numbers_have_their_suffix(rt: HostRuntime) -> Result<(), Fail> {
 }
 
 #[test]
-fn a_value_that_is_no_token_is_an_error_at_the_name_of_its_hole(rt: HostRuntime) -> Result<(), Fail> {
+fn a_value_that_is_no_token_is_an_error_at_the_name_of_its_hole(
+    rt: HostRuntime,
+) -> Result<(), Fail> {
     let alloc = rt.alloc();
     let rows = [
         Value::Name("1"),
@@ -120,7 +135,10 @@ fn lists_of_every_kind_are_repeated(rt: HostRuntime) -> Result<(), Fail> {
     let alloc = rt.alloc();
     let stream = TokenStream::from_str("a; b", &mut SourceMap::new(alloc))?;
     let idents = [word(alloc, "a")?, word(alloc, "b")?];
-    let literals = [Literal::string(alloc, "a")?, Literal::i8_unsuffixed(alloc, -1)?];
+    let literals = [
+        Literal::string(alloc, "a")?,
+        Literal::i8_unsuffixed(alloc, -1)?,
+    ];
     let streams = [stream.clone()?, TokenStream::new(alloc)];
     let mut list = Values::new(alloc);
     list.push(Value::Number(Number::U8(1)))?;
@@ -156,7 +174,11 @@ fn repetitions_are_nested(rt: HostRuntime) -> Result<(), Fail> {
     let values = rows(alloc)?;
     let names = Value::Strings(&["n", "m"]);
     let all = Value::Name("z");
-    let holes = [Hole::of("value", &values), Hole::of("name", &names), Hole::of("all", &all)];
+    let holes = [
+        Hole::of("value", &values),
+        Hole::of("name", &names),
+        Hole::of("all", &all),
+    ];
     let rows = [
         (
             "#( #name: [ #( #value ),* ] );*",

@@ -8,15 +8,14 @@ use crate::shim::prelude::{Grow, GrowList, TryClone};
 use crate::quoting::builder::StreamBuilder;
 use crate::quoting::errors::TemplateError;
 use crate::quoting::holes::Hole;
-use crate::quoting::putting::put_name;
 use crate::quoting::interpolation::{FoundInterpolation, Repetition, interpolation_at};
+use crate::quoting::putting::put_name;
 use crate::quoting::respace::{regrouped, spaced};
 use crate::quoting::turns::{checked, turns_of};
 use crate::proc_macro2::{Group, Punct, Spacing, TokenStream, TokenTree};
 use crate::shim::alloc::AllocError;
 
-// The trees with the holes filled, where groups may nest so deep. In a turn of a repetition the turn's stream of each
-// list comes.
+// The trees with the holes filled in these turns of repetitions, where groups may nest so deep.
 pub(crate) fn filled(
     template: &TokenStream,
     holes: &[Hole<'_>],
@@ -146,10 +145,28 @@ pub(crate) fn repeat_onto(
     checked(trees, holes, turns, inner, count)?;
     for turn in 0..count {
         separate(out, repetition.separator, turn, trees.len())?;
-        let here = and_turn(turns, turn)?;
-        fill_onto(out, trees, holes, here.as_slice(), inner)?;
+        fill_turn(out, trees, holes, turns, turn, inner)?;
     }
     Ok(())
+}
+
+// Puts the trees with the holes filled in a turn of a repetition after those of the stream. These are the turns of the
+// repetitions outside.
+fn fill_turn(
+    out: &mut StreamBuilder,
+    template: &[TokenTree],
+    holes: &[Hole<'_>],
+    turns: &[usize],
+    turn: usize,
+    depth: usize,
+) -> Result<(), TemplateError>
+{
+    // Most repetitions stand in no other, so that no list has to be made.
+    if turns.is_empty() {
+        return fill_onto(out, template, holes, &[turn], depth);
+    }
+    let here = and_turn(turns, turn)?;
+    fill_onto(out, template, holes, here.as_slice(), depth)
 }
 
 // The turns of the repetitions outside, and this one.

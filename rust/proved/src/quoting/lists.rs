@@ -28,7 +28,7 @@ impl<'a> Values<'a> {
     ///
     /// # Contract
     ///
-    /// - `ensures ok`: <code>[OnOk] result (self.new ≡ [and_last] self.old ([value_of] value))</code>
+    /// - `ensures ok`: <code>[OnOk] result (self.new ≡ [and_last] self.old ([value_of] value.entry))</code>
     /// - `ensures err`: <code>[OnErr] result (self.new ≡ self.old)</code>
     ///
     /// [OnOk]: crate::contracts#std.OnOk

@@ -7,6 +7,7 @@ use crate::quoting::builder::StreamBuilder;
 use crate::quoting::errors::TemplateError;
 use crate::quoting::holes::{Filling, Hole, HoleName};
 use crate::quoting::values::{Number, Value};
+use crate::pm_stream::parts;
 use crate::proc_macro2::{Ident, IdentError, Literal, Span, TokenStream, TokenTree};
 use crate::shim::alloc::AllocError;
 
@@ -62,11 +63,7 @@ fn put_value(
         Value::OwnedTree(tree) => Ok(put_tree(out, tree, more)?),
         Value::Ident(ident) => Ok(out.put(TokenTree::Ident((*ident).try_clone()?), more)?),
         Value::Literal(literal) => Ok(put_literal(out, (*literal).try_clone()?, more)?),
-        Value::Name(name) => match Ident::new(name, Span::call_site()) {
-            Ok(ident) => Ok(out.put(TokenTree::Ident(ident), more)?),
-            Err(IdentError::Memory(error)) => Err(TemplateError::Memory(error)),
-            Err(_) => Err(TemplateError::NotIdent(span)),
-        },
+        Value::Name(name) => { Ok(out.put(TokenTree::Ident(ident_of(name, span)?), more)?) }
         Value::Boolean(truth) => Ok(put_truth(out, *truth, more)?),
         Value::NotFinite => Err(TemplateError::NotFinite(span)),
         Value::String(text) => Ok(put_literal(out, Literal::string(text)?, more)?),
@@ -83,6 +80,23 @@ fn put_value(
     }
 }
 
+// The identifier with this name. The name of its hole has this span.
+fn ident_of(name: &str, span: Span) -> Result<Ident, TemplateError>
+{
+    match Ident::new(name, Span::call_site()) {
+        Ok(ident) => Ok(ident),
+        Err(IdentError::Memory(error)) => Err(TemplateError::Memory(error)),
+        Err(IdentError::Empty | IdentError::Number | IdentError::Invalid | IdentError::Reserved) =>
+            Err(TemplateError::NotIdent(span)),
+    }
+}
+
+// The name of a truth value.
+fn truth_name(truth: bool) -> &'static str
+{
+    if truth { "true" } else { "false" }
+}
+
 // Puts the identifier `true` or `false` after the trees of the stream.
 fn put_truth(
     out: &mut StreamBuilder,
@@ -90,8 +104,7 @@ fn put_truth(
     more: usize,
 ) -> Result<(), AllocError>
 {
-    let name = if truth { "true" } else { "false" };
-    match Ident::new(name, Span::call_site()) {
+    match Ident::new(truth_name(truth), Span::call_site()) {
         Ok(ident) => out.put(TokenTree::Ident(ident), more),
         Err(_) => Err(AllocError::met()),
     }
@@ -137,9 +150,9 @@ fn put_literal(
 ) -> Result<(), AllocError>
 {
     if has_minus(literal.text()) {
-        let mut parts = TokenStream::new();
-        parts.extend_trees([TokenTree::Literal(literal)])?;
-        return out.append(&parts, more);
+        let mut both = TokenStream::new();
+        parts::put_literal(&mut both, literal)?;
+        return out.append(&both, more);
     }
     // It computes nothing: proofs learn what the text of every literal is.
     literal.span();

@@ -64,11 +64,12 @@ impl Quote {
         self.pushed.extend_streams([stream])
     }
 
-    /// The stream of exactly what was pushed: groups without delimiters stay, and so do all spacings and spans. It takes
-    /// no memory.
+    /// The stream of exactly what was pushed: groups without delimiters stay, and so do all spacings and spans.
     ///
-    /// It is the answer of a macro, which the compiler reads as trees. It need not come back from its printed text; use
-    /// `finish` for that.
+    /// It takes no memory. It is the answer of a macro, which the compiler reads as trees, and need not come back from
+    /// its printed text; use `finish` for that.
+    ///
+    /// Of `+` Joint and the identifier `a` it is `+` Joint and `a`.
     ///
     /// # Contract
     ///

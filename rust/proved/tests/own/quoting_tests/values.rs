@@ -11,7 +11,11 @@ use crate::shim::test::Fail;
 // What the template prints with this value for `x`.
 fn printed(template: &str, value: &Value<'_>) -> Result<String, Fail> {
     let mut quote = Quote::new();
-    quote.parse(template, &mut SourceMap::new(), &[Hole::of("x", value)])?;
+    quote.parse(
+        template,
+        &mut SourceMap::new(),
+        &[Hole::of("x", value)],
+    )?;
     let stream = quote.into_stream();
     Ok(format!("{stream}")?)
 }
@@ -50,7 +54,10 @@ fn values_of_every_kind_are_put_in() -> Result<(), Fail> {
         (Value::Stream(&stream), "(c + d , c + d)"),
         (Value::OwnedStream(stream.try_clone()?), "(c + d , c + d)"),
         (Value::Tree(&tree), "(- 4i8 , - 4i8)"),
-        (Value::OwnedTree(TokenTree::Ident(word("e")?)), "(e , e)"),
+        (
+            Value::OwnedTree(TokenTree::Ident(word("e")?)),
+            "(e , e)",
+        ),
         (Value::Ident(&ident), "(a , a)"),
         (Value::Literal(&literal), "(\"b\" , \"b\")"),
         (Value::Literal(&negative), "(- 3 , - 3)"),
@@ -75,13 +82,19 @@ fn numbers_have_their_suffix() -> Result<(), Fail> {
         (Number::U16(7), "7u16"),
         (Number::U32(7), "7u32"),
         (Number::U64(u64::MAX), "18446744073709551615u64"),
-        (Number::U128(u128::MAX), "340282366920938463463374607431768211455u128"),
+        (
+            Number::U128(u128::MAX),
+            "340282366920938463463374607431768211455u128",
+        ),
         (Number::Usize(0), "0usize"),
         (Number::I8(i8::MIN), "- 128i8"),
         (Number::I16(-7), "- 7i16"),
         (Number::I32(7), "7i32"),
         (Number::I64(-7), "- 7i64"),
-        (Number::I128(i128::MIN), "- 170141183460469231731687303715884105728i128"),
+        (
+            Number::I128(i128::MIN),
+            "- 170141183460469231731687303715884105728i128",
+        ),
         (Number::Isize(-1), "- 1isize"),
     ];
     for &(number, want) in &rows {
@@ -123,7 +136,10 @@ fn lists_of_every_kind_are_repeated() -> Result<(), Fail> {
     let rt = HostRuntime;
     let stream = TokenStream::from_str("a; b", &mut SourceMap::new())?;
     let idents = [word("a")?, word("b")?];
-    let literals = [Literal::string("a")?, Literal::i8_unsuffixed(-1)?];
+    let literals = [
+        Literal::string("a")?,
+        Literal::i8_unsuffixed(-1)?,
+    ];
     let streams = [stream.try_clone()?, TokenStream::new()];
     let mut list = Values::new();
     list.push(Value::Number(Number::U8(1)))?;
@@ -159,7 +175,11 @@ fn repetitions_are_nested() -> Result<(), Fail> {
     let values = rows()?;
     let names = Value::Strings(&["n", "m"]);
     let all = Value::Name("z");
-    let holes = [Hole::of("value", &values), Hole::of("name", &names), Hole::of("all", &all)];
+    let holes = [
+        Hole::of("value", &values),
+        Hole::of("name", &names),
+        Hole::of("all", &all),
+    ];
     let rows = [
         (
             "#( #name: [ #( #value ),* ] );*",
