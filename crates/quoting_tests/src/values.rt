@@ -6,26 +6,24 @@ use std::process::Abort;
 use std::test::Fail;
 
 // What the template prints with this value for `x`.
-fn printed(alloc: Global, template: &str, value: &Value<'_>) -> Result<String, Fail> {
+fn printed<'a>(alloc: Global, template: &str, value: &'a Value<'a>) -> Result<String, Fail> {
     let mut quote = Quote::new(alloc);
-    quote.parse(
-        template,
-        &mut SourceMap::new(alloc),
-        &[Hole::of("x", value)],
-    )?;
+    let holes = [Hole::of("x", value)];
+    quote.parse(template, &mut SourceMap::new(alloc), &holes)?;
     let stream = quote.into_stream();
     Ok(format!(in alloc; "{stream}")?)
 }
 
 // The fault of the template with this value for `x`, the column where it is, and how many trees the quote has then.
-fn fault(
+fn fault<'a>(
     alloc: Global,
     template: &str,
-    value: &Value<'_>,
+    value: &'a Value<'a>,
 ) -> Result<Option<(TemplateError, Option<usize>, usize)>, Fail> {
     let mut quote = Quote::new(alloc);
     let mut map = SourceMap::new(alloc);
-    let Err(fault) = quote.parse(template, &mut map, &[Hole::of("x", value)]) else {
+    let holes = [Hole::of("x", value)];
+    let Err(fault) = quote.parse(template, &mut map, &holes) else {
         return Ok(None);
     };
     let column = match fault.span() {
@@ -39,37 +37,56 @@ fn word(alloc: Global, text: &str) -> Result<Ident, Fail> {
     Ok(Ident::new(alloc, text, Span::call_site())?)
 }
 
-#[test]
-fn values_of_every_kind_are_put_in(rt: HostRuntime) -> Result<(), Fail> {
-    let alloc = rt.alloc();
-    let ident = word(alloc, "a")?;
-    let literal = Literal::string(alloc, "b")?;
-    let negative = Literal::i8_unsuffixed(alloc, -3)?;
-    let tree = TokenTree::Literal(Literal::i8_suffixed(alloc, -4)?);
-    let stream = TokenStream::from_str("c + d", &mut SourceMap::new(alloc))?;
-    let rows = [
-        (Value::Nothing, "(,)"),
-        (Value::Stream(&stream), "(c + d , c + d)"),
-        (Value::OwnedStream(stream.clone()?), "(c + d , c + d)"),
-        (Value::Tree(&tree), "(- 4i8 , - 4i8)"),
-        (
-            Value::OwnedTree(TokenTree::Ident(word(alloc, "e")?)),
-            "(e , e)",
-        ),
-        (Value::Ident(&ident), "(a , a)"),
-        (Value::Literal(&literal), "(\"b\" , \"b\")"),
-        (Value::Literal(&negative), "(- 3 , - 3)"),
-        (Value::Name("fn"), "(fn , fn)"),
-        (Value::String("\"\n"), "(\"\\\"\\n\" , \"\\\"\\n\")"),
-        (Value::Character('\''), "('\\'' , '\\'')"),
-        (Value::Boolean(true), "(true , true)"),
-        (Value::Boolean(false), "(false , false)"),
-    ];
-    for (value, want) in &rows {
-        let text = printed(alloc, "(#x, #x)", value)?;
-        assert_eq!(rt; text.as_str(), *want);
-    }
+/// Asserts what the template prints with this value for `x`.
+fn check<'a>(
+    rt: &(impl Abort + AllocGlobal),
+    template: &str,
+    value: &'a Value<'a>,
+    want: &str,
+) -> Result<(), Fail> {
+    let text = printed(rt.alloc(), template, value)?;
+    assert_eq!(rt; text.as_str(), want, "of {template:?}");
     Ok(())
+}
+
+#[test]
+fn streams_and_trees_are_put_in(rt: HostRuntime) -> Result<(), Fail> {
+    let stream = TokenStream::from_str("c + d", &mut SourceMap::new(rt.alloc()))?;
+    check(&rt, "(#x, #x)", &Value::Stream(&stream), "(c + d , c + d)")?;
+    check(
+        &rt,
+        "(#x, #x)",
+        &Value::OwnedStream(stream),
+        "(c + d , c + d)",
+    )?;
+    let tree = TokenTree::Literal(Literal::i8_suffixed(rt.alloc(), -4)?);
+    check(&rt, "(#x, #x)", &Value::Tree(&tree), "(- 4i8 , - 4i8)")?;
+    check(&rt, "(#x, #x)", &Value::OwnedTree(tree), "(- 4i8 , - 4i8)")
+}
+
+#[test]
+fn tokens_are_put_in(rt: HostRuntime) -> Result<(), Fail> {
+    let ident = word(rt.alloc(), "a")?;
+    check(&rt, "(#x, #x)", &Value::Ident(&ident), "(a , a)")?;
+    let literal = Literal::string(rt.alloc(), "b")?;
+    check(
+        &rt,
+        "(#x, #x)",
+        &Value::Literal(&literal),
+        "(\"b\" , \"b\")",
+    )?;
+    let negative = Literal::i8_unsuffixed(rt.alloc(), -3)?;
+    check(&rt, "(#x, #x)", &Value::Literal(&negative), "(- 3 , - 3)")
+}
+
+#[test]
+fn texts_and_truth_values_are_put_in(rt: HostRuntime) -> Result<(), Fail> {
+    check(&rt, "(#x, #x)", &Value::Nothing, "(,)")?;
+    check(&rt, "(#x, #x)", &Value::Name("fn"), "(fn , fn)")?;
+    check(&rt, "#x", &Value::String("\"\n"), "\"\\\"\\n\"")?;
+    check(&rt, "#x", &Value::Character('\''), "'\\''")?;
+    check(&rt, "(#x, #x)", &Value::Boolean(true), "(true , true)")?;
+    check(&rt, "(#x, #x)", &Value::Boolean(false), "(false , false)")
 }
 
 #[test]
@@ -160,18 +177,25 @@ fn lists_of_every_kind_are_repeated(rt: HostRuntime) -> Result<(), Fail> {
 
 // A list of two lists, of two names and of one.
 fn rows<'a>(alloc: Global) -> Result<Value<'a>, Fail> {
-    let mut rows = Values::new(alloc);
-    rows.push(Value::Strings(&["a", "b"]))?;
     let mut one = Values::new(alloc);
     one.push(Value::Name("c"))?;
+    let mut rows = Values::new(alloc);
+    rows.push(Value::Strings(&["a", "b"]))?;
     rows.push(Value::List(one))?;
     Ok(Value::List(rows))
 }
 
+// What the template prints with these holes.
+fn filled(alloc: Global, template: &str, holes: &[Hole<'_>]) -> Result<String, TemplateError> {
+    let mut quote = Quote::new(alloc);
+    quote.parse(template, &mut SourceMap::new(alloc), holes)?;
+    let stream = quote.into_stream();
+    Ok(format!(in alloc; "{stream}")?)
+}
+
 #[test]
 fn repetitions_are_nested(rt: HostRuntime) -> Result<(), Fail> {
-    let alloc = rt.alloc();
-    let values = rows(alloc)?;
+    let values = rows(rt.alloc())?;
     let names = Value::Strings(&["n", "m"]);
     let all = Value::Name("z");
     let holes = [
@@ -188,21 +212,13 @@ fn repetitions_are_nested(rt: HostRuntime) -> Result<(), Fail> {
             "#( #( #value #name #all )* )*",
             "\"a\" \"n\" z \"b\" \"n\" z c \"m\" z",
         ),
-        ("#( #( #( #value )* )* )*", ""),
     ];
     for &(template, want) in &rows {
-        let mut quote = Quote::new(alloc);
-        match quote.parse(template, &mut SourceMap::new(alloc), &holes) {
-            Ok(()) => {
-                let stream = quote.into_stream();
-                let text = format!(in alloc; "{stream}")?;
-                assert_eq!(rt; text.as_str(), want);
-            }
-            Err(error) => {
-                assert_eq!(rt; want, "");
-                assert!(rt; matches!(error, TemplateError::NoList(_)));
-            }
-        }
+        let text = filled(rt.alloc(), template, &holes)?;
+        assert_eq!(rt; text.as_str(), want);
     }
+    // The third repetition inside has no list left.
+    let fault = filled(rt.alloc(), "#( #( #( #value )* )* )*", &holes);
+    assert!(rt; matches!(fault, Err(TemplateError::NoList(_))));
     Ok(())
 }
