@@ -16,7 +16,7 @@ pub enum HeaderError {
     Fault(Fault),
     /// A keyword or a mark couldn't be put in; for those that are written that is so where memory ran out.
     Keyword(IdentError),
-    /// No printed text shows what was put together, or memory ran out.
+    /// Memory ran out. No call gives another error of a quote.
     Quote(QuoteError),
 }
 

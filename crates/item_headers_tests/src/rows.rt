@@ -5,7 +5,6 @@ use item_headers::{
     where_clause, where_clause_with, where_clause_with_bound,
 };
 use proc_macro2::{Delimiter, Group, SourceMap, TokenStream, TokenTree};
-use quoting::QuoteError;
 use std::alloc::{AllocError, Global};
 use std::process::Abort;
 use std::test::Fail;
@@ -218,16 +217,31 @@ fn parts_that_are_no_parameters_are_a_fault(rt: HostRuntime) -> Result<(), Fail>
 }
 
 #[test]
-fn a_group_without_delimiters_has_no_printed_text(rt: HostRuntime) -> Result<(), Fail> {
+fn a_group_without_delimiters_is_put_in_as_it_is(rt: HostRuntime) -> Result<(), Fail> {
     let alloc = rt.alloc();
     let stream = TokenStream::from_str("struct S;", &mut SourceMap::new(alloc))?;
     let item = parse_type_item(stream.trees())?;
-    let group = Group::new(Delimiter::None, TokenStream::new(alloc));
+    let inside = TokenStream::from_str("a::B", &mut SourceMap::new(alloc))?;
+    let group = Group::new(Delimiter::None, inside);
     let path = TokenStream::from_tree(alloc, TokenTree::Group(group))?;
-    let found = impl_header(alloc, &item, &path);
+    let header = impl_header(alloc, &item, &path)?;
     assert!(rt;
-        matches!(found, Err(HeaderError::Quote(QuoteError::NoneGroup))),
+        matches!(
+            header.trees(),
+            [
+                TokenTree::Ident(_),
+                TokenTree::Group(_),
+                TokenTree::Ident(_),
+                TokenTree::Ident(_),
+            ]
+        ),
         "a path in a group"
     );
+    let mut found = Delimiter::Brace;
+    if let Some(TokenTree::Group(group)) = header.trees().get(1) {
+        found = group.delimiter();
+        assert_eq!(rt; group.stream_ref().trees().len(), 4);
+    }
+    assert!(rt; found == Delimiter::None, "the group of the path");
     Ok(())
 }

@@ -2,11 +2,13 @@
 //! What a derive writes around its body: the generic parameters, the arguments and the where clause of an `impl` for a
 //! struct, an enum or a union.
 //!
-//! Each call answers a stream that comes back from its printed text. It takes the parts as
-//! [`parse_type_item`](crate::declarations::parse_type_item) answers them, and fails where these are no parameters or
-//! predicates, where they hold what no printed text shows ([`QuoteError`](crate::quoting::QuoteError)), and where
-//! memory runs out; the item stays as it was. Trees of the item keep their spans, and the words and marks that are put
-//! between them stand nowhere ([`Span::call_site`](crate::proc_macro2::Span::call_site)).
+//! Each call takes the parts as [`parse_type_item`](crate::declarations::parse_type_item) answers them. It fails where
+//! these are no parameters or predicates, and where memory runs out; the item stays as it was. Trees of the item and
+//! of the caller keep their spans and spacings, and groups without delimiters stay.
+//!
+//! The words and marks that are put between them have the span of
+//! [`Span::call_site`](crate::proc_macro2::Span::call_site). To get a stream that comes back from its printed text,
+//! push the answer to a `Quote` and call its `finish`.
 
 mod clauses;
 mod errors;

@@ -9,7 +9,6 @@ use proved_tokens::item_headers::{
     where_clause, where_clause_with, where_clause_with_bound,
 };
 use proved_tokens::proc_macro2::{Delimiter, Group, SourceMap, TokenStream, TokenTree};
-use proved_tokens::quoting::QuoteError;
 use crate::shim::alloc::AllocError;
 use crate::shim::process::Abort;
 use crate::shim::test::Fail;
@@ -218,15 +217,30 @@ fn parts_that_are_no_parameters_are_a_fault() -> Result<(), Fail> {
 }
 
 #[test]
-fn a_group_without_delimiters_has_no_printed_text() -> Result<(), Fail> {
+fn a_group_without_delimiters_is_put_in_as_it_is() -> Result<(), Fail> {
     let rt = HostRuntime;
     let stream = TokenStream::from_str("struct S;", &mut SourceMap::new())?;
     let item = parse_type_item(stream.trees())?;
-    let group = Group::new(Delimiter::None, TokenStream::new());
+    let inside = TokenStream::from_str("a::B", &mut SourceMap::new())?;
+    let group = Group::new(Delimiter::None, inside);
     let path = TokenStream::from_tree(TokenTree::Group(group))?;
-    let found = impl_header(&item, &path);
-    assert!(matches!(found, Err(HeaderError::Quote(QuoteError::NoneGroup))),
+    let header = impl_header(&item, &path)?;
+    assert!(matches!(
+            header.trees(),
+            [
+                TokenTree::Ident(_),
+                TokenTree::Group(_),
+                TokenTree::Ident(_),
+                TokenTree::Ident(_),
+            ]
+        ),
         "a path in a group"
     );
+    let mut found = Delimiter::Brace;
+    if let Some(TokenTree::Group(group)) = header.trees().get(1) {
+        found = group.delimiter();
+        assert_eq!(group.stream_ref().trees().len(), 4);
+    }
+    assert!(found == Delimiter::None, "the group of the path");
     Ok(())
 }

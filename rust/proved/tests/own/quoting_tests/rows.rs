@@ -243,6 +243,35 @@ fn deep_groups_are_respaced_without_a_deep_stack() -> Result<(), Fail> {
     Ok(())
 }
 
+#[test]
+fn a_stream_has_exactly_what_was_pushed() -> Result<(), Fail> {
+    let rt = HostRuntime;
+    let mut map = SourceMap::new();
+    let stream = TokenStream::from_str("a", &mut map)?;
+    let mut quote = Quote::new();
+    quote.push(TokenTree::Punct(Punct::new('\'', Spacing::Alone)))?;
+    quote.push(TokenTree::Group(Group::new(Delimiter::None, stream)))?;
+    quote.push(TokenTree::Punct(Punct::new('+', Spacing::Joint)))?;
+    let stream = quote.into_stream();
+    let [
+        TokenTree::Punct(first),
+        TokenTree::Group(group),
+        TokenTree::Punct(last),
+    ] = stream.trees()
+    else {
+        assert!(false, "three trees");
+        return Ok(());
+    };
+    assert!(first.spacing() == Spacing::Alone && last.spacing() == Spacing::Joint);
+    assert!(group.delimiter() == Delimiter::None);
+    let Some(name) = group.stream_ref().trees().first() else {
+        assert!(false, "a name");
+        return Ok(());
+    };
+    assert_eq!(name.span().source_str(&map), Some("a"));
+    Ok(())
+}
+
 /// Asserts what the error says.
 fn says<T: Display>(
     rt: &(impl Abort + AllocGlobal),
