@@ -59,26 +59,29 @@ pub fn to_proved(stream: &proc_macro2::TokenStream, spans: &mut Spans) -> Result
 
 /// The proved token of the caller's, which is no group. The text is room for its own.
 fn proved_token(token: proc_macro2::TokenTree, spans: &mut Spans, text: &mut String) -> Result<TokenTree, NoToken> {
-    let span = token.span();
-    text.clear();
-    let _ = write!(text, "{token}");
-    let other = || NoToken::new(text, span);
     let mut tree = match &token {
         proc_macro2::TokenTree::Punct(punct) if Punct::is_punct_char(punct.as_char()) => {
             TokenTree::Punct(Punct::new(punct.as_char(), spacing(punct.spacing())))
         }
-        proc_macro2::TokenTree::Ident(_) => {
-            // The compiler's `$crate` is one identifier, which no text gives.
-            let text = text.strip_prefix('$').filter(|name| *name == "crate").unwrap_or(text);
-            TokenTree::Ident(identifier(text).ok_or_else(other)?)
+        token => {
+            text.clear();
+            let _ = write!(text, "{token}");
+            let other = || NoToken::new(text, token.span());
+            match token {
+                proc_macro2::TokenTree::Ident(_) => {
+                    // The compiler's `$crate` is one identifier, which no text gives.
+                    let text = text.strip_prefix('$').filter(|name| *name == "crate").unwrap_or(text);
+                    TokenTree::Ident(identifier(text).ok_or_else(other)?)
+                }
+                proc_macro2::TokenTree::Literal(_) if Literal::is_whole(text) => {
+                    let Ok(literal) = Literal::from_str_unchecked(text);
+                    TokenTree::Literal(literal)
+                }
+                _ => return Err(other()),
+            }
         }
-        proc_macro2::TokenTree::Literal(_) if Literal::is_whole(text) => {
-            let Ok(literal) = Literal::from_str_unchecked(text);
-            TokenTree::Literal(literal)
-        }
-        _ => return Err(other()),
     };
-    tree.set_span(spans.place_of_token(token));
+    tree.set_span(spans.place_of_token(token, tree.clone()));
     Ok(tree)
 }
 

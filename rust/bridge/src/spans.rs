@@ -2,6 +2,7 @@
 use proc_macro2::{Group, Span, TokenTree};
 use proved_tokens::pm_span::parts::{bounds, span_of};
 use proved_tokens::pm_span::Span as Place;
+use proved_tokens::pm_stream::TokenTree as OwnTree;
 use std::error::Error;
 use std::fmt::{self, Display};
 
@@ -22,8 +23,8 @@ pub struct Spans {
 #[derive(Clone, Debug)]
 enum Kept {
     Span(Span),
-    /// A token of the caller's.
-    Token(TokenTree),
+    /// A token of the caller's, and what it became.
+    Token(TokenTree, OwnTree),
     /// A group of the caller's, and the number after those of the trees in it.
     Group(Group, usize),
 }
@@ -41,7 +42,7 @@ impl Spans {
     pub fn span(&self, place: Place) -> Span {
         match self.kept(place) {
             Some(Kept::Span(span)) => *span,
-            Some(Kept::Token(token)) => token.span(),
+            Some(Kept::Token(token, _)) => token.span(),
             Some(Kept::Group(group, _)) => group.span(),
             None => Span::call_site(),
         }
@@ -52,9 +53,9 @@ impl Spans {
         self.keep([Kept::Span(span)])
     }
 
-    /// A span that stands for a token's.
-    pub(crate) fn place_of_token(&mut self, token: TokenTree) -> Place {
-        self.keep([Kept::Token(token)])
+    /// A span that stands for a token's, which became this tree.
+    pub(crate) fn place_of_token(&mut self, token: TokenTree, tree: OwnTree) -> Place {
+        self.keep([Kept::Token(token, tree)])
     }
 
     /// A span that stands for a group's: its first number for that of the opener, its last for that of the closer.
@@ -72,10 +73,10 @@ impl Spans {
         }
     }
 
-    /// The caller's token that a proved span stands for.
-    pub(crate) fn token(&self, place: Place) -> Option<&TokenTree> {
+    /// The caller's token that a proved span stands for, and what it became.
+    pub(crate) fn token(&self, place: Place) -> Option<(&TokenTree, &OwnTree)> {
         match self.kept(place) {
-            Some(Kept::Token(token)) => Some(token),
+            Some(Kept::Token(token, tree)) => Some((token, tree)),
             _ => None,
         }
     }
@@ -85,6 +86,15 @@ impl Spans {
         match self.kept(place) {
             Some(Kept::Group(group, end)) => Some((group, *end)),
             _ => None,
+        }
+    }
+
+    /// The caller's tree that a proved span stands for.
+    pub(crate) fn own(&self, place: Place) -> Option<TokenTree> {
+        match self.kept(place)? {
+            Kept::Span(_) => None,
+            Kept::Token(token, _) => Some(token.clone()),
+            Kept::Group(group, _) => Some(TokenTree::Group(group.clone())),
         }
     }
 
