@@ -21,12 +21,16 @@
 #![warn(missing_docs)]
 
 mod back;
+#[cfg(feature = "declarations")]
+mod expand;
 mod over;
 #[cfg(feature = "pretty_printer")]
 mod pretty;
 mod spans;
 
 pub use back::from_proved;
+#[cfg(feature = "declarations")]
+pub use expand::{expand, expand_attribute};
 pub use over::to_proved;
 #[cfg(feature = "pretty_printer")]
 pub use pretty::{pretty, PrettyError};

@@ -20,7 +20,10 @@
 pub use crate::alloc_error::AllocError;
 #[cfg(feature = "declarations")]
 #[doc(inline)]
-pub use crate::declarations::Fault;
+pub use crate::compile_error::CompileError;
+#[cfg(feature = "declarations")]
+#[doc(inline)]
+pub use crate::declarations::{EntryError, Fault};
 #[cfg(feature = "explain")]
 #[doc(inline)]
 pub use crate::explain::ExplainError;

@@ -52,12 +52,13 @@
 //! ```
 #[doc(inline)]
 pub use crate::declarations::{
-    after_where, compile_error, first_sign, is_keyword, parse_field, parse_file, parse_item, parse_param,
-    parse_predicate, parse_tuple_field, parse_type_item, parse_variant, split_any_item, split_attribute,
-    split_attributes, split_bounds, split_expression, split_field, split_fields, split_generics, split_inner_attributes,
-    split_item, split_tuple_field, split_tuple_fields, split_type, split_variant, split_variants, split_visibility,
-    split_where, within_generics, AnyItem, Attribute, AttributeArgs, Attributes, Body, Class, Field, FieldList, Fields,
-    File, ItemKind, Items, Keyword, Param, ParamKind, Predicate, TypeItem, Variant, VariantList, Word,
+    after_where, check_entries, compile_error, first_sign, is_keyword, parse_entry, parse_field, parse_file,
+    parse_item, parse_param, parse_predicate, parse_tuple_field, parse_type_item, parse_variant, split_any_item,
+    split_attribute, split_attributes, split_bounds, split_expression, split_field, split_fields, split_generics,
+    split_inner_attributes, split_item, split_tuple_field, split_tuple_fields, split_type, split_variant,
+    split_variants, split_visibility, split_where, within_generics, AnyItem, Attribute, AttributeArgs, Attributes,
+    Body, Class, Entries, Entry, EntryKind, EntryProblem, Field, FieldList, Fields, File, ItemKind, Items, Keyword,
+    Param, ParamKind, Predicate, TypeItem, Variant, VariantList, Word,
 };
 #[cfg(feature = "item_headers")]
 #[doc(inline)]

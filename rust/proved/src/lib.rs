@@ -82,6 +82,8 @@
 #![warn(missing_docs)]
 
 mod alloc_error;
+#[cfg(feature = "declarations")]
+mod compile_error;
 #[doc(hidden)]
 pub mod shim;
 mod tables;
