@@ -19,7 +19,6 @@ use Rattle.pm_stream.specs.declared.stream.TokenTree.TheVariants.{Ident}
 use Rattle.proc_macro2.specs.Forest.{Forest, nil, joined}
 use Rattle.proc_macro2.specs.Leaf.{Name}
 use Rattle.proc_macro2.specs.Trees.{alone}
-use Rattle.quoting.specs.Respaced.{respaced}
 
 -- ---- parts that are put in, one after another
 
@@ -157,9 +156,9 @@ bounds_done bound any trees inside left old now more within so_far none = (
 -- ---- whole streams
 
 pub from_nothing : (start now stream written : Forest) → start ≡ nil → now ≡ joined start written
-    → stream ≡ respaced now → stream ≡ respaced written
+    → stream ≡ now → stream ≡ written
 from_nothing start now stream written none is finished =
-    finished ∙ ap respaced (is ∙ ap (λ s. joined s written) none)
+    finished ∙ (is ∙ ap (λ s. joined s written) none)
 
 where_only : (predicates : List PredicateTrees)
     → listed leads.Where (map predicate_in predicates) ≡ where_with predicates []
@@ -183,8 +182,8 @@ front_written params again name copy path path2 start q1 q2 q3 q4 q5 q6 none is1
     (is6 ∙ ap (λ (ps : List ParamTrees). joined q5 (type_generics ps)) same6))
 
 pub where_written : (predicates : List PredicateTrees) (start now stream : Forest) → start ≡ nil
-    → now ≡ joined start (listed leads.Where (map predicate_in predicates)) → stream ≡ respaced now
-    → stream ≡ respaced (where_with predicates [])
+    → now ≡ joined start (listed leads.Where (map predicate_in predicates)) → stream ≡ now
+    → stream ≡ where_with predicates []
 where_written predicates start now stream none is finished =
     from_nothing start now stream (where_with predicates []) none (is ∙ ap (joined start) (where_only predicates))
     finished
@@ -196,7 +195,7 @@ counted predicates any is = is ∙ sym (any-map predicate_in false predicates)
 pub with_one : (predicates : List PredicateTrees) (predicate start now led new stream : Forest) (any : Bool)
     → start ≡ nil → now ≡ joined start (listed leads.Where (map predicate_in predicates))
     → any ≡ any_of false predicates → led ≡ joined now (lead_of any leads.Where) → new ≡ joined led predicate
-    → stream ≡ respaced new → stream ≡ respaced (where_with predicates (predicate ∷ []))
+    → stream ≡ new → stream ≡ where_with predicates (predicate ∷ [])
 with_one predicates predicate start now led new stream any none is any_is led_is new_is finished =
     from_nothing start new stream (where_with predicates (predicate ∷ [])) none
     (put_more false leads.Where start now led new (map predicate_in predicates) predicate is
@@ -206,7 +205,7 @@ with_one predicates predicate start now led new stream any none is any_is led_is
 pub with_bounds : (predicates : List PredicateTrees) (more : List Forest) (start now new stream : Forest) (any : Bool)
     → start ≡ nil → now ≡ joined start (listed leads.Where (map predicate_in predicates))
     → any ≡ any_of false predicates → new ≡ joined now (listed_after any leads.Where more)
-    → stream ≡ respaced new → stream ≡ respaced (where_with predicates more)
+    → stream ≡ new → stream ≡ where_with predicates more
 with_bounds predicates more start now new stream any none is any_is new_is finished =
     let written = map predicate_in predicates in
     from_nothing start new stream (where_with predicates more) none
@@ -217,14 +216,14 @@ with_bounds predicates more start now new stream any none is any_is new_is finis
 
 pub header_written : (params : List ParamTrees) (predicates : List PredicateTrees) (name : Name)
     (path now new stream : Forest) → now ≡ front params name path
-    → new ≡ joined now (listed leads.Where (map predicate_in predicates)) → stream ≡ respaced new
-    → stream ≡ respaced (header params name path (where_with predicates []))
+    → new ≡ joined now (listed leads.Where (map predicate_in predicates)) → stream ≡ new
+    → stream ≡ header params name path (where_with predicates [])
 header_written params predicates name path now new stream is new_is finished =
-    finished ∙ ap respaced (new_is ∙ ap (joined now) (where_only predicates)
+    finished ∙ (new_is ∙ ap (joined now) (where_only predicates)
     ∙ ap (λ f. joined f (where_with predicates [])) is)
 
 pub header_with : (params : List ParamTrees) (name : Name) (path clause now new stream : Forest)
-    → now ≡ front params name path → new ≡ joined now clause → stream ≡ respaced new
-    → stream ≡ respaced (header params name path clause)
+    → now ≡ front params name path → new ≡ joined now clause → stream ≡ new
+    → stream ≡ header params name path clause
 header_with params name path clause now new stream is new_is finished =
-    finished ∙ ap respaced (new_is ∙ ap (λ f. joined f clause) is)
+    finished ∙ (new_is ∙ ap (λ f. joined f clause) is)

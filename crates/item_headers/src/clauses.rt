@@ -7,8 +7,6 @@ ghost use Rattle.item_headers.specs.Header.{where_with};
 ghost use Rattle.item_headers.specs.Lists.{any_of, listed, listed_after};
 ghost use Rattle.item_headers.specs.declared.lists.Lead.TheVariants as leads;
 ghost use Rattle.proc_macro2.specs.Forest.{Forest, joined};
-ghost use Rattle.proc_macro2.specs.WellSpaced.{IsWellSpaced};
-ghost use Rattle.quoting.specs.Respaced.{respaced};
 
 use crate::errors::HeaderError;
 use crate::lists::{Lead, push_lead, push_mark, push_trees};
@@ -26,13 +24,12 @@ use std::alloc::{AllocError, Global};
 /// its place aren't the where clause of an item.
 pub fn where_clause(alloc: Global, item: &TypeItem<'_>) -> Result<TokenStream, HeaderError>
     ensures ok { IfOk result (λ stream. (predicates : List PredicateTrees)
-        × HasPredicates item.now.where_clause.now predicates × (stream ≡ respaced (where_with predicates []))) }
+        × HasPredicates item.now.where_clause.now predicates × (stream ≡ where_with predicates [])) }
     ensures fault { IfErr result (λ error. IfFault error (HasNoPredicates item.now.where_clause.now)) }
-    ensures spaced { IfOk result IsWellSpaced }
 {
     let mut quote = Quote::new(alloc);
     push_where(&mut quote, alloc, item.where_clause)?;
-    Ok(quote.finish()?)
+    Ok(quote.into_stream())
 }
 
 /// The where clause of the item, and a predicate more.
@@ -46,16 +43,15 @@ pub fn where_clause_with(
 ) -> Result<TokenStream, HeaderError>
     ensures ok { IfOk result (λ stream. (predicates : List PredicateTrees)
         × HasPredicates item.now.where_clause.now predicates
-        × (stream ≡ respaced (where_with predicates (predicate.now ∷ [])))) }
+        × (stream ≡ where_with predicates (predicate.now ∷ []))) }
     ensures fault { IfErr result (λ error. IfFault error (HasNoPredicates item.now.where_clause.now)) }
-    ensures spaced { IfOk result IsWellSpaced }
 {
     let mut quote = Quote::new(alloc);
     let any = push_where(&mut quote, alloc, item.where_clause)?;
     push_lead(&mut quote, alloc, Lead::Where, any)?;
     let copy = predicate.clone()?;
     quote.push_stream(copy)?;
-    Ok(quote.finish()?)
+    Ok(quote.into_stream())
 }
 
 /// The where clause of the item, and this bound on each parameter that is a type.
@@ -69,14 +65,13 @@ pub fn where_clause_with_bound(
 ) -> Result<TokenStream, HeaderError>
     ensures ok { IfOk result (λ stream. (predicates : List PredicateTrees) × (params : List ParamTrees)
         × HasPredicates item.now.where_clause.now predicates × HasParams item.now.generics.now params
-        × (stream ≡ respaced (where_with predicates (bounds_on_types bound.now params)))) }
+        × (stream ≡ where_with predicates (bounds_on_types bound.now params))) }
     ensures fault { IfErr result (λ error. IfFault error (HasNotBoth item.now.generics.now item.now.where_clause.now)) }
-    ensures spaced { IfOk result IsWellSpaced }
 {
     let mut quote = Quote::new(alloc);
     let any = push_where(&mut quote, alloc, item.where_clause)?;
     push_bounds(&mut quote, alloc, item.generics, bound, any)?;
-    Ok(quote.finish()?)
+    Ok(quote.into_stream())
 }
 
 // Puts the predicates of a where clause at the end, and answers whether there are any.

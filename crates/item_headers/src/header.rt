@@ -3,8 +3,6 @@ ghost use Rattle.std.specs.Prelude.{◌≡◌, [], IfErr, IfOk, List};
 ghost use Rattle.declarations.specs.Param.{ParamTrees, PredicateTrees};
 ghost use Rattle.item_headers.specs.Fault.{HasNoParams, HasNotBoth, IfFault};
 ghost use Rattle.item_headers.specs.Header.{HasParams, HasPredicates, front, header, where_with};
-ghost use Rattle.proc_macro2.specs.WellSpaced.{IsWellSpaced};
-ghost use Rattle.quoting.specs.Respaced.{respaced};
 
 use crate::clauses::push_where;
 use crate::errors::HeaderError;
@@ -27,13 +25,12 @@ pub fn impl_header(
 ) -> Result<TokenStream, HeaderError>
     ensures ok { IfOk result (λ stream. (params : List ParamTrees) × (predicates : List PredicateTrees)
         × HasParams item.now.generics.now params × HasPredicates item.now.where_clause.now predicates
-        × (stream ≡ respaced (header params item.now.name.now trait_path.now (where_with predicates [])))) }
+        × (stream ≡ header params item.now.name.now trait_path.now (where_with predicates []))) }
     ensures fault { IfErr result (λ error. IfFault error (HasNotBoth item.now.generics.now item.now.where_clause.now)) }
-    ensures spaced { IfOk result IsWellSpaced }
 {
     let mut quote = front(alloc, item, trait_path)?;
     push_where(&mut quote, alloc, item.where_clause)?;
-    Ok(quote.finish()?)
+    Ok(quote.into_stream())
 }
 
 /// The same with this where clause in the place of the item's, as the calls for where clauses answer it; an empty
@@ -48,14 +45,13 @@ pub fn impl_header_where(
     where_clause: &TokenStream,
 ) -> Result<TokenStream, HeaderError>
     ensures ok { IfOk result (λ stream. (params : List ParamTrees) × HasParams item.now.generics.now params
-        × (stream ≡ respaced (header params item.now.name.now trait_path.now where_clause.now))) }
+        × (stream ≡ header params item.now.name.now trait_path.now where_clause.now)) }
     ensures fault { IfErr result (λ error. IfFault error (HasNoParams item.now.generics.now)) }
-    ensures spaced { IfOk result IsWellSpaced }
 {
     let mut quote = front(alloc, item, trait_path)?;
     let clause = where_clause.clone()?;
     quote.push_stream(clause)?;
-    Ok(quote.finish()?)
+    Ok(quote.into_stream())
 }
 
 // All before the where clause.

@@ -7,8 +7,6 @@ ghost use Rattle.item_headers.specs.Header.{type_generics};
 ghost use Rattle.item_headers.specs.declared.lists.Lead.TheVariants as leads;
 ghost use Rattle.item_headers.specs.declared.params.Form.TheVariants as forms;
 ghost use Rattle.proc_macro2.specs.Forest.{joined};
-ghost use Rattle.proc_macro2.specs.WellSpaced.{IsWellSpaced};
-ghost use Rattle.quoting.specs.Respaced.{respaced};
 
 use crate::errors::HeaderError;
 use crate::lists::{Lead, push_lead, push_led, push_mark, push_trees, push_word};
@@ -33,9 +31,8 @@ pub(crate) enum Form {
 /// in their place aren't the generic parameters of an item.
 pub fn impl_generics(alloc: Global, item: &TypeItem<'_>) -> Result<TokenStream, HeaderError>
     ensures ok { IfOk result (λ stream. (params : List ParamTrees) × HasParams item.now.generics.now params
-        × (stream ≡ respaced (impl_generics params))) }
+        × (stream ≡ impl_generics params)) }
     ensures fault { IfErr result (λ error. IfFault error (HasNoParams item.now.generics.now)) }
-    ensures spaced { IfOk result IsWellSpaced }
 {
     let mut quote = Quote::new(alloc);
     push_generics(
@@ -45,7 +42,7 @@ pub fn impl_generics(alloc: Global, item: &TypeItem<'_>) -> Result<TokenStream, 
         Lead::Angle,
         Form::Declared,
     )?;
-    Ok(quote.finish()?)
+    Ok(quote.into_stream())
 }
 
 /// The arguments of the item's type: the names of its parameters in order, or nothing where it has none.
@@ -53,22 +50,20 @@ pub fn impl_generics(alloc: Global, item: &TypeItem<'_>) -> Result<TokenStream, 
 /// Of `struct S<'a, T: A = B, const N: usize = 3>` they are `<'a, T, N>`. It fails as [`impl_generics`] does.
 pub fn type_generics(alloc: Global, item: &TypeItem<'_>) -> Result<TokenStream, HeaderError>
     ensures ok { IfOk result (λ stream. (params : List ParamTrees) × HasParams item.now.generics.now params
-        × (stream ≡ respaced (type_generics params))) }
+        × (stream ≡ type_generics params)) }
     ensures fault { IfErr result (λ error. IfFault error (HasNoParams item.now.generics.now)) }
-    ensures spaced { IfOk result IsWellSpaced }
 {
     let mut quote = Quote::new(alloc);
     push_generics(&mut quote, alloc, item.generics, Lead::Angle, Form::Named)?;
-    Ok(quote.finish()?)
+    Ok(quote.into_stream())
 }
 
 /// The same as an expression wants them, as `::<'a, T, N>`; nothing where the item has none. It fails as
 /// [`impl_generics`] does.
 pub fn turbofish(alloc: Global, item: &TypeItem<'_>) -> Result<TokenStream, HeaderError>
     ensures ok { IfOk result (λ stream. (params : List ParamTrees) × HasParams item.now.generics.now params
-        × (stream ≡ respaced (turbofish params))) }
+        × (stream ≡ turbofish params)) }
     ensures fault { IfErr result (λ error. IfFault error (HasNoParams item.now.generics.now)) }
-    ensures spaced { IfOk result IsWellSpaced }
 {
     let mut quote = Quote::new(alloc);
     push_generics(
@@ -78,7 +73,7 @@ pub fn turbofish(alloc: Global, item: &TypeItem<'_>) -> Result<TokenStream, Head
         Lead::Turbofish,
         Form::Named,
     )?;
-    Ok(quote.finish()?)
+    Ok(quote.into_stream())
 }
 
 // Puts the parameters at the end, in brackets.

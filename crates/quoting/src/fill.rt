@@ -11,6 +11,7 @@ ghost use Rattle.quoting.specs.Given.{UnlessMemory, apart_before, gives, inside_
 use crate::builder::StreamBuilder;
 use crate::errors::TemplateError;
 use crate::holes::Hole;
+use crate::putting::put_name;
 use crate::interpolation::{FoundInterpolation, Repetition, interpolation_at};
 use crate::respace::{regrouped, spaced};
 use crate::turns::{checked, turns_of};
@@ -24,16 +25,16 @@ pub(crate) fn filled(
     alloc: Global,
     template: &TokenStream,
     holes: &[Hole<'_>],
-    turn: Option<usize>,
+    turns: &[usize],
     depth: usize,
 ) -> Result<TokenStream, TemplateError>
-    ensures ok { IfOk result (λ stream. filled_by (gives holes.now turn) depth 0 template.now ≡ Ok stream) }
+    ensures ok { IfOk result (λ stream. filled_by (gives holes.now turns.now) depth 0 template.now ≡ Ok stream) }
     ensures fault { IfErr result (λ fault.
-        UnlessMemory fault (filled_by (gives holes.now turn) depth 0 template.now ≡ Err fault)) }
+        UnlessMemory fault (filled_by (gives holes.now turns.now) depth 0 template.now ≡ Err fault)) }
 {
     let trees = template.trees();
     let mut out = StreamBuilder::new(alloc);
-    fill_onto(alloc, &mut out, trees, holes, turn, depth)?;
+    fill_onto(alloc, &mut out, trees, holes, turns, depth)?;
     Ok(out.finish()?)
 }
 
@@ -44,21 +45,21 @@ fn fill_onto(
     out: &mut StreamBuilder,
     template: &[TokenTree],
     holes: &[Hole<'_>],
-    turn: Option<usize>,
+    turns: &[usize],
     depth: usize,
 ) -> Result<(), TemplateError>
     requires { All GoesInside template.now }
     ensures ok { OnOk result (followed (Ok out.old)
-        (filled_by (gives holes.now turn) depth 0 (forest template.now)) ≡ Ok out.new) }
+        (filled_by (gives holes.now turns.now) depth 0 (forest template.now)) ≡ Ok out.new) }
     ensures fault { IfErr result (λ fault.
-        UnlessMemory fault (filled_by (gives holes.now turn) depth 0 (forest template.now) ≡ Err fault)) }
+        UnlessMemory fault (filled_by (gives holes.now turns.now) depth 0 (forest template.now) ≡ Err fault)) }
 {
     let mut left = template;
     while let Some((tree, after)) = left.split_first() {
         match interpolation_at(tree, after) {
             None => {
                 if let TokenTree::Group(group) = tree {
-                    let inside = filled_inside(alloc, group, holes, turn, depth)?;
+                    let inside = filled_inside(alloc, group, holes, turns, depth)?;
                     out.put(TokenTree::Group(regrouped(group, inside)), after.len())?;
                 } else {
                     out.put(apart_before(tree, after)?, after.len())?;
@@ -66,11 +67,11 @@ fn fill_onto(
                 left = after;
             }
             Some(FoundInterpolation::Names(name, rest)) => {
-                out.append(name.put_in(holes, turn)?, rest.len())?;
+                put_name(alloc, out, &name, holes, turns, rest.len())?;
                 left = rest;
             }
             Some(FoundInterpolation::Repeats(repetition, rest)) => {
-                repeat_onto(alloc, out, &repetition, holes, turn, depth)?;
+                repeat_onto(alloc, out, &repetition, holes, turns, depth)?;
                 left = rest;
             }
         }
@@ -107,12 +108,12 @@ fn filled_inside(
     alloc: Global,
     group: &Group,
     holes: &[Hole<'_>],
-    turn: Option<usize>,
+    turns: &[usize],
     depth: usize,
 ) -> Result<TokenStream, TemplateError>
-    ensures ok { IfOk result (λ inside. inside_at (gives holes.now turn) depth group.now ≡ Ok inside) }
+    ensures ok { IfOk result (λ inside. inside_at (gives holes.now turns.now) depth group.now ≡ Ok inside) }
     ensures fault { IfErr result (λ fault.
-        UnlessMemory fault (inside_at (gives holes.now turn) depth group.now ≡ Err fault)) }
+        UnlessMemory fault (inside_at (gives holes.now turns.now) depth group.now ≡ Err fault)) }
 {
     let Some(inner) = depth.checked_sub(1) else {
         return Err(TemplateError::TooDeep(group.span()));
@@ -122,7 +123,7 @@ fn filled_inside(
     if are_fixed(template.trees()) {
         return Ok(template.clone()?);
     }
-    filled(alloc, template, holes, turn, inner)
+    filled(alloc, template, holes, turns, inner)
 }
 
 /// Whether the trees are neither groups nor `#`, and so come out as they are.
@@ -156,31 +157,39 @@ pub(crate) fn repeat_onto(
     out: &mut StreamBuilder,
     repetition: &Repetition<'_>,
     holes: &[Hole<'_>],
-    turn: Option<usize>,
+    turns: &[usize],
     depth: usize,
 ) -> Result<(), TemplateError>
     ensures ok { OnOk result (followed (Ok out.old)
-        (gives holes.now turn depth (repeats_of repetition.now)) ≡ Ok out.new) }
+        (gives holes.now turns.now depth (repeats_of repetition.now)) ≡ Ok out.new) }
     ensures fault { IfErr result (λ fault.
-        UnlessMemory fault (gives holes.now turn depth (repeats_of repetition.now) ≡ Err fault)) }
+        UnlessMemory fault (gives holes.now turns.now depth (repeats_of repetition.now) ≡ Err fault)) }
 {
     let body = repetition.body;
-    if turn.is_some() {
-        return Err(TemplateError::Nested(body.span()));
-    }
     let Some(inner) = depth.checked_sub(1) else {
         return Err(TemplateError::TooDeep(body.span()));
     };
     let trees = body.stream_ref().trees();
-    let Some(turns) = turns_of(alloc, trees, holes)? else {
+    let Some(count) = turns_of(alloc, trees, holes, turns)? else {
         return Err(TemplateError::NoList(body.span()));
     };
-    checked(trees, holes, inner, turns)?;
-    for turn in 0..turns {
+    checked(trees, holes, turns, inner, count)?;
+    for turn in 0..count {
         separate(out, repetition.separator, turn, trees.len())?;
-        fill_onto(alloc, out, trees, holes, Some(turn), inner)?;
+        let here = and_turn(alloc, turns, turn)?;
+        fill_onto(alloc, out, trees, holes, here.as_slice(), inner)?;
     }
     Ok(())
+}
+
+// The turns of the repetitions outside, and this one.
+fn and_turn(alloc: Global, turns: &[usize], turn: usize) -> Result<Vec<usize>, AllocError>
+    ensures { IfOk result (λ list. list.items ≡ turns.now ++ turn ∷ []) }
+{
+    let mut list = Vec::with_capacity(alloc, turns.len().saturating_add(1))?;
+    list.extend_from_slice(turns)?;
+    list.push(turn)?;
+    Ok(list)
 }
 
 // Puts the separator at the end, Alone, before a turn that is not the first. So many more trees are expected.

@@ -38,7 +38,7 @@ impl Quote {
             UnlessMemory fault (filled (named_all holes.now) template.now ≡ Err fault)) }
         ensures kept { OnErr result (self.new ≡ self.old) }
     {
-        let stream = filled(self.alloc(), template, holes, None, DEPTH_LIMIT)?;
+        let stream = filled(self.alloc(), template, holes, &[], DEPTH_LIMIT)?;
         self.push_stream(stream)?;
         Ok(())
     }

@@ -21,26 +21,23 @@ use crate::shim::alloc::AllocError;
 /// # Contract
 ///
 /// - `ensures ok`: <code>[IfOk] result (λ stream. (predicates : [List] [PredicateTrees]) × [HasPredicates]
-///   item.now.where_clause.now predicates × (stream ≡ [respaced] ([where_with] predicates \[\])))</code>
+///   item.now.where_clause.now predicates × (stream ≡ [where_with] predicates \[\]))</code>
 /// - `ensures fault`: <code>[IfErr] result (λ error. [IfFault] error ([HasNoPredicates]
 ///   item.now.where_clause.now))</code>
-/// - `ensures spaced`: <code>[IfOk] result [IsWellSpaced]</code>
 ///
 /// [IfOk]: crate::contracts#std.IfOk
 /// [List]: crate::contracts#std.List
 /// [PredicateTrees]: crate::contracts#declarations.Param.PredicateTrees
 /// [HasPredicates]: crate::contracts#item_headers.Header.HasPredicates
-/// [respaced]: crate::contracts#quoting.Respaced.respaced
 /// [where_with]: crate::contracts#item_headers.Header.where_with
 /// [IfErr]: crate::contracts#std.IfErr
 /// [IfFault]: crate::contracts#item_headers.Fault.IfFault
 /// [HasNoPredicates]: crate::contracts#item_headers.Fault.HasNoPredicates
-/// [IsWellSpaced]: crate::contracts#pm_stream.WellSpaced.IsWellSpaced
 pub fn where_clause(item: &TypeItem<'_>) -> Result<TokenStream, HeaderError>
 {
     let mut quote = Quote::new();
     push_where(&mut quote, item.where_clause)?;
-    Ok(quote.finish()?)
+    Ok(quote.into_stream())
 }
 
 /// The where clause of the item, and a predicate more.
@@ -51,22 +48,18 @@ pub fn where_clause(item: &TypeItem<'_>) -> Result<TokenStream, HeaderError>
 /// # Contract
 ///
 /// - `ensures ok`: <code>[IfOk] result (λ stream. (predicates : [List] [PredicateTrees]) × [HasPredicates]
-///   item.now.where_clause.now predicates × (stream ≡ [respaced] ([where_with] predicates (predicate.now ∷
-///   \[\]))))</code>
+///   item.now.where_clause.now predicates × (stream ≡ [where_with] predicates (predicate.now ∷ \[\])))</code>
 /// - `ensures fault`: <code>[IfErr] result (λ error. [IfFault] error ([HasNoPredicates]
 ///   item.now.where_clause.now))</code>
-/// - `ensures spaced`: <code>[IfOk] result [IsWellSpaced]</code>
 ///
 /// [IfOk]: crate::contracts#std.IfOk
 /// [List]: crate::contracts#std.List
 /// [PredicateTrees]: crate::contracts#declarations.Param.PredicateTrees
 /// [HasPredicates]: crate::contracts#item_headers.Header.HasPredicates
-/// [respaced]: crate::contracts#quoting.Respaced.respaced
 /// [where_with]: crate::contracts#item_headers.Header.where_with
 /// [IfErr]: crate::contracts#std.IfErr
 /// [IfFault]: crate::contracts#item_headers.Fault.IfFault
 /// [HasNoPredicates]: crate::contracts#item_headers.Fault.HasNoPredicates
-/// [IsWellSpaced]: crate::contracts#pm_stream.WellSpaced.IsWellSpaced
 pub fn where_clause_with(
     item: &TypeItem<'_>,
     predicate: &TokenStream,
@@ -77,7 +70,7 @@ pub fn where_clause_with(
     push_lead(&mut quote, Lead::Where, any)?;
     let copy = predicate.try_clone()?;
     quote.push_stream(copy)?;
-    Ok(quote.finish()?)
+    Ok(quote.into_stream())
 }
 
 /// The where clause of the item, and this bound on each parameter that is a type.
@@ -89,10 +82,9 @@ pub fn where_clause_with(
 ///
 /// - `ensures ok`: <code>[IfOk] result (λ stream. (predicates : [List] [PredicateTrees]) × (params : [List]
 ///   [ParamTrees]) × [HasPredicates] item.now.where_clause.now predicates × [HasParams] item.now.generics.now
-///   params × (stream ≡ [respaced] ([where_with] predicates ([bounds_on_types] bound.now params))))</code>
+///   params × (stream ≡ [where_with] predicates ([bounds_on_types] bound.now params)))</code>
 /// - `ensures fault`: <code>[IfErr] result (λ error. [IfFault] error ([HasNotBoth] item.now.generics.now
 ///   item.now.where_clause.now))</code>
-/// - `ensures spaced`: <code>[IfOk] result [IsWellSpaced]</code>
 ///
 /// [IfOk]: crate::contracts#std.IfOk
 /// [List]: crate::contracts#std.List
@@ -100,13 +92,11 @@ pub fn where_clause_with(
 /// [ParamTrees]: crate::contracts#declarations.Param.ParamTrees
 /// [HasPredicates]: crate::contracts#item_headers.Header.HasPredicates
 /// [HasParams]: crate::contracts#item_headers.Header.HasParams
-/// [respaced]: crate::contracts#quoting.Respaced.respaced
 /// [where_with]: crate::contracts#item_headers.Header.where_with
 /// [bounds_on_types]: crate::contracts#item_headers.Header.bounds_on_types
 /// [IfErr]: crate::contracts#std.IfErr
 /// [IfFault]: crate::contracts#item_headers.Fault.IfFault
 /// [HasNotBoth]: crate::contracts#item_headers.Fault.HasNotBoth
-/// [IsWellSpaced]: crate::contracts#pm_stream.WellSpaced.IsWellSpaced
 pub fn where_clause_with_bound(
     item: &TypeItem<'_>,
     bound: &TokenStream,
@@ -115,7 +105,7 @@ pub fn where_clause_with_bound(
     let mut quote = Quote::new();
     let any = push_where(&mut quote, item.where_clause)?;
     push_bounds(&mut quote, item.generics, bound, any)?;
-    Ok(quote.finish()?)
+    Ok(quote.into_stream())
 }
 
 // Puts the predicates of a where clause at the end, and answers whether there are any.

@@ -21,11 +21,10 @@ use crate::quoting::Quote;
 ///
 /// - `ensures ok`: <code>[IfOk] result (λ stream. (params : [List] [ParamTrees]) × (predicates : [List]
 ///   [PredicateTrees]) × [HasParams] item.now.generics.now params × [HasPredicates] item.now.where_clause.now
-///   predicates × (stream ≡ [respaced] ([header] params item.now.name.now trait_path.now ([where_with]
-///   predicates \[\]))))</code>
+///   predicates × (stream ≡ [header] params item.now.name.now trait_path.now ([where_with] predicates
+///   \[\])))</code>
 /// - `ensures fault`: <code>[IfErr] result (λ error. [IfFault] error ([HasNotBoth] item.now.generics.now
 ///   item.now.where_clause.now))</code>
-/// - `ensures spaced`: <code>[IfOk] result [IsWellSpaced]</code>
 ///
 /// [IfOk]: crate::contracts#std.IfOk
 /// [List]: crate::contracts#std.List
@@ -33,13 +32,11 @@ use crate::quoting::Quote;
 /// [PredicateTrees]: crate::contracts#declarations.Param.PredicateTrees
 /// [HasParams]: crate::contracts#item_headers.Header.HasParams
 /// [HasPredicates]: crate::contracts#item_headers.Header.HasPredicates
-/// [respaced]: crate::contracts#quoting.Respaced.respaced
 /// [header]: crate::contracts#item_headers.Header.header
 /// [where_with]: crate::contracts#item_headers.Header.where_with
 /// [IfErr]: crate::contracts#std.IfErr
 /// [IfFault]: crate::contracts#item_headers.Fault.IfFault
 /// [HasNotBoth]: crate::contracts#item_headers.Fault.HasNotBoth
-/// [IsWellSpaced]: crate::contracts#pm_stream.WellSpaced.IsWellSpaced
 pub fn impl_header(
     item: &TypeItem<'_>,
     trait_path: &TokenStream,
@@ -47,7 +44,7 @@ pub fn impl_header(
 {
     let mut quote = front(item, trait_path)?;
     push_where(&mut quote, item.where_clause)?;
-    Ok(quote.finish()?)
+    Ok(quote.into_stream())
 }
 
 /// The same with this where clause in the place of the item's, as the calls for where clauses answer it; an empty
@@ -59,22 +56,19 @@ pub fn impl_header(
 /// # Contract
 ///
 /// - `ensures ok`: <code>[IfOk] result (λ stream. (params : [List] [ParamTrees]) × [HasParams]
-///   item.now.generics.now params × (stream ≡ [respaced] ([header] params item.now.name.now trait_path.now
-///   where_clause.now)))</code>
+///   item.now.generics.now params × (stream ≡ [header] params item.now.name.now trait_path.now
+///   where_clause.now))</code>
 /// - `ensures fault`: <code>[IfErr] result (λ error. [IfFault] error ([HasNoParams]
 ///   item.now.generics.now))</code>
-/// - `ensures spaced`: <code>[IfOk] result [IsWellSpaced]</code>
 ///
 /// [IfOk]: crate::contracts#std.IfOk
 /// [List]: crate::contracts#std.List
 /// [ParamTrees]: crate::contracts#declarations.Param.ParamTrees
 /// [HasParams]: crate::contracts#item_headers.Header.HasParams
-/// [respaced]: crate::contracts#quoting.Respaced.respaced
 /// [header]: crate::contracts#item_headers.Header.header
 /// [IfErr]: crate::contracts#std.IfErr
 /// [IfFault]: crate::contracts#item_headers.Fault.IfFault
 /// [HasNoParams]: crate::contracts#item_headers.Fault.HasNoParams
-/// [IsWellSpaced]: crate::contracts#pm_stream.WellSpaced.IsWellSpaced
 pub fn impl_header_where(
     item: &TypeItem<'_>,
     trait_path: &TokenStream,
@@ -84,7 +78,7 @@ pub fn impl_header_where(
     let mut quote = front(item, trait_path)?;
     let clause = where_clause.try_clone()?;
     quote.push_stream(clause)?;
-    Ok(quote.finish()?)
+    Ok(quote.into_stream())
 }
 
 // All before the where clause.

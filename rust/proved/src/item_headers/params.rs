@@ -25,21 +25,18 @@ pub(crate) enum Form {
 /// # Contract
 ///
 /// - `ensures ok`: <code>[IfOk] result (λ stream. (params : [List] [ParamTrees]) × [HasParams]
-///   item.now.generics.now params × (stream ≡ [respaced] ([impl_generics] params)))</code>
+///   item.now.generics.now params × (stream ≡ [impl_generics] params))</code>
 /// - `ensures fault`: <code>[IfErr] result (λ error. [IfFault] error ([HasNoParams]
 ///   item.now.generics.now))</code>
-/// - `ensures spaced`: <code>[IfOk] result [IsWellSpaced]</code>
 ///
 /// [IfOk]: crate::contracts#std.IfOk
 /// [List]: crate::contracts#std.List
 /// [ParamTrees]: crate::contracts#declarations.Param.ParamTrees
 /// [HasParams]: crate::contracts#item_headers.Header.HasParams
-/// [respaced]: crate::contracts#quoting.Respaced.respaced
 /// [impl_generics]: crate::contracts#item_headers.Header.impl_generics
 /// [IfErr]: crate::contracts#std.IfErr
 /// [IfFault]: crate::contracts#item_headers.Fault.IfFault
 /// [HasNoParams]: crate::contracts#item_headers.Fault.HasNoParams
-/// [IsWellSpaced]: crate::contracts#pm_stream.WellSpaced.IsWellSpaced
 pub fn impl_generics(item: &TypeItem<'_>) -> Result<TokenStream, HeaderError>
 {
     let mut quote = Quote::new();
@@ -49,7 +46,7 @@ pub fn impl_generics(item: &TypeItem<'_>) -> Result<TokenStream, HeaderError>
         Lead::Angle,
         Form::Declared,
     )?;
-    Ok(quote.finish()?)
+    Ok(quote.into_stream())
 }
 
 /// The arguments of the item's type: the names of its parameters in order, or nothing where it has none.
@@ -59,26 +56,23 @@ pub fn impl_generics(item: &TypeItem<'_>) -> Result<TokenStream, HeaderError>
 /// # Contract
 ///
 /// - `ensures ok`: <code>[IfOk] result (λ stream. (params : [List] [ParamTrees]) × [HasParams]
-///   item.now.generics.now params × (stream ≡ [respaced] ([type_generics] params)))</code>
+///   item.now.generics.now params × (stream ≡ [type_generics] params))</code>
 /// - `ensures fault`: <code>[IfErr] result (λ error. [IfFault] error ([HasNoParams]
 ///   item.now.generics.now))</code>
-/// - `ensures spaced`: <code>[IfOk] result [IsWellSpaced]</code>
 ///
 /// [IfOk]: crate::contracts#std.IfOk
 /// [List]: crate::contracts#std.List
 /// [ParamTrees]: crate::contracts#declarations.Param.ParamTrees
 /// [HasParams]: crate::contracts#item_headers.Header.HasParams
-/// [respaced]: crate::contracts#quoting.Respaced.respaced
 /// [type_generics]: crate::contracts#item_headers.Header.type_generics
 /// [IfErr]: crate::contracts#std.IfErr
 /// [IfFault]: crate::contracts#item_headers.Fault.IfFault
 /// [HasNoParams]: crate::contracts#item_headers.Fault.HasNoParams
-/// [IsWellSpaced]: crate::contracts#pm_stream.WellSpaced.IsWellSpaced
 pub fn type_generics(item: &TypeItem<'_>) -> Result<TokenStream, HeaderError>
 {
     let mut quote = Quote::new();
     push_generics(&mut quote, item.generics, Lead::Angle, Form::Named)?;
-    Ok(quote.finish()?)
+    Ok(quote.into_stream())
 }
 
 /// The same as an expression wants them, as `::<'a, T, N>`; nothing where the item has none. It fails as
@@ -87,21 +81,18 @@ pub fn type_generics(item: &TypeItem<'_>) -> Result<TokenStream, HeaderError>
 /// # Contract
 ///
 /// - `ensures ok`: <code>[IfOk] result (λ stream. (params : [List] [ParamTrees]) × [HasParams]
-///   item.now.generics.now params × (stream ≡ [respaced] ([turbofish] params)))</code>
+///   item.now.generics.now params × (stream ≡ [turbofish] params))</code>
 /// - `ensures fault`: <code>[IfErr] result (λ error. [IfFault] error ([HasNoParams]
 ///   item.now.generics.now))</code>
-/// - `ensures spaced`: <code>[IfOk] result [IsWellSpaced]</code>
 ///
 /// [IfOk]: crate::contracts#std.IfOk
 /// [List]: crate::contracts#std.List
 /// [ParamTrees]: crate::contracts#declarations.Param.ParamTrees
 /// [HasParams]: crate::contracts#item_headers.Header.HasParams
-/// [respaced]: crate::contracts#quoting.Respaced.respaced
 /// [turbofish]: crate::contracts#item_headers.Header.turbofish
 /// [IfErr]: crate::contracts#std.IfErr
 /// [IfFault]: crate::contracts#item_headers.Fault.IfFault
 /// [HasNoParams]: crate::contracts#item_headers.Fault.HasNoParams
-/// [IsWellSpaced]: crate::contracts#pm_stream.WellSpaced.IsWellSpaced
 pub fn turbofish(item: &TypeItem<'_>) -> Result<TokenStream, HeaderError>
 {
     let mut quote = Quote::new();
@@ -111,7 +102,7 @@ pub fn turbofish(item: &TypeItem<'_>) -> Result<TokenStream, HeaderError>
         Lead::Turbofish,
         Form::Named,
     )?;
-    Ok(quote.finish()?)
+    Ok(quote.into_stream())
 }
 
 // Puts the parameters at the end, in brackets.

@@ -3,11 +3,12 @@
 //!
 //! Groups nest no deeper in a template than a limit, so that the functions may call themselves for them.
 
-use crate::shim::prelude::TryClone;
+use crate::shim::prelude::{Grow, GrowList, TryClone};
 
 use crate::quoting::builder::StreamBuilder;
 use crate::quoting::errors::TemplateError;
 use crate::quoting::holes::Hole;
+use crate::quoting::putting::put_name;
 use crate::quoting::interpolation::{FoundInterpolation, Repetition, interpolation_at};
 use crate::quoting::respace::{regrouped, spaced};
 use crate::quoting::turns::{checked, turns_of};
@@ -19,13 +20,13 @@ use crate::shim::alloc::AllocError;
 pub(crate) fn filled(
     template: &TokenStream,
     holes: &[Hole<'_>],
-    turn: Option<usize>,
+    turns: &[usize],
     depth: usize,
 ) -> Result<TokenStream, TemplateError>
 {
     let trees = template.trees();
     let mut out = StreamBuilder::new();
-    fill_onto(&mut out, trees, holes, turn, depth)?;
+    fill_onto(&mut out, trees, holes, turns, depth)?;
     Ok(out.finish()?)
 }
 
@@ -34,7 +35,7 @@ fn fill_onto(
     out: &mut StreamBuilder,
     template: &[TokenTree],
     holes: &[Hole<'_>],
-    turn: Option<usize>,
+    turns: &[usize],
     depth: usize,
 ) -> Result<(), TemplateError>
 {
@@ -43,7 +44,7 @@ fn fill_onto(
         match interpolation_at(tree, after) {
             None => {
                 if let TokenTree::Group(group) = tree {
-                    let inside = filled_inside(group, holes, turn, depth)?;
+                    let inside = filled_inside(group, holes, turns, depth)?;
                     out.put(TokenTree::Group(regrouped(group, inside)), after.len())?;
                 } else {
                     out.put(apart_before(tree, after)?, after.len())?;
@@ -51,11 +52,11 @@ fn fill_onto(
                 left = after;
             }
             Some(FoundInterpolation::Names(name, rest)) => {
-                out.append(name.put_in(holes, turn)?, rest.len())?;
+                put_name(out, &name, holes, turns, rest.len())?;
                 left = rest;
             }
             Some(FoundInterpolation::Repeats(repetition, rest)) => {
-                repeat_onto(out, &repetition, holes, turn, depth)?;
+                repeat_onto(out, &repetition, holes, turns, depth)?;
                 left = rest;
             }
         }
@@ -88,7 +89,7 @@ pub(crate) fn has_meaning(trees: &[TokenTree]) -> bool
 fn filled_inside(
     group: &Group,
     holes: &[Hole<'_>],
-    turn: Option<usize>,
+    turns: &[usize],
     depth: usize,
 ) -> Result<TokenStream, TemplateError>
 {
@@ -100,7 +101,7 @@ fn filled_inside(
     if are_fixed(template.trees()) {
         return Ok(template.try_clone()?);
     }
-    filled(template, holes, turn, inner)
+    filled(template, holes, turns, inner)
 }
 
 /// Whether the trees are neither groups nor `#`, and so come out as they are.
@@ -130,27 +131,34 @@ pub(crate) fn repeat_onto(
     out: &mut StreamBuilder,
     repetition: &Repetition<'_>,
     holes: &[Hole<'_>],
-    turn: Option<usize>,
+    turns: &[usize],
     depth: usize,
 ) -> Result<(), TemplateError>
 {
     let body = repetition.body;
-    if turn.is_some() {
-        return Err(TemplateError::Nested(body.span()));
-    }
     let Some(inner) = depth.checked_sub(1) else {
         return Err(TemplateError::TooDeep(body.span()));
     };
     let trees = body.stream_ref().trees();
-    let Some(turns) = turns_of(trees, holes)? else {
+    let Some(count) = turns_of(trees, holes, turns)? else {
         return Err(TemplateError::NoList(body.span()));
     };
-    checked(trees, holes, inner, turns)?;
-    for turn in 0..turns {
+    checked(trees, holes, turns, inner, count)?;
+    for turn in 0..count {
         separate(out, repetition.separator, turn, trees.len())?;
-        fill_onto(out, trees, holes, Some(turn), inner)?;
+        let here = and_turn(turns, turn)?;
+        fill_onto(out, trees, holes, here.as_slice(), inner)?;
     }
     Ok(())
+}
+
+// The turns of the repetitions outside, and this one.
+fn and_turn(turns: &[usize], turn: usize) -> Result<Vec<usize>, AllocError>
+{
+    let mut list = Vec::with_capacity_fallibly(turns.len().saturating_add(1))?;
+    list.extend_from_slice_fallibly(turns)?;
+    list.push_fallibly(turn)?;
+    Ok(list)
 }
 
 // Puts the separator at the end, Alone, before a turn that is not the first. So many more trees are expected.

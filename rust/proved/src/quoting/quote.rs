@@ -64,6 +64,21 @@ impl Quote {
         self.pushed.extend_streams([stream])
     }
 
+    /// The stream of exactly what was pushed: groups without delimiters stay, and so do all spacings and spans. It takes
+    /// no memory.
+    ///
+    /// It is the answer of a macro, which the compiler reads as trees. It need not come back from its printed text; use
+    /// `finish` for that.
+    ///
+    /// # Contract
+    ///
+    /// - `ensures`: <code>result ≡ self</code>
+    pub fn into_stream(self) -> TokenStream
+    {
+        let Quote { pushed, .. } = self;
+        pushed
+    }
+
     /// The stream of what was pushed, its marks respaced (`respaced`): each `'` is Joint, and each other mark keeps its
     /// spacing where `well-spaced` allows it and is Alone where not. The quote stays as it was.
     ///

@@ -45,7 +45,7 @@ impl Quote {
     /// [OnErr]: crate::contracts#std.OnErr
     pub fn fill(&mut self, template: &TokenStream, holes: &[Hole<'_>]) -> Result<(), TemplateError>
     {
-        let stream = filled(template, holes, None, DEPTH_LIMIT)?;
+        let stream = filled(template, holes, &[], DEPTH_LIMIT)?;
         self.push_stream(stream)?;
         Ok(())
     }

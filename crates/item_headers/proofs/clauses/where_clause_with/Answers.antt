@@ -9,5 +9,5 @@ returns-clause-ok c =
       put.0,
       put.1,
       with_one put.0 c.args.predicate.now _ _ _ _ _ _ c.new-quote.ensures put.2 put.3 c.in_ok-push_lead.ensures
-          (c.in_ok-push_stream.ensures.ok ∙ ap (joined _) c.in_ok-copy.ensures.cases) c.in_ok-finish.ensures.ok.0,
+          (c.in_ok-push_stream.ensures.ok ∙ ap (joined _) c.in_ok-copy.ensures.cases) c.into_stream.ensures,
     )

@@ -13,7 +13,7 @@ returns-clause-ok c =
       put.1,
       bounds.1,
       with_bounds put.0 (bounds_on_types c.args.bound.now bounds.0) _ _ _ _ _
-          c.new-quote.ensures put.2 put.3 bounds.2 c.in_ok-finish.ensures.ok.0,
+          c.new-quote.ensures put.2 put.3 bounds.2 c.into_stream.ensures,
     )
 
 pub returns-in_err-any-clause-fault : goal.returns-in_err-any-clause-fault

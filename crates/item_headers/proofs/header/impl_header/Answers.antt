@@ -12,7 +12,7 @@ returns-clause-ok c =
       put.1,
       clause.1,
       header_written put.0 clause.0 c.args.item.now.name.now
-          c.args.trait_path.now _ _ _ put.2 clause.2 c.in_ok-finish.ensures.ok.0,
+          c.args.trait_path.now _ _ _ put.2 clause.2 c.into_stream.ensures,
     )
 
 pub returns-in_err-quote-clause-fault : goal.returns-in_err-quote-clause-fault

@@ -9,5 +9,5 @@ returns-clause-ok c =
       put.0,
       put.1,
       header_with put.0 c.args.item.now.name.now c.args.trait_path.now c.args.where_clause.now _ _ _ put.2
-          (c.in_ok-push_stream.ensures.ok ∙ ap (joined _) c.in_ok-clause.ensures.cases) c.in_ok-finish.ensures.ok.0,
+          (c.in_ok-push_stream.ensures.ok ∙ ap (joined _) c.in_ok-clause.ensures.cases) c.into_stream.ensures,
     )

@@ -5,4 +5,4 @@ use Rattle.item_headers.proofs.params.impl_generics.Goals as goal
 pub returns-clause-ok : goal.returns-clause-ok
 returns-clause-ok c =
     let put = c.in_ok-push_generics.ensures.ok in
-    (put.0, put.1, from_nothing _ _ _ (impl_generics put.0) c.new-quote.ensures put.2 c.in_ok-finish.ensures.ok.0)
+    (put.0, put.1, from_nothing _ _ _ (impl_generics put.0) c.new-quote.ensures put.2 c.into_stream.ensures)
