@@ -94,6 +94,15 @@ fn turns_are_separated_by_any_token() {
 }
 
 #[test]
+fn slices_of_trees_are_put_in_whole_unless_they_are_repeated() {
+    let stream: TokenStream = "pub(crate) Vec<u8>".parse().expect("it is a text");
+    let (visibility, kind) = (&stream.trees()[..2], stream.trees()[2..].to_vec());
+    let (kinds, repeated) = ([&kind[..], visibility, &[]], visibility);
+    let made = quote!(#visibility #kind #( [ #kinds ] )* #( #repeated ),*);
+    assert_eq!(made.to_string(), "pub (crate) Vec < u8 > [Vec < u8 >] [pub (crate)] [] pub , (crate)");
+}
+
+#[test]
 fn repetitions_stand_inside_of_others() {
     let names = [name("a"), name("b")];
     let kinds = vec![vec![name("x"), name("y")], vec![]];

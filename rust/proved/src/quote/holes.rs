@@ -1,6 +1,7 @@
 //! Holes by name.
 use crate::pm_stream::TokenStream;
-use crate::quote::{InTurns, Template, TemplateFault, ToTokens};
+use crate::quote::to_tokens::Alone;
+use crate::quote::{InTurns, Template, TemplateFault};
 use crate::quoting::{Hole, Value, Values};
 use std::vec::Vec;
 
@@ -50,9 +51,9 @@ impl<'a> Holes<'a> {
 
     /// A hole of `quote!` outside of its repetitions.
     #[doc(hidden)]
-    pub fn put<T: ToTokens + ?Sized>(&mut self, name: &'a str, value: &'a T) {
+    pub fn put<T: Alone + ?Sized>(&mut self, name: &'a str, value: &'a T) {
         if !self.has(name) {
-            self.list.push((name, value.value()));
+            self.list.push((name, value.alone()));
         }
     }
 

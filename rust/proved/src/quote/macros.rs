@@ -66,7 +66,7 @@ impl<T: Iterator> Iterated for T {}
 /// The stream of these tokens, in which each `#name` is what the variable of that name holds: `quote`'s macro.
 ///
 /// What holes can hold, [`ToTokens`](crate::quote::ToTokens) says, and of repetitions
-/// [`InTurns`](crate::quote::InTurns). In `#( .. )*` and `#( .. ),*` a list, or an iterator, gives its next value in
+/// [`InTurns`](crate::quote::InTurns). Outside of repetitions a slice of trees is put in whole. In `#( .. )*` and `#( .. ),*` a list, or an iterator, gives its next value in
 /// each turn. A list is used by the outermost repetition in which it is named, so that a list of lists can be repeated
 /// inside of one. A name that is no variable is an error of rustc at that very name.
 ///

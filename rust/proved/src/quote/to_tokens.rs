@@ -76,10 +76,33 @@ pub trait ToTokens {
     {
         listed(list.iter().map(ToTokens::value))
     }
+
+    /// What a list of such values is as a value of another list.
+    #[doc(hidden)]
+    fn values_in_list(list: &[Self]) -> Value<'_>
+    where
+        Self: Sized,
+    {
+        Self::values(list)
+    }
+}
+
+/// What may stand in a hole outside of repetitions: besides what has tokens, trees as the parts of items have them, all
+/// of which are put in.
+#[doc(hidden)]
+pub trait Alone {
+    fn alone(&self) -> Value<'_>;
+}
+
+impl<T: ToTokens + ?Sized> Alone for T {
+    fn alone(&self) -> Value<'_> {
+        self.value()
+    }
 }
 
 /// What may stand in a hole inside of a repetition `#( .. )*`: all that may stand in others, and slices, arrays and
-/// `Vec`s of these, whose next value comes in each turn. What is in them may be lists for the repetitions inside.
+/// `Vec`s of these, whose next value comes in each turn. What is in them may be lists for the repetitions inside. But a
+/// list of trees that is in another list is one value: all of its trees.
 ///
 /// ```
 /// use proved_tokens::{quote, Ident};
@@ -100,7 +123,22 @@ pub trait InTurns {
     where
         Self: Sized,
     {
-        listed(list.iter().map(InTurns::in_turns))
+        listed(list.iter().map(InTurns::in_list))
+    }
+
+    /// What it is as a value of a list.
+    #[doc(hidden)]
+    fn in_list(&self) -> Value<'_> {
+        self.in_turns()
+    }
+
+    /// What a list of such values is as a value of another list.
+    #[doc(hidden)]
+    fn lists_in_list(list: &[Self]) -> Value<'_>
+    where
+        Self: Sized,
+    {
+        Self::lists(list)
     }
 }
 
@@ -124,26 +162,45 @@ impl<T: ToTokens + ?Sized> InTurns for T {
     {
         T::values(list)
     }
+
+    fn lists_in_list(list: &[T]) -> Value<'_>
+    where
+        T: Sized,
+    {
+        T::values_in_list(list)
+    }
 }
 
-/// The lists, and references to them.
+/// The lists, and references to them. Each is there a second time with trees in it.
 macro_rules! lists {
-    ($([$($sign:tt)*] $list:ty;)*) => {
-        $(impl<T: InTurns, $($sign)*> InTurns for $list {
-            fn in_turns(&self) -> Value<'_> {
-                T::lists(&self[..])
+    ($([$($sign:tt)*] $list:ty, $trees:ty;)*) => {
+        $(
+            impl<T: InTurns, $($sign)*> InTurns for $list {
+                fn in_turns(&self) -> Value<'_> {
+                    T::lists(&self[..])
+                }
+
+                fn in_list(&self) -> Value<'_> {
+                    T::lists_in_list(&self[..])
+                }
             }
-        })*
+
+            impl<$($sign)*> Alone for $trees {
+                fn alone(&self) -> Value<'_> {
+                    TokenTree::values_in_list(&self[..])
+                }
+            }
+        )*
     };
 }
 
 lists! {
-    [] [T];
-    [] &[T];
-    [] Vec<T>;
-    [] &Vec<T>;
-    [const N: usize] [T; N];
-    [const N: usize] &[T; N];
+    [] [T], [TokenTree];
+    [] &[T], &[TokenTree];
+    [] Vec<T>, Vec<TokenTree>;
+    [] &Vec<T>, &Vec<TokenTree>;
+    [const N: usize] [T; N], [TokenTree; N];
+    [const N: usize] &[T; N], &[TokenTree; N];
 }
 
 /// What stands for the tokens of another value.
@@ -212,8 +269,6 @@ macro_rules! known {
 known! {
     /// Its trees.
     TokenStream, stream => Value::Stream(stream), stream.clone(), Streams;
-    /// The tree; a negative literal is its `-` and the rest.
-    TokenTree, tree => Value::Tree(tree), tree.clone(), Trees;
     /// The group.
     Group, group => Value::OwnedTree(group.clone().into()), group.clone();
     /// The identifier.
@@ -226,6 +281,25 @@ known! {
     char, c => Value::Character(*c), character(*c);
     /// The identifier `true` or `false`.
     bool, truth => Value::Boolean(*truth), word(if *truth { "true" } else { "false" });
+}
+
+/// The tree; a negative literal is its `-` and the rest.
+impl ToTokens for TokenTree {
+    fn to_tokens(&self, stream: &mut TokenStream) {
+        stream.extend([self.clone()]);
+    }
+
+    fn value(&self) -> Value<'_> {
+        Value::Tree(self)
+    }
+
+    fn values(list: &[TokenTree]) -> Value<'_> {
+        Value::Trees(list)
+    }
+
+    fn values_in_list(list: &[TokenTree]) -> Value<'_> {
+        Value::OwnedStream(list.into())
+    }
 }
 
 fn character(c: char) -> Literal {
