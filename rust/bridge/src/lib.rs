@@ -37,9 +37,57 @@ pub use pretty::{pretty, PrettyError};
 pub use proved_tokens;
 pub use spans::{NoToken, Spans};
 
-/// The examples of the page that describes this package, and of the repository's page on moving here, which is not in
-/// the package.
+/// The examples of the page that describes this package.
 #[cfg(all(doctest, feature = "pretty_printer"))]
 #[doc = include_str!("../README.md")]
-#[doc = include_str!("../../../docs/MOVING.md")]
-struct Pages;
+struct Readme;
+
+/// The examples of the repository's guide, which may use all features. The page is not in the package.
+#[cfg(all(
+    doctest,
+    feature = "quote",
+    feature = "items",
+    feature = "print",
+    feature = "check",
+    feature = "cursor"
+))]
+#[doc = include_str!("../../../docs/GUIDE.md")]
+struct Guide;
+
+/// The examples on the pages of the repository's crates, likewise.
+#[cfg(all(
+    doctest,
+    feature = "quote",
+    feature = "items",
+    feature = "print",
+    feature = "check",
+    feature = "cursor"
+))]
+mod pages {
+    macro_rules! pages {
+        ($($page:literal $name:ident)*) => {
+            $(
+                #[doc = include_str!(concat!("../../../crates/", $page, "/README.md"))]
+                struct $name;
+            )*
+        };
+    }
+
+    pages! {
+        "lexical" Lexical
+        "literal_escaper" LiteralEscaper
+        "pm_span" PmSpan
+        "pm_token" PmToken
+        "pm_stream" PmStream
+        "token_buffer" TokenBuffer
+        "proc_macro2" ProcMacro2
+        "declarations" Declarations
+        "explain" Explain
+        "layout" Layout
+        "relayout" Relayout
+        "quoting" Quoting
+        "item_headers" ItemHeaders
+        "pretty_printer" PrettyPrinter
+        "pretty" Pretty
+    }
+}

@@ -1,13 +1,16 @@
-//! Each call that `docs/MOVING.md` and the READMEs of the packages show, made as they show it, with `?`. The last test
+//! Each call that `docs/GUIDE.md` and the READMEs of the packages show, made as they show it, with `?`. The last test
 //! reads the pages, so that a page shows no other call. Blocks of code on the pages are compiled as their examples.
 #![cfg(feature = "item_headers")]
 #![cfg(feature = "token_buffer")]
 #![cfg(feature = "quoting")]
 #![cfg(feature = "pretty_printer")]
+#![cfg(feature = "explain")]
+use proved_tokens::check::{advice, explain, Hint};
 use proved_tokens::cursor::TokenBuffer;
 use proved_tokens::items::{
     compile_error, impl_generics, impl_header, impl_header_where, parse_file, parse_param, parse_type_item,
-    type_generics, where_clause, where_clause_with_bound, within_generics, Attributes, Body, ParamKind,
+    split_attributes, split_type, split_visibility, type_generics, where_clause, where_clause_with_bound,
+    within_generics, Attributes, Body, ParamKind,
 };
 use proved_tokens::print::to_pretty_string;
 use proved_tokens::quote::{Hole, Quote};
@@ -72,6 +75,10 @@ fn calls_in_place_of_proc_macro2s_on_spans_and_literals() -> Outcome {
     let (span, other) = (stream.trees()[0].span(), stream.trees()[6].span());
     assert!(map.holds(span) && map.holds(other));
     assert_eq!(span.start(&map).line, 1);
+    assert_eq!(span.end(&map).column, 2);
+    let TokenTree::Group(group) = &stream.trees()[6] else { panic!("it is the body") };
+    assert_eq!(group.span_open().byte_range(&mut map), 18..19);
+    assert_eq!(group.span_close().byte_range(&mut map), 26..27);
     assert_eq!(span.file(&map)?, "<parsed string 1>");
     let span = span.join(other, &map).ok_or("both are in one text")?;
     assert_eq!(span.source_str(&map), Some(text));
@@ -88,6 +95,8 @@ fn calls_in_place_of_proc_macro2s_on_spans_and_literals() -> Outcome {
     assert_eq!(Literal::string(&text)?.text(), literal.text());
     let text = "b";
     assert_eq!(Literal::string(text)?.text(), "\"b\"");
+    assert_eq!(Literal::from(text).text(), "\"b\"");
+    assert_eq!(Literal::u8_suffixed(1)?.text(), "1u8");
     Ok(())
 }
 
@@ -132,8 +141,40 @@ fn calls_in_place_of_syns() -> Outcome {
     assert_eq!(header.to_string(), "impl < T : A > Clone for S < T > where T : C , T : Clone");
     let (text, span) = ("a", item.name.span());
     assert_eq!(compile_error(text, span)?.to_string(), ":: core :: compile_error ! { \"a\" }");
-    let fault = parse_type_item(path.trees()).err().ok_or("it is no item")?;
-    assert_eq!(fault.to_compile_error()?.to_string(), ":: core :: compile_error ! { \"not expected here\" }");
+    let error = parse_type_item(path.trees()).err().ok_or("it is no item")?;
+    assert_eq!(error.to_compile_error()?.to_string(), ":: core :: compile_error ! { \"not expected here\" }");
+    Ok(())
+}
+
+#[test]
+fn calls_for_lints_and_editors() -> Outcome {
+    let stream: TokenStream = "/// A.\npub struct S { #[a] x: u8 }".parse()?;
+    let item = parse_file(stream.trees())?.items.next().ok_or("no item")??;
+    let attribute = Attributes::new(item.trees).next().ok_or("no attribute")?;
+    assert_eq!(attribute.doc().map(Literal::text), Some("\" A.\""));
+    let (_, rest) = split_attributes(item.trees)?;
+    let (visibility, _) = split_visibility(rest)?;
+    assert_eq!(TokenStream::from(visibility).to_string(), "pub");
+    let Body::Struct(fields) = parse_type_item(item.trees)?.body else { panic!("it is a struct") };
+    for field in fields.list() {
+        let field = field?;
+        assert!(Attributes::new(field.attributes).all(|attribute| attribute.is("a")));
+        assert_eq!(TokenStream::from(field.field_type).to_string(), "u8");
+    }
+    let mut walk = stream.walk();
+    while let Some(tree) = walk.next() {
+        if let TokenTree::Group(group) = tree {
+            walk.pass_over(group);
+        }
+        assert_ne!(tree.to_string(), "x");
+    }
+    let stream: TokenStream = "Map<K, V>, x: u8".parse()?;
+    let trees = stream.trees();
+    let (found, rest) = split_type(trees)?;
+    assert_eq!((found.len(), rest.len()), (6, 4));
+    let text = "/* a /* b */ c";
+    let error = explain(text)?.ok_or("it has no error")?;
+    assert!(matches!(advice(text, &error)?, Some(Hint::Comments { depth: 1, closed: Some(_) })));
     Ok(())
 }
 
@@ -155,7 +196,7 @@ fn calls_in_place_of_rustc_lexers_and_prettypleases() -> Outcome {
 /// The pages that show calls to users of Cargo. The blocks of code on them are compiled as the examples of
 /// `src/lib.rs` here and in the bridge.
 const PAGES: [(&str, &str); 7] = [
-    ("docs/MOVING.md", include_str!("../../../docs/MOVING.md")),
+    ("docs/GUIDE.md", include_str!("../../../docs/GUIDE.md")),
     ("README.md", include_str!("../../../README.md")),
     ("rust/README.md", include_str!("../../README.md")),
     ("rust/proved/README.md", include_str!("../README.md")),

@@ -1,4 +1,4 @@
-//! What Rust's users expect of the types: the traits of std, and `?` on every call that docs/MOVING.md and the READMEs
+//! What Rust's users expect of the types: the traits of std, and `?` on every call that docs/GUIDE.md and the READMEs
 //! show.
 #![cfg(all(feature = "explain", feature = "relayout", feature = "pretty_printer", feature = "item_headers"))]
 use proved_tokens::check::explain;
