@@ -9,24 +9,25 @@ const IN_ONE: usize = 50;
 /// Tokens that need a space on both sides, or none to a mark.
 #[rustfmt::skip]
 const WORDS: [&str; 36] = [
-    "a", "fn", "r#x", "r#fn", "self", "Self", "_x", "größe", "'a", "'static", "'_", "0", "1u8", "0x1F", "0b1_0i32", "1.5",
-    "2e3", "1_0.5e-1f64", "0.0", "7.", "'x'", "'\\''", "'\\u{E9}'", "b'\\n'", "\"text\"", "\"a\\n\\\"b\"", "r\"raw\"",
-    "r#\"a\"b\"#", "b\"bytes\"", "br\"\\\"", "c\"text\"", "true", "_", "crate", "async", "1usize",
+    "a", "fn", "r#x", "r#fn", "self", "Self", "_x", "größe", "'a", "'static", "'_", "0", "1u8", "0x1F", "0b1_0i32",
+    "1.5", "2e3", "1_0.5e-1f64", "0.0", "7.", "'x'", "'\\''", "'\\u{E9}'", "b'\\n'", "\"text\"", "\"a\\n\\\"b\"",
+    "r\"raw\"", "r#\"a\"b\"#", "b\"bytes\"", "br\"\\\"", "c\"text\"", "true", "_", "crate", "async", "1usize",
 ];
 /// Marks, alone and joined.
 #[rustfmt::skip]
 const MARKS: [&str; 50] = [
-    "+", "-", "*", "^", "!", "&", "|", "=", "<", ">", "@", ".", ",", ";", ":", "?", "~", "$", "%", "&&", "||", "<<", ">>",
-    "+=", "-=", "*=", "^=", "%=", "&=", "|=", "<<=", ">>=", "==", "!=", ">=", "<=", "..", "...", "..=", "::", "->", "=>",
-    "<-", "# ;", "/ ", "/= ", "- -", "& &", "> >", ". .",
+    "+", "-", "*", "^", "!", "&", "|", "=", "<", ">", "@", ".", ",", ";", ":", "?", "~", "$", "%", "&&", "||", "<<",
+    ">>", "+=", "-=", "*=", "^=", "%=", "&=", "|=", "<<=", ">>=", "==", "!=", ">=", "<=", "..", "...", "..=", "::",
+    "->", "=>", "<-", "# ;", "/ ", "/= ", "- -", "& &", "> >", ". .",
 ];
 /// Holes and repetitions.
 #[rustfmt::skip]
 const HOLES: [&str; 26] = [
-    "#one", "#text", "#count", "#negative", "#letter", "#truth", "#trees", "#none", "#float", "# one", "#r#in", "##one",
-    "#( #list )*", "#( #list ),*", "#( #list: #texts, )*", "#(#list)+*", "#( #one #list );*", "#(#list)**",
-    "#( #list #list [ #texts ] )|*", "#( #list( #( #lists ),* ) );*", "#( #( #lists #one )* )*", "#( #( #lists => #list )+* )*",
-    "#( #list == #texts )&&*", "#(#list)||*", "#( #( #lists )..=* )or*", "(@ #( #list )'a* @)",
+    "#one", "#text", "#count", "#negative", "#letter", "#truth", "#trees", "#none", "#float", "# one", "#r#in",
+    "##one", "#( #list )*", "#( #list ),*", "#( #list: #texts, )*", "#(#list)+*", "#( #one #list );*", "#(#list)**",
+    "#( #list #list [ #texts ] )|*", "#( #list( #( #lists ),* ) );*", "#( #( #lists #one )* )*",
+    "#( #( #lists => #list )+* )*", "#( #list == #texts )&&*", "#(#list)||*", "#( #( #lists )..=* )or*",
+    "(@ #( #list )'a* @)",
 ];
 /// What the holes stand for.
 const VALUES: &str = r#"

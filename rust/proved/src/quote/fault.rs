@@ -115,7 +115,7 @@ fn no_hole(name: &str, holes: &Holes<'_>) -> String {
     }
 }
 
-/// How many characters have to be put in, left out or replaced, or swapped with the next, to make one text of the other.
+/// How many characters have to be put in, left out, replaced or swapped with the next to make one text of the other.
 fn distance(one: &str, other: &str) -> usize {
     let (one, other): (Vec<char>, Vec<char>) = (one.chars().collect(), other.chars().collect());
     let mut rows: Vec<Vec<usize>> = (0..=one.len()).map(|index| Vec::from([index])).collect();

@@ -149,8 +149,8 @@ pub fn named(name: fmt::Arguments<'_>, span: Option<Span>) -> Ident {
     made.unwrap_or_else(|error| panic!("`{text}` is no identifier: {error}"))
 }
 
-/// The identifier that is formatted so, as `quote`'s macro makes it: by the rules of [`format!`](std::format!), but with
-/// parts that are [`IdentFragment`]s. In the text each is `{}` or has a name.
+/// The identifier that is formatted so, as `quote`'s macro makes it: by the rules of [`format!`](std::format!), but
+/// with parts that are [`IdentFragment`](crate::quote::IdentFragment)s. In the text each is `{}` or has a name.
 ///
 /// Its span is that of the argument `span = ..`, or of the first part that has one, or the call site.
 ///

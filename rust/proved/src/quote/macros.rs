@@ -66,9 +66,10 @@ impl<T: Iterator> Iterated for T {}
 /// The stream of these tokens, in which each `#name` is what the variable of that name holds: `quote`'s macro.
 ///
 /// What holes can hold, [`ToTokens`](crate::quote::ToTokens) says, and of repetitions
-/// [`InTurns`](crate::quote::InTurns). Outside of repetitions a slice of trees is put in whole. In `#( .. )*` and `#( .. ),*` a list, or an iterator, gives its next value in
-/// each turn. A list is used by the outermost repetition in which it is named, so that a list of lists can be repeated
-/// inside of one. A name that is no variable is an error of rustc at that very name.
+/// [`InTurns`](crate::quote::InTurns). Outside of repetitions a slice of trees is put in whole. In `#( .. )*` and
+/// `#( .. ),*` a list, or an iterator, gives its next value in each turn. A list is used by the outermost repetition in
+/// which it is named, so that a list of lists can be repeated inside of one. A name that is no variable is an error of
+/// rustc at that very name.
 ///
 /// The tokens have the span of the call site; those that come from variables keep theirs. The template is read at the
 /// first call in each thread, and kept.
