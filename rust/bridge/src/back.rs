@@ -104,11 +104,13 @@ pub fn from_proved(stream: &OwnStream, spans: &Spans) -> Result<TokenStream, NoT
 fn kept<'a>(tree: &OwnTree, spans: &'a Spans) -> Option<(usize, &'a TokenTree)> {
     let number = Spans::first(tree.span())?;
     let (token, was) = spans.token(tree.span())?;
-    let is_same = match (was, tree) {
-        (OwnTree::Ident(was), OwnTree::Ident(ident)) => name_of(was) == name_of(ident) && is_raw(was) == is_raw(ident),
-        (OwnTree::Literal(was), OwnTree::Literal(literal)) => was.text() == literal.text(),
-        (OwnTree::Punct(was), OwnTree::Punct(punct)) => {
-            was.as_char() == punct.as_char() && was.spacing() == punct.spacing()
+    let is_same = match (token, was, tree) {
+        (_, Some(OwnTree::Ident(was)), OwnTree::Ident(ident)) => {
+            name_of(was) == name_of(ident) && is_raw(was) == is_raw(ident)
+        }
+        (_, Some(OwnTree::Literal(was)), OwnTree::Literal(literal)) => was.text() == literal.text(),
+        (TokenTree::Punct(mark), _, OwnTree::Punct(punct)) => {
+            mark.as_char() == punct.as_char() && mark.spacing() == spacing(punct.spacing())
         }
         _ => false,
     };

@@ -43,26 +43,12 @@ pub use spans::{NoToken, Spans};
 struct Readme;
 
 /// The examples of the repository's guide, which may use all features. The page is not in the package.
-#[cfg(all(
-    doctest,
-    feature = "quote",
-    feature = "items",
-    feature = "print",
-    feature = "check",
-    feature = "cursor"
-))]
+#[cfg(all(doctest, feature = "quote", feature = "items", feature = "print", feature = "check", feature = "cursor"))]
 #[doc = include_str!("../../../docs/GUIDE.md")]
 struct Guide;
 
 /// The examples on the pages of the repository's crates, likewise.
-#[cfg(all(
-    doctest,
-    feature = "quote",
-    feature = "items",
-    feature = "print",
-    feature = "check",
-    feature = "cursor"
-))]
+#[cfg(all(doctest, feature = "quote", feature = "items", feature = "print", feature = "check", feature = "cursor"))]
 mod pages {
     macro_rules! pages {
         ($($page:literal $name:ident)*) => {

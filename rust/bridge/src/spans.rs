@@ -23,8 +23,8 @@ pub struct Spans {
 #[derive(Clone, Debug)]
 enum Kept {
     Span(Span),
-    /// A token of the caller's, and what it became.
-    Token(TokenTree, OwnTree),
+    /// A token of the caller's, and what it became, if that isn't seen from the token.
+    Token(TokenTree, Option<OwnTree>),
     /// A group of the caller's, and the number after those of the trees in it.
     Group(Group, usize),
 }
@@ -50,19 +50,24 @@ impl Spans {
 
     /// A proved span that stands for the caller's, to be set on new tokens: they come back with it.
     pub fn place(&mut self, span: Span) -> Place {
-        self.keep([Kept::Span(span)])
+        self.keep(Kept::Span(span))
     }
 
     /// A span that stands for a token's, which became this tree.
-    pub(crate) fn place_of_token(&mut self, token: TokenTree, tree: OwnTree) -> Place {
-        self.keep([Kept::Token(token, tree)])
+    pub(crate) fn place_of_token(&mut self, token: TokenTree, tree: Option<OwnTree>) -> Place {
+        self.keep(Kept::Token(token, tree))
     }
 
     /// A span that stands for a group's: its first number for that of the opener, its last for that of the closer.
     /// The numbers of its trees follow, up to a call of `close`.
     pub(crate) fn place_of_group(&mut self, group: Group) -> Place {
         let (open, close) = (group.span_open(), group.span_close());
-        self.keep([Kept::Span(open), Kept::Group(group, 0), Kept::Span(close)])
+        let (open, _, close) =
+            (self.keep(Kept::Span(open)), self.keep(Kept::Group(group, 0)), self.keep(Kept::Span(close)));
+        match (bounds(open), bounds(close)) {
+            ((lo, _), (last, hi)) if lo >= FIRST && last >= FIRST => span_of(lo, hi),
+            _ => Place::call_site(),
+        }
     }
 
     /// All trees of the group have their numbers.
@@ -74,9 +79,9 @@ impl Spans {
     }
 
     /// The caller's token that a proved span stands for, and what it became.
-    pub(crate) fn token(&self, place: Place) -> Option<(&TokenTree, &OwnTree)> {
+    pub(crate) fn token(&self, place: Place) -> Option<(&TokenTree, Option<&OwnTree>)> {
         match self.kept(place) {
-            Some(Kept::Token(token, tree)) => Some((token, tree)),
+            Some(Kept::Token(token, tree)) => Some((token, tree.as_ref())),
             _ => None,
         }
     }
@@ -103,14 +108,14 @@ impl Spans {
         bounds(place).0.checked_sub(FIRST).map(|index| index as usize)
     }
 
-    /// Numbers one or three entries. Past the last number it is the call site.
-    fn keep<const N: usize>(&mut self, kept: [Kept; N]) -> Place {
+    /// Numbers an entry. Past the last number it is the call site.
+    fn keep(&mut self, kept: Kept) -> Place {
         let index = u32::try_from(self.kept.len()).ok();
         let lo = index.and_then(|index| FIRST.checked_add(index));
-        let Some((lo, hi)) = lo.and_then(|lo| Some((lo, lo.checked_add(N as u32)?))) else {
+        let Some((lo, hi)) = lo.and_then(|lo| Some((lo, lo.checked_add(1)?))) else {
             return Place::call_site();
         };
-        self.kept.extend(kept);
+        self.kept.push(kept);
         span_of(lo, hi)
     }
 
