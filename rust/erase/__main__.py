@@ -62,7 +62,7 @@ def erased(text, crate, source, package, words=None):
     rejected = checks.rejections(file)
     rules.RULES[-1](file)
     checks.reject_ghost_left(file.tokens)
-    return headed(file, source), rejected
+    return rules.by_feature(headed(file, source), source), rejected
 
 
 def headed(file, source):

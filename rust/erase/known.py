@@ -51,6 +51,14 @@ MACROS = set('format format_args matches unreachable write writeln'.split())
 ATTRIBUTES = {'inline', 'non_exhaustive'}
 DERIVES = set('Clone Copy Debug Drop Eq Hash Ord PartialEq PartialOrd'.split())
 
+# The modules by their sources that `proc-macro2` never calls. The library has them by its feature `whole`.
+WHOLE = {
+    'crates/literal_escaper/src/lib.rt':
+        'check check_raw classes content_cursor cooked escape front kind laws mixed_unit mode num raw single unescape',
+    'crates/pm_token/src/literals.rt': 'values',
+    'crates/pm_stream/src/lib.rt': 'laws placing reprinting same walk well_spaced',
+}
+
 # What the crates of tests may name besides. Their shim is in rust/proved/tests/own.
 TEST_ITEMS = set('''
     ops::Bound::Excluded ops::Bound::Included ops::Bound::Unbounded process::Abort

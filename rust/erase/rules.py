@@ -965,3 +965,11 @@ def paths(file):
         elif token.text == 'shim':
             edits[at, at] = package.shim
     file.tokens = replaced(tokens, edits)
+
+
+def by_feature(text, source):
+    """The text of a file in which the modules that `known.WHOLE` names, and their items, are there by that feature."""
+    for name in known.WHOLE.get(str(source), '').split():
+        text = re.sub(rf'^(pub )?(mod {name};|use (crate::\w+::)?{name}::)', '#[cfg(feature = "whole")]\n\\g<0>', text,
+                      flags=re.M)
+    return text

@@ -7,6 +7,11 @@ import known
 import rules
 from source import Rejected, is_code, text_of, tokens_of
 
+# A file whose modules are partly there by a feature, and what it becomes.
+MODULES = ('pub mod laws;\nmod steps;\nmod walk;\n\npub use steps::Steps;\npub use walk::Walk;\n',
+           '#[cfg(feature = "whole")]\npub mod laws;\nmod steps;\n#[cfg(feature = "whole")]\nmod walk;\n\n'
+           'pub use steps::Steps;\n#[cfg(feature = "whole")]\npub use walk::Walk;\n')
+
 # Texts, and what is said of each: the forms that no rule knows, or that Rust reads otherwise.
 REJECTED = [
     ('fn f() { unsafe { g() } }', '`unsafe`'),
@@ -318,9 +323,11 @@ def run():
     seen, rejected = applied(LAYOUT[0])
     if seen != LAYOUT[1] or rejected:
         failures.append(f'the layout is\n{seen}{rejected}')
+    if rules.by_feature(MODULES[0], 'crates/pm_stream/src/lib.rt') != MODULES[1]:
+        failures.append('the modules of the feature `whole` are not there by it')
     failures += contracts_failures()
     for failure in failures:
         print(failure)
-    total = 2 * len(rules.RULES) + len(REJECTED) + 4 + 2 + len(UNEXPLAINED)
+    total = 2 * len(rules.RULES) + len(REJECTED) + 5 + 2 + len(UNEXPLAINED)
     print(f'{total - len(failures)} tests of rust/erase passed, {len(failures)} failed')
     return len(failures)

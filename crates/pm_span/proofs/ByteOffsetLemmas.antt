@@ -1,81 +1,57 @@
--- Known offsets: the entries of a file, and the end of its text.
-use Rattle.std.proofs.Common.{◌≡◌, ℕ, suc, ◌+◌, ◌-◌, ◌≤◌, Bool, List, [], ◌∷◌, ◌++◌, length, take, drop, filter, Result}
-use Rattle.std.proofs.Common.{Ok, Err, refl, sym, ap, subst, ◌∙◌, arith, length-drop}
-use Rattle.std.specs.BTreeMap.{insert_entry}
-use Rattle.std.specs.List.{All}
-use Rattle.std.specs.Ordering.{nat_cmp, match_ordering}
-use Rattle.std.specs.Result.{OnOk, OnErr}
+-- Known offsets of a text, and what stands before and after them.
+use Rattle.std.proofs.Common.{◌≡◌, ℕ, ◌+◌, ◌*◌, ◌-◌, ◌<◌, ◌≤◌, List, [], ◌∷◌, ◌++◌, length, take, drop, get_or}
+use Rattle.std.proofs.Common.{refl, sym, ap, subst, ◌∙◌, arith, length-append, length-drop, inl, inr}
 use Rattle.std.specs.Str.{chars, IsUtf8, IsCharBoundary, encode_utf8_all}
-use Rattle.std.specs.declared.cmp.Ordering.{Ordering}
-use Rattle.std.specs.declared.cmp.Ordering.TheVariants.{Less, Equal, Greater}
-use Rattle.std.proofs.lemmas.List.{nil_from_length, length-take-le, take-take, drop-drop}
-use Rattle.std.proofs.lemmas.List.Elements.{All-cons, All-nil, All-head, All-filter}
-use Rattle.std.proofs.lemmas.Map.Lookups.{exact_unsigned}
-use Rattle.std.proofs.lemmas.Str.{chars-nil, encodes-chars, IsUtf8-nil, length-le-encodes}
+use Rattle.std.proofs.lemmas.Bool.{cases_lt}
+use Rattle.std.proofs.lemmas.List.{nil_from_length, length-take-le, take-append-drop, take-take, drop-drop, drop_at}
+use Rattle.std.proofs.lemmas.List.{get_or_append_left, get_or_push, length_push}
+use Rattle.std.proofs.lemmas.Str.{chars-append, chars-nil, encodes-chars}
+use Rattle.std.proofs.lemmas.Str.{IsUtf8-take, IsUtf8-nil, length-le-encodes}
+use Rattle.pm_span.proofs.AsciiLemmas.{length_chars_le}
 use Rattle.pm_span.specs.ByteIndex.{IsByteOffset}
 use Rattle.pm_span.specs.CharOffset.{byte_offset}
 use Rattle.pm_span.proofs.SeamLemmas.{boundary_at, byte_offset-add, byte_offset-rising, front_at, rest_at, rest_bytes}
 
-abbrev Known : List ℕ → ℕ × ℕ → Type 0
-Known text entry = IsByteOffset text entry.0 entry.1
+-- as many bytes as characters are to be passed have some of these characters, and the others follow
+pub record IsPassed (bytes : List ℕ) (n : ℕ) : Type 0 where
+  pub few : length (chars (take n bytes)) ≤ n
+  pub size : length (chars (take n bytes)) + length (chars (drop n bytes)) ≡ length (chars bytes)
+  pub rest : drop (n - length (chars (take n bytes))) (chars (drop n bytes)) ≡ drop n (chars bytes)
 
--- the first entry of a range, and the last one
-pub first_known :
-    (p : ℕ × ℕ → Bool) {own text : List ℕ} (entries : List (ℕ × ℕ)) {found : List (ℕ × ℕ)}
-    (rest : List (ℕ × ℕ)) {char_offset bytes : ℕ} → own ≡ text
-    → All (Known own) entries → found ≡ filter p entries → found ≡ (char_offset, bytes) ∷ rest
-    → IsByteOffset text char_offset bytes
-first_known p {own} {text} entries {found} rest {char_offset} {bytes} same known is first =
-    subst (λ t. IsByteOffset t char_offset bytes) same
-    (All-head (Known own) (char_offset, bytes) rest
-    (subst (All (Known own)) (sym is ∙ first) (All-filter p (Known own) entries known)))
+pub passed : (bytes : List ℕ) (n : ℕ) → IsUtf8 bytes → IsCharBoundary bytes n → IsPassed bytes n
+passed bytes n utf8 at =
+    let front = chars (take n bytes) in
+    let back = chars (drop n bytes) in
+    let cut : IsUtf8 (take n bytes) = IsUtf8-take bytes n utf8 at in
+    let few : length front ≤ n =
+    omega (arith, length_chars_le (take n bytes) cut, length-take-le n bytes at.0) in
+    let whole : chars bytes ≡ front ++ back =
+    ap chars (sym (take-append-drop n bytes)) ∙ chars-append (take n bytes) (drop n bytes) cut in
+    let past : drop (length front) (chars bytes) ≡ back =
+    ap (drop (length front)) whole ∙ drop_at front back (length front) refl in
+    let sum : length front + (n - length front) ≡ n = omega arith in
+    record {
+      few = few;
+      size = omega (arith, ap length whole, length-append front back);
+      rest = ap (drop (n - length front)) (sym past)
+          ∙ (drop-drop (n - length front) (length front) (chars bytes) ∙ ap (λ m. drop m (chars bytes)) sum);
+    }
 
-pub last_known :
-    (p : ℕ × ℕ → Bool) {own text : List ℕ} (entries : List (ℕ × ℕ)) {found : List (ℕ × ℕ)}
-    (rest : List (ℕ × ℕ)) {char_offset bytes : ℕ} → own ≡ text
-    → All (Known own) entries → found ≡ filter p entries → found ≡ rest ++ (char_offset, bytes) ∷ []
-    → IsByteOffset text char_offset bytes
-last_known p {own} {text} entries {found} rest {char_offset} {bytes} same known is last =
-    subst (λ t. IsByteOffset t char_offset bytes) same
-    (All-last rest (subst (All (Known own)) (sym is ∙ last) (All-filter p (Known own) entries known)))
-  where
-    All-last : (xs : List (ℕ × ℕ)) → All (Known own) (xs ++ (char_offset, bytes) ∷ []) → Known own (char_offset, bytes)
-    All-last [] h = All-head (Known own) (char_offset, bytes) [] h
-    All-last (x ∷ xs) h = All-last xs (λ k d less. h (suc k) d (omega arith))
-
--- an entry more
-pub All-insert :
-    {text : List ℕ} (char_offset bytes : ℕ) (entries : List (ℕ × ℕ)) → IsByteOffset text char_offset bytes
-    → All (Known text) entries
-    → All (Known text) (insert_entry nat_cmp entries char_offset bytes)
-All-insert {text} char_offset bytes [] one known = All-cons (Known text) (char_offset, bytes) [] one
-    (All-nil (Known text))
-All-insert {text} char_offset bytes (e ∷ entries) one known =
-    put (All-insert char_offset bytes entries one (tail known)) (nat_cmp char_offset e.0) refl
-  where
-    tail : All (Known text) (e ∷ entries) → All (Known text) entries
-    tail h = λ k d less. h (suc k) d (omega arith)
-
-    put :
-        All (Known text) (insert_entry nat_cmp entries char_offset bytes) → (order : Ordering)
-        → nat_cmp char_offset e.0 ≡ order
-        → All (Known text) (match_ordering order ((char_offset, bytes) ∷ e ∷ entries) ((e.0, bytes) ∷ entries)
-        (e ∷ insert_entry nat_cmp entries char_offset bytes))
-    put more Less is = All-cons (Known text) (char_offset, bytes) (e ∷ entries) one known
-    put more Equal is = All-cons (Known text) (e.0, bytes) entries
-        (subst (λ k. IsByteOffset text k bytes) (exact_unsigned char_offset e.0 is) one) (tail known)
-    put more Greater is = All-cons (Known text) e (insert_entry nat_cmp entries char_offset bytes)
-        (known 0 e (omega arith)) more
-
--- the entries after a try to keep one
-pub All-tried :
-    {T E : Type 0} {text : List ℕ} (char_offset bytes : ℕ) (old new : List (ℕ × ℕ)) (r : Result T E)
-    → IsByteOffset text char_offset bytes
-    → All (Known text) old → OnOk r (new ≡ insert_entry nat_cmp old char_offset bytes) → OnErr r (new ≡ old)
-    → All (Known text) new
-All-tried {text = text} char_offset bytes old new (Ok x) one known ok err =
-    subst (All (Known text)) (sym ok) (All-insert char_offset bytes old one known)
-All-tried {text = text} char_offset bytes old new (Err e) one known ok err = subst (All (Known text)) (sym err) known
+-- a block more ends
+pub block_more :
+    {text : List ℕ} (ends : List ℕ) (bytes : ℕ) → ((block : ℕ) → block < length ends
+    → IsByteOffset text (64 * (block + 1)) (get_or ends block 0)) → IsByteOffset text (64 * (length ends + 1)) bytes
+    → (block : ℕ) → block < length (ends ++ bytes ∷ [])
+    → IsByteOffset text (64 * (block + 1)) (get_or (ends ++ bytes ∷ []) block 0)
+block_more {text} ends bytes each last block less = elim (cases_lt block (length ends)) [
+  | inl before ↦
+      subst (IsByteOffset text (64 * (block + 1))) (sym (get_or_append_left ends (bytes ∷ []) 0 block before))
+      (each block before)
+  | inr after ↦
+      let here : length ends ≡ block = omega (arith, length_push ends bytes) in
+      subst (IsByteOffset text (64 * (block + 1))) (sym (get_or_push ends bytes 0 block here))
+      (subst (λ n. IsByteOffset text (64 * (n + 1)) bytes) here last)
+]
 
 -- the end of a text
 pub text_end : {bytes text : List ℕ} (k : ℕ) → IsUtf8 bytes → chars bytes ≡ text → k ≡ length text

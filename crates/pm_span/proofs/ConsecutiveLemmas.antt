@@ -2,7 +2,7 @@
 use Rattle.std.proofs.Common.{◌≡◌, ℕ, zero, suc, ◌+◌, ◌-◌, ◌<◌, ◌≤◌, ◌↔◌, List, [], ◌∷◌, ◌++◌, length, map, get_or}
 use Rattle.std.proofs.Common.{Option, Some, None, refl, sym, ap, ap₂, subst, ◌∙◌, ◌≢◌, arith}
 use Rattle.std.specs.Borrow.{Bor}
-use Rattle.std.specs.Option.{unwrap_or, option_copied, MatchOption}
+use Rattle.std.specs.Option.{unwrap_or, option_copied}
 use Rattle.std.specs.List.Sorted.{IsNonDecreasingBy}
 use Rattle.std.proofs.lemmas.List.{get_or_read, get_or_default}
 use Rattle.pm_span.specs.Extent.{Extent, nowhere}
@@ -69,46 +69,6 @@ last_end position (file ∷ files) (suc i) d h e =
       last_end (position + (length file.text + 1)) files i d h.1 (omega arith),
       positions-cons file.text (texts_of files),
     )
-
--- the file of a text that has so many before it
-numbered :
-    (position : ℕ) (files : List MappedText) (before after : List (List ℕ)) (text : List ℕ) (d : MappedText)
-    → AreConsecutive position files
-    → texts_of files ≡ before ++ (text ∷ after)
-    → (length before < length files) × ((get_or files (length before) d).text ≡ text)
-    × ((get_or files (length before) d).lo ≡ position + positions before)
-numbered position [] [] after text d h e = absurd (cc)
-numbered position [] (t ∷ ts) after text d h e = absurd (cc)
-numbered position (f ∷ files) [] after text d h e = (omega arith, cc, omega (arith, h.0))
-numbered position (f ∷ files) (t ∷ ts) after text d h e =
-    let same : f.text ≡ t = cc in
-    let more = numbered (position + (length f.text + 1)) files ts after text d h.1 (cc) in
-    (omega (arith, more.0), more.1, omega (arith, more.2, ap length same, positions-cons t ts))
-
--- the file that has the position is the one of its number
-pub file_at :
-    (limit : ℕ) (files : List MappedText) (position number : ℕ) (file d : MappedText) → AreConsecutive 1 files
-    → IsFileOf (record { texts = texts_of files; limit = limit }) position number file
-    → position ≤ file.lo + length file.text
-    → (number ≡ 0 → ⊥)
-    → (number - 1 < length files) × ((get_or files (number - 1) d).text ≡ file.text)
-    × ((get_or files (number - 1) d).lo ≡ file.lo)
-file_at limit files position number file d consecutive found within some =
-    at found.is_file.before found.is_file.after found.is_file.whole found.is_file.begins
-    (found.only file.text file.lo found.is_file found.begins within).2
-  where
-    at :
-        (before after : List (List ℕ)) → [] ∷ texts_of files ≡ before ++ (file.text ∷ after)
-        → file.lo ≡ positions before
-        → length before ≡ number
-        → (number - 1 < length files) × ((get_or files (number - 1) d).text ≡ file.text)
-        × ((get_or files (number - 1) d).lo ≡ file.lo)
-    at [] after whole begins count = absurd (some (sym count))
-    at (t ∷ before) after whole begins count =
-        let here = numbered 1 files before after file.text d consecutive (cc) in
-        let first : [] ≡ t = cc in
-        let index : number - 1 ≡ length before = omega (arith, count) in
-        rw index (here.0, here.1, omega (arith, here.2, begins, positions-cons t before, ap length first))
 
 begins_past :
     (position : ℕ) (files : List MappedText) (i : ℕ) (d : MappedText) → AreConsecutive position files
@@ -241,13 +201,6 @@ found_some {map} {p} {q} {number} {file} {some} same is found =
     subst (λ r. IsFileOf map r number some.now) same
     (subst (λ o. IsFileOf map p number (unwrap_or (option_copied o) file_0)) is found)
 
--- at number 0 the search answers no file
-pub none_at_0 :
-    {number : ℕ} (file : Option (Bor MappedText)) → MatchOption file (number ≡ 0) (λ _. 0 < number) → number ≡ 0
-    → unwrap_or (option_copied file) file_0 ≡ file_0
-none_at_0 None h is = refl
-none_at_0 (Some file) h is = absurd (omega arith)
-
 -- a span is held exactly if it ends in the file that may have its beginning
 pub holds_at :
     {map : Files} {number : ℕ} {file : MappedText} (span : Extent) → IsFileOf map span.lo number file
@@ -259,27 +212,6 @@ holds_at {map} {number} {file} span found ordered = (
       let same = found.only held.text held.lo held.file held.from (omega (arith, held.to)) in
       omega (arith, held.to, ap length same.0, same.1),
 )
-
-abbrev mapped : List ℕ → ℕ → MappedText
-mapped text lo = record { text = text; lo = lo }
-
--- the file of the number that was found, where the span is held
-pub file_there :
-    {map : Files} {position number : ℕ} {file : MappedText} (limit : ℕ) (files : List MappedText) (span : Extent)
-    → position ≡ span.lo → record { texts = texts_of files; limit = limit } ≡ map → AreConsecutive 1 files
-    → IsFileOf map position number file → span.lo ≤ span.hi → Holds map span → (number ≡ 0 → ⊥)
-    → (number - 1 < length files)
-    × ((here : MappedText) → here ≡ get_or files (number - 1) here → IsFileOf map span.lo number here)
-file_there {map} {position} {number} {file} limit files span lo view consecutive there ordered held some =
-    let found : IsFileOf map span.lo number file = subst (λ p. IsFileOf map p number file) lo there in
-    let within = (holds_at span found ordered).1 held in
-    let at : (d : MappedText) → (number - 1 < length files) × ((get_or files (number - 1) d).text ≡ file.text)
-    × ((get_or files (number - 1) d).lo ≡ file.lo) =
-    λ d. file_at limit files span.lo number file d consecutive
-    (subst (λ m. IsFileOf m span.lo number file) (sym view) found) (omega (arith, within)) some in (
-      (at file).0,
-      λ here is. subst (IsFileOf map span.lo number) (sym (is ∙ ap₂ mapped (at here).1 (at here).2)) found,
-    )
 
 -- what holds of the file that was found holds of any file of the map that has the span
 pub of_each :

@@ -1,7 +1,6 @@
 pub mod AsciiLemmas
 pub mod ByteOffsetLemmas
 mod Examples
-pub mod BoundLemmas
 pub mod FileLemmas
 pub mod FileTextLemmas
 pub mod LineLemmas

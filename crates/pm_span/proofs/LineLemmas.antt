@@ -1,7 +1,7 @@
 -- Lemmas on the offsets after line feeds: they give the line and the column of an offset.
-use Rattle.std.proofs.Common.{◌≡◌, ℕ, zero, suc, ◌+◌, ◌-◌, ◌<◌, ◌≤◌, Bool, true, false, cond, not, List, [], ◌∷◌, ◌++◌}
+use Rattle.std.proofs.Common.{◌≡◌, ℕ, zero, suc, ◌+◌, ◌-◌, ◌<◌, ◌≤◌, true, false, cond, not, List, [], ◌∷◌, ◌++◌}
 use Rattle.std.proofs.Common.{length, get_or, take, drop, reverse, refl, sym, ap, ap₂, ◌∙◌, arith, length-append}
-use Rattle.std.proofs.Common.{length-drop, append-nil, inl, inr}
+use Rattle.std.proofs.Common.{append-nil, inl, inr}
 use Rattle.std.specs.Prelude.{count_by, take_while}
 use Rattle.std.specs.List.{All}
 use Rattle.std.specs.List.Sorted.{IsNonDecreasing}
@@ -11,7 +11,7 @@ use Rattle.std.proofs.lemmas.List.{get_or_push, length_push, take-append-drop}
 use Rattle.std.proofs.lemmas.List.Elements.{All-nil, All-cons, All-weaker}
 use Rattle.std.proofs.lemmas.List.Sums.{sum_by-cons, take_while-cons}
 use Rattle.pm_span.specs.LineIndex.{after_line_feeds_from, after_line_feeds}
-use Rattle.pm_span.specs.CharOffset.{is_line_feed, line, column, line_column}
+use Rattle.pm_span.specs.CharOffset.{is_line_feed, column, line_column}
 use Rattle.pm_span.specs.declared.location.LineColumn.{LineColumn}
 
 pub after_line_feeds_from-append :
@@ -153,44 +153,6 @@ column_is text (suc k) h =
     (column_is text k (omega arith) ∙ sym (length-take-le k text (omega arith))) in
     ap (λ xs. length (last_line xs) + last_start (after_line_feeds xs)) e
     ∙ (step ∙ omega (arith, length-take-le k text (omega arith)))
-
--- the column of the next offset, by the character before it
-column-next :
-    (text : List ℕ) (k : ℕ) → k < length text
-    → column text (k + 1) ≡ cond (not (is_line_feed (get_or text k 0))) (column text k + 1) 0
-column-next text k less =
-    ap (λ front. length (last_line front)) (take_more text k 0 less)
-    ∙ (ap length (last_line-push (take k text) (get_or text k 0)) ∙ size (not (is_line_feed (get_or text k 0))))
-  where
-    size : (b : Bool) → length (cond b (get_or text k 0 ∷ last_line (take k text)) []) ≡ cond b (column text k + 1) 0
-    size true = omega arith
-    size false = refl
-
--- it is 0 after a line feed, and nowhere else past the text's start
-pub column-feed : (text : List ℕ) (k : ℕ) → k < length text → get_or text k 0 ≡ 10 → column text (k + 1) ≡ 0
-column-feed text k less feed =
-    column-next text k less ∙ ap (λ c. cond (not (is_line_feed c)) (column text k + 1) 0) feed
-
-pub column-inside :
-    (text : List ℕ) (k : ℕ) → k < length text → not (is_line_feed (get_or text k 0)) ≡ true → 0 < column text (k + 1)
-column-inside text k less inside =
-    omega (arith, column-next text k less, ap (λ b. cond b (column text k + 1) 0) inside)
-
--- the line after the one of an offset begins after the offset
-pub next_start :
-    (text : List ℕ) (k n next : ℕ) → k ≤ length text → line text k ≡ n + 1 → n < length (after_line_feeds text)
-    → next ≡ get_or (after_line_feeds text) n 0 → (k < next) × (next ≤ length text)
-next_start text k n next within here less is =
-    let front = after_line_feeds (take k text) in
-    let rest = after_line_feeds_from k (drop k text) in
-    let whole : after_line_feeds text ≡ front ++ rest = split text k within in
-    let size : length front ≡ n = omega (arith, length-after_line_feeds_from 0 (take k text), here) in
-    let first : next ≡ get_or rest 0 0 =
-    is ∙ (ap (λ xs. get_or xs n 0) whole
-    ∙ (ap (λ i. get_or (front ++ rest) i 0) (omega arith) ∙ get_or-append-add front rest 0 0)) in
-    let past = after_line_feeds_from-within k (drop k text) 0 0
-    (omega (arith, ap length whole, length-append front rest)) in
-    (omega (arith, past.0), omega (arith, past.1, length-drop k text))
 
 rising_cons : (x : ℕ) (xs : List ℕ) → All (λ y. x ≤ y) xs → IsNonDecreasing xs → IsNonDecreasing (x ∷ xs)
 rising_cons x xs least h zero zero d le less = omega arith

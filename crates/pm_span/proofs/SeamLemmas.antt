@@ -7,7 +7,7 @@ use Rattle.std.specs.Str.Iter.{chars_steps, chars_steps_back}
 use Rattle.std.specs.declared.str.Chars.{Chars}
 use Rattle.std.proofs.Math.Seq.{take-add}
 use Rattle.std.proofs.lemmas.Bool.{and_parts, and_from}
-use Rattle.std.proofs.lemmas.List.{take-append-drop, take_at, drop_at, drop-drop, nil_from_length}
+use Rattle.std.proofs.lemmas.List.{take-append-drop, take_at, drop_at, nil_from_length}
 use Rattle.std.proofs.lemmas.Str.{chars-nil, chars-encodes, chars_past_char, encodes-append, encodes-chars}
 use Rattle.std.proofs.lemmas.Str.{encodes_same, scalars-chars, chars-append, IsCharBoundary-at_seam}
 use Rattle.std.proofs.lemmas.Str.{IsCharBoundary-from_take, IsUtf8-drop, IsUtf8-past_char}
@@ -95,18 +95,6 @@ rest_bytes bytes rest k utf8 left is =
     ∙ length-append (encode_utf8_all (take k (chars bytes))) (encode_utf8_all (drop k (chars bytes))) in
     let same = ap length (sym (encodes-chars rest left) ∙ ap encode_utf8_all is) in
     omega arith
-
--- what is left from an offset on, reached from the start of its line
-pub rest_from_line :
-    (bytes line rest : List ℕ) (k start from : ℕ) → IsUtf8 bytes → IsUtf8 rest → start ≤ k
-    → from ≡ byte_offset (chars bytes) start → line ≡ drop from bytes → chars rest ≡ drop (k - start) (chars line)
-    → byte_offset (chars bytes) k + length rest ≡ length bytes
-rest_from_line bytes line rest k start from utf8 left within is cut skipped =
-    let here : chars line ≡ drop start (chars bytes) =
-    ap chars (cut ∙ ap (λ n. drop n bytes) is) ∙ rest_at bytes start utf8 in
-    let same : start + (k - start) ≡ k = omega arith in
-    rest_bytes bytes rest k utf8 left (skipped ∙ (ap (drop (k - start)) here
-    ∙ (drop-drop (k - start) start (chars bytes) ∙ ap (λ n. drop n (chars bytes)) same)))
 
 -- one character further
 pub past_one :

@@ -1,19 +1,17 @@
 //! A text that isn't ASCII, whose bytes are found by characters.
-ghost use Rattle.std.specs.Prelude.{◌≡◌, ◌≤◌, length, IfSome};
+ghost use Rattle.std.specs.Prelude.{◌≡◌, ◌≤◌, List, ℕ, length, drop, IfOk};
 ghost use Rattle.std.specs.Str.{chars, IsUtf8};
 ghost use Rattle.std.specs.String.{string_bytes};
 ghost use Rattle.pm_span.specs.CharOffset.{byte_offset};
-ghost use Rattle.pm_span.specs.ByteIndex.{AreNonAsciiBounds, IsByteOffset, IsNonAsciiLine};
+ghost use Rattle.pm_span.specs.ByteIndex.{AreBlockEnds, IsByteOffset};
 
-use crate::text::{skip_chars, skip_chars_back};
+use crate::text::{char_count, skip_chars, skip_chars_back};
 use std::alloc::{AllocError, Global};
-use std::collections::BTreeMap;
-use std::fmt;
 use std::marker::Model;
 use std::ops::Range;
 
-/// So many characters may be walked again each time. An offset that was found by more is kept.
-const SHORT_WALK: u32 = 32;
+/// So many characters are a block. At most half as many are walked to find an offset.
+const BLOCK: u32 = 64;
 
 /// A text that isn't ASCII, and what tells where its characters stand in bytes.
 #[derive(Drop)]
@@ -21,30 +19,15 @@ pub(crate) struct ByteIndex {
     text: String,
     /// How many characters it has.
     count: u32,
-    /// Where each line that isn't ASCII begins and ends.
-    pub(crate) bounds: Vec<OffsetPair>,
-    /// Known offsets inside long lines, from characters to bytes.
-    pub(crate) known: BTreeMap<u32, usize>,
-    /// What was found last.
-    pub(crate) memo: Memo,
+    /// Where each full block of its characters ends, in bytes.
+    ends: Vec<usize>,
 }
 
 /// One offset of a text, in characters and in bytes.
-#[derive(Clone, Copy, Debug)]
-pub(crate) struct OffsetPair {
-    pub(crate) chars: u32,
-    pub(crate) bytes: usize,
-}
-
-/// What was found last.
 #[derive(Clone, Copy)]
-pub(crate) struct Memo {
-    /// Of where lines that aren't ASCII begin and end, the last that isn't after the offset that was sought.
-    pub(crate) start: OffsetPair,
-    /// And the first after it.
-    pub(crate) end: OffsetPair,
-    /// The offset that was found last where not all around it is ASCII.
-    pub(crate) found: OffsetPair,
+struct OffsetPair {
+    chars: u32,
+    bytes: usize,
 }
 
 impl Model for ByteIndex {
@@ -57,30 +40,59 @@ impl Model for ByteIndex {
 
     ghost view = { λ index. chars (string_bytes index.text) };
 
-    ghost invariant = { λ index. IsByteIndex (chars (string_bytes index.text)) index.count index.bounds.items
-        index.known.entries index.memo };
+    ghost invariant = { λ index. IsByteIndex (chars (string_bytes index.text)) index.count index.ends.items };
+}
+
+/// The text after its first block of characters. Those in as many bytes are counted, and the others passed one by one.
+fn skip_block(text: &str) -> &str
+    requires { 64 ≤ length (chars text.now) }
+    ensures value { chars result.now ≡ drop 64 (chars text.now) }
+    ensures utf8 { IsUtf8 result.now }
+{
+    let size = BLOCK as usize;
+    if text.is_char_boundary(size) {
+        let (front, rest) = text.split_at(size);
+        skip_chars(rest, size - char_count(front))
+    } else {
+        skip_chars(text, size)
+    }
+}
+
+/// Where each full block of characters ends, in bytes, of a text that has so many.
+fn block_ends(alloc: Global, text: &str, count: u32) -> Result<Vec<usize>, AllocError>
+    requires { count ≡ length (chars text.now) }
+    ensures { IfOk result (λ ends. AreBlockEnds (chars text.now) ends.items) }
+{
+    let blocks = count / BLOCK;
+    let mut ends = Vec::with_capacity(alloc, blocks as usize)?;
+    let mut rest = text;
+    for _ in 0..blocks {
+        rest = skip_block(rest);
+        ends.push(text.len() - rest.len())?;
+    }
+    Ok(ends)
+}
+
+/// The one of two known offsets that is nearer to this one in characters.
+fn nearer(char_offset: u32, first: OffsetPair, second: OffsetPair) -> OffsetPair
+    ensures { (text : List ℕ) → IsByteOffset text first.chars first.bytes
+        → IsByteOffset text second.chars second.bytes → IsByteOffset text result.chars result.bytes }
+{
+    if char_offset.abs_diff(first.chars) <= char_offset.abs_diff(second.chars) {
+        first
+    } else {
+        second
+    }
 }
 
 impl ByteIndex {
-    /// The index of this text of so many characters, where lines that aren't ASCII begin and end as said.
-    pub(crate) fn new(alloc: Global, text: String, count: u32, bounds: Vec<OffsetPair>) -> ByteIndex
-        requires count { count ≡ length (chars (string_bytes text)) }
-        requires bounds { AreNonAsciiBounds (chars (string_bytes text)) count bounds.items }
-        ensures { result ≡ chars (string_bytes text) }
+    /// The index of this text of so many characters; refused if its memory is.
+    pub(crate) fn new(alloc: Global, text: String, count: u32) -> Result<ByteIndex, AllocError>
+        requires { count ≡ length (chars (string_bytes text)) }
+        ensures ok { IfOk result (λ index. index ≡ chars (string_bytes text)) }
     {
-        let start = OffsetPair { chars: 0, bytes: 0 };
-        let memo = Memo {
-            start,
-            end: start,
-            found: start,
-        };
-        ByteIndex {
-            text,
-            count,
-            bounds,
-            known: BTreeMap::new(alloc),
-            memo,
-        }
+        let ends = block_ends(alloc, text.as_str(), count)?;
+        Ok(ByteIndex { text, count, ends })
     }
 
     /// The text.
@@ -91,132 +103,39 @@ impl ByteIndex {
         self.text.as_str()
     }
 
-    /// The nearest offsets on both sides of this one where a line that isn't ASCII begins or ends, or the text does.
-    fn bounds_around(&self, char_offset: u32) -> (OffsetPair, OffsetPair)
+    /// Where the block of this offset begins.
+    fn block_start(&self, char_offset: u32) -> OffsetPair
         requires { char_offset ≤ length self.now }
-        ensures before { IsByteOffset self.now result.0.chars result.0.bytes × (result.0.chars ≤ char_offset) }
-        ensures after { IsByteOffset self.now result.1.chars result.1.bytes × (char_offset ≤ result.1.chars) }
+        ensures value { IsByteOffset self.now result.chars result.bytes }
+        ensures before { result.chars ≤ char_offset }
     {
-        let count = self
-            .bounds
-            .partition_point(|bound| bound.chars <= char_offset);
-        let before = if count == 0 {
+        let block = char_offset / BLOCK;
+        if block == 0 {
             OffsetPair { chars: 0, bytes: 0 }
         } else {
-            self.bounds[count - 1]
-        };
-        let after = match self.bounds.get(count) {
-            Some(bound) => *bound,
+            OffsetPair {
+                chars: block * BLOCK,
+                bytes: self.ends[block as usize - 1],
+            }
+        }
+    }
+
+    /// Where the block of this offset ends, or the text, if the block isn't full.
+    fn block_end(&self, char_offset: u32) -> OffsetPair
+        requires { char_offset ≤ length self.now }
+        ensures value { IsByteOffset self.now result.chars result.bytes }
+        ensures after { char_offset ≤ result.chars }
+    {
+        let block = char_offset / BLOCK;
+        match self.ends.get(block as usize) {
+            Some(bytes) => OffsetPair {
+                chars: (block + 1) * BLOCK,
+                bytes: *bytes,
+            },
             None => OffsetPair {
                 chars: self.count,
                 bytes: self.text.len(),
             },
-        };
-        (before, after)
-    }
-
-    /// The same, without a search where those found last stand around this one too.
-    fn find_bounds(&mut self, char_offset: u32) -> (OffsetPair, OffsetPair)
-        requires { char_offset ≤ length self.old }
-        ensures before { IsByteOffset self.old result.0.chars result.0.bytes × (result.0.chars ≤ char_offset) }
-        ensures after { IsByteOffset self.old result.1.chars result.1.bytes × (char_offset ≤ result.1.chars) }
-        ensures kept { self.new ≡ self.old }
-    {
-        let Memo { start, end, .. } = self.memo;
-        if start.chars <= char_offset && char_offset < end.chars {
-            return (start, end);
-        }
-        let (start, end) = self.bounds_around(char_offset);
-        self.memo = Memo {
-            start,
-            end,
-            found: self.memo.found,
-        };
-        (start, end)
-    }
-
-    /// The bytes before an offset that stands between two known ones, if all is ASCII there.
-    fn ascii_offset(&self, char_offset: u32, start: OffsetPair, end: OffsetPair) -> Option<usize>
-        requires start { IsByteOffset self.now start.chars start.bytes }
-        requires end { IsByteOffset self.now end.chars end.bytes }
-        requires after_start { start.chars ≤ char_offset }
-        requires before_end { char_offset ≤ end.chars }
-        ensures { IfSome result (λ bytes. IsByteOffset self.now char_offset bytes) }
-    {
-        if end.bytes - start.bytes == (end.chars - start.chars) as usize {
-            Some(start.bytes + (char_offset - start.chars) as usize)
-        } else {
-            None
-        }
-    }
-
-    /// The last known offset that isn't after this one, from `start` on.
-    fn known_before(&self, char_offset: u32, start: OffsetPair) -> OffsetPair
-        requires known { IsByteOffset self.now start.chars start.bytes }
-        requires before { start.chars ≤ char_offset }
-        ensures value { IsByteOffset self.now result.chars result.bytes }
-        ensures before { result.chars ≤ char_offset }
-    {
-        match self.known.range(..=char_offset).next_back() {
-            Some((entry, bytes)) if *entry > start.chars => OffsetPair {
-                chars: *entry,
-                bytes: *bytes,
-            },
-            _ => start,
-        }
-    }
-
-    /// The first known offset that isn't before this one, up to `end`.
-    fn known_after(&self, char_offset: u32, end: OffsetPair) -> OffsetPair
-        requires known { IsByteOffset self.now end.chars end.bytes }
-        requires after { char_offset ≤ end.chars }
-        ensures value { IsByteOffset self.now result.chars result.bytes }
-        ensures after { char_offset ≤ result.chars }
-    {
-        match self.known.range(char_offset..).next() {
-            Some((entry, bytes)) if *entry < end.chars => OffsetPair {
-                chars: *entry,
-                bytes: *bytes,
-            },
-            _ => end,
-        }
-    }
-
-    /// The nearer one of the known offsets on both sides of this one, between two that stand around it.
-    fn known_near(&self, char_offset: u32, start: OffsetPair, end: OffsetPair) -> OffsetPair
-        requires start { IsByteOffset self.now start.chars start.bytes }
-        requires end { IsByteOffset self.now end.chars end.bytes }
-        requires after_start { start.chars ≤ char_offset }
-        requires before_end { char_offset ≤ end.chars }
-        ensures { IsByteOffset self.now result.chars result.bytes }
-    {
-        let before = self.known_before(char_offset, start);
-        let after = self.known_after(char_offset, end);
-        if after.chars - char_offset < char_offset - before.chars {
-            after
-        } else {
-            before
-        }
-    }
-
-    /// A known offset to walk from to this one, between two that stand around it: the one found last if it is near,
-    /// else the nearest of it and of those on both sides.
-    fn nearest_known(&self, char_offset: u32, start: OffsetPair, end: OffsetPair) -> OffsetPair
-        requires start { IsByteOffset self.now start.chars start.bytes }
-        requires end { IsByteOffset self.now end.chars end.bytes }
-        requires after_start { start.chars ≤ char_offset }
-        requires before_end { char_offset ≤ end.chars }
-        ensures { IsByteOffset self.now result.chars result.bytes }
-    {
-        let found = self.memo.found;
-        if char_offset.abs_diff(found.chars) <= SHORT_WALK {
-            return found;
-        }
-        let known = self.known_near(char_offset, start, end);
-        if char_offset.abs_diff(found.chars) < char_offset.abs_diff(known.chars) {
-            found
-        } else {
-            known
         }
     }
 
@@ -239,50 +158,36 @@ impl ByteIndex {
         }
     }
 
-    /// An offset of the text in characters as one in bytes.
-    pub(crate) fn byte_offset(&self, char_offset: u32) -> usize
-        requires { char_offset ≤ length self.now }
+    /// An offset of the text in characters as one in bytes: an addition where its block is ASCII, else a walk from the
+    /// nearest of both ends of the block and of another known offset.
+    fn byte_offset(&self, char_offset: u32, known: OffsetPair) -> usize
+        requires within { char_offset ≤ length self.now }
+        requires known { IsByteOffset self.now known.chars known.bytes }
         ensures { result ≡ byte_offset self.now char_offset }
     {
-        let (start, end) = self.bounds_around(char_offset);
-        if let Some(bytes) = self.ascii_offset(char_offset, start, end) {
-            return bytes;
+        let start = self.block_start(char_offset);
+        let end = self.block_end(char_offset);
+        if end.bytes - start.bytes == (end.chars - start.chars) as usize {
+            return start.bytes + (char_offset - start.chars) as usize;
         }
-        self.count_from(self.nearest_known(char_offset, start, end), char_offset)
+        let nearest = nearer(char_offset, known, nearer(char_offset, start, end));
+        self.count_from(nearest, char_offset)
     }
 
-    /// The same, and the offset becomes a known one if the walk to it was long and there is memory.
-    fn find_byte_offset(&mut self, char_offset: u32) -> usize
-        requires { char_offset ≤ length self.old }
-        ensures value { result ≡ byte_offset self.old char_offset }
-        ensures kept { self.new ≡ self.old }
+    /// The bytes between two offsets of the text.
+    #[inline(never)]
+    pub(crate) fn byte_range(&self, start: u32, end: u32) -> Range<usize>
+        requires ordered { start ≤ end }
+        requires within { end ≤ length self.now }
+        ensures start { result.start ≡ byte_offset self.now start }
+        ensures end { result.end ≡ byte_offset self.now end }
     {
-        let (start, end) = self.find_bounds(char_offset);
-        if let Some(bytes) = self.ascii_offset(char_offset, start, end) {
-            return bytes;
-        }
-        let known = self.nearest_known(char_offset, start, end);
-        let bytes = self.count_from(known, char_offset);
-        self.memo.found = OffsetPair {
-            chars: char_offset,
-            bytes,
+        let front = OffsetPair { chars: 0, bytes: 0 };
+        let from = self.byte_offset(start, front);
+        let known = OffsetPair {
+            chars: start,
+            bytes: from,
         };
-        if char_offset.abs_diff(known.chars) > SHORT_WALK {
-            let _ = self.known.insert(char_offset, bytes);
-        }
-        bytes
-    }
-
-    /// The bytes before two offsets of the text, which may keep what it found.
-    pub(crate) fn find_byte_range(&mut self, start: u32, end: u32) -> Range<usize>
-        requires start { start ≤ length self.old }
-        requires end { end ≤ length self.old }
-        ensures start { result.start ≡ byte_offset self.old start }
-        ensures end { result.end ≡ byte_offset self.old end }
-        ensures kept { self.new ≡ self.old }
-    {
-        let from = self.find_byte_offset(start);
-        let to = self.find_byte_offset(end);
-        from..to
+        from..self.byte_offset(end, known)
     }
 }

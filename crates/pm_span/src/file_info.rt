@@ -1,11 +1,10 @@
 //! A file of a source map.
 ghost use Rattle.std.specs.Prelude.{◌≡◌, ◌+◌, ◌^◌, ◌<◌, ◌≤◌, ℕ, length, IfOk};
 ghost use Rattle.std.specs.Str.{chars, IsUtf8};
-ghost use Rattle.pm_span.specs.ByteIndex.{AreNonAsciiBounds, IsByteOffset};
 ghost use Rattle.pm_span.specs.FileInfo.{HasItsSize, MappedText, text_of};
 ghost use Rattle.pm_span.specs.CharOffset.{line_column, byte_offset, between};
 
-use crate::byte_index::{ByteIndex, OffsetPair};
+use crate::byte_index::ByteIndex;
 use crate::line_index::LineIndex;
 use crate::location::LineColumn;
 use crate::text_lines::{Lines, find_lines};
@@ -45,15 +44,9 @@ impl Model for FileInfo {
 }
 
 impl FileText {
-    /// A copy of this text of so many characters, where lines that aren't ASCII begin and end as said.
-    fn new(
-        alloc: Global,
-        text: &str,
-        count: u32,
-        bounds: Vec<OffsetPair>,
-    ) -> Result<FileText, AllocError>
-        requires count { count ≡ length (chars text.now) }
-        requires bounds { AreNonAsciiBounds (chars text.now) count bounds.items }
+    /// A copy of this text of so many characters; refused if its memory is.
+    fn new(alloc: Global, text: &str, count: u32) -> Result<FileText, AllocError>
+        requires { count ≡ length (chars text.now) }
         ensures text { IfOk result (λ kept. text_of kept ≡ chars text.now) }
         ensures size { IfOk result (λ kept. HasItsSize kept) }
     {
@@ -61,7 +54,7 @@ impl FileText {
         if count as usize == text.len() {
             return Ok(FileText::Ascii(copy));
         }
-        let index = ByteIndex::new(alloc, copy, count, bounds);
+        let index = ByteIndex::new(alloc, copy, count)?;
         Ok(FileText::Wide(Box::new(alloc, index)?))
     }
 }
@@ -74,11 +67,6 @@ impl fmt::Debug for FileInfo {
         debug.field("lo", &self.lo);
         debug.field("hi", &self.hi);
         debug.field("line_starts", self.lines.starts());
-        if let FileText::Wide(index) = &self.text {
-            debug.field("non_ascii_bounds", &index.bounds);
-            debug.field("byte_offsets", &index.known);
-            debug.field("used", &index.memo.found);
-        }
         debug.finish()
     }
 }
@@ -89,13 +77,9 @@ impl FileInfo {
         requires { lo + length (chars text.now) < 2 ^ 32 }
         ensures ok { IfOk result (λ file. file ≡ record { text = chars text.now; lo = lo }) }
     {
-        let Lines {
-            starts,
-            non_ascii_bounds,
-            count,
-        } = find_lines(alloc, text)?;
+        let Lines { starts, count } = find_lines(alloc, text)?;
         Ok(FileInfo {
-            text: FileText::new(alloc, text, count, non_ascii_bounds)?,
+            text: FileText::new(alloc, text, count)?,
             lo,
             hi: lo + count,
             lines: LineIndex::new(alloc, starts, count)?,
@@ -135,38 +119,27 @@ impl FileInfo {
         self.lines.line_column(char_offset)
     }
 
-    /// An offset of the text in characters as one in bytes.
-    pub(crate) fn byte_offset(&self, char_offset: u32) -> usize
-        requires { char_offset ≤ length self.now.text }
-        ensures { result ≡ byte_offset self.now.text char_offset }
+    /// The bytes between two offsets of the text, in characters.
+    #[inline(always)]
+    pub(crate) fn byte_range(&self, start: u32, end: u32) -> Range<usize>
+        requires ordered { start ≤ end }
+        requires within { end ≤ length self.now.text }
+        ensures start { result.start ≡ byte_offset self.now.text start }
+        ensures end { result.end ≡ byte_offset self.now.text end }
     {
         match &self.text {
-            FileText::Ascii(_) => char_offset as usize,
-            FileText::Wide(index) => index.byte_offset(char_offset),
-        }
-    }
-
-    /// The bytes between two offsets of the text, which may keep what it found.
-    pub(crate) fn find_byte_range(&mut self, start: u32, end: u32) -> Range<usize>
-        requires start { start ≤ length self.old.text }
-        requires end { end ≤ length self.old.text }
-        ensures start { result.start ≡ byte_offset self.old.text start }
-        ensures end { result.end ≡ byte_offset self.old.text end }
-        ensures kept { self.new ≡ self.old }
-    {
-        match &mut self.text {
             FileText::Ascii(_) => start as usize..end as usize,
-            FileText::Wide(index) => index.find_byte_range(start, end),
+            FileText::Wide(index) => index.byte_range(start, end),
         }
     }
 
-    /// The text between two of its offsets.
-    pub(crate) fn text_between(&self, from: OffsetPair, to: OffsetPair) -> &str
-        requires ordered { from.chars ≤ to.chars }
-        requires from { IsByteOffset self.now.text from.chars from.bytes }
-        requires to { IsByteOffset self.now.text to.chars to.bytes }
-        ensures value { chars result.now ≡ between self.now.text from.chars to.chars }
+    /// The text between two of its offsets, in characters.
+    pub(crate) fn text_between(&self, start: u32, end: u32) -> &str
+        requires ordered { start ≤ end }
+        requires within { end ≤ length self.now.text }
+        ensures { chars result.now ≡ between self.now.text start end }
     {
-        &self.text()[from.bytes..to.bytes]
+        let bytes = self.byte_range(start, end);
+        &self.text()[bytes.start..bytes.end]
     }
 }

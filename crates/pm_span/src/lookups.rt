@@ -6,7 +6,6 @@ ghost use Rattle.pm_span.specs.Extent.{nowhere};
 ghost use Rattle.pm_span.specs.Files.{Holds};
 ghost use Rattle.pm_span.specs.Lookup.{StartsAt, EndsAt, HasBytes, HasText, HasName, IsTextOf, AreInOneFile, joined};
 
-use crate::byte_index::OffsetPair;
 use crate::location::LineColumn;
 use crate::source_map::SourceMap;
 use crate::spans::Span;
@@ -57,8 +56,7 @@ impl Span {
     /// The bytes of its file's text that the span takes (`byte-offset`), in a map that holds it.
     ///
     /// They count from the start of the file, and are 0..0 for 0..0. In the text `é a` at 1..4, the span
-    /// 3..4 takes the bytes 3..4. The map stays as it is, but may remember offsets inside long lines, so that
-    /// later look-ups there are short. Where there is no memory for that, the answer is the same.
+    /// 3..4 takes the bytes 3..4. The map stays as it is, and no memory is taken.
     pub fn byte_range(self, map: &mut SourceMap) -> Range<usize>
         requires { Holds map.old self }
         ensures value { HasBytes map.old self result }
@@ -81,7 +79,11 @@ impl Span {
         ensures nowhere { self ≡ nowhere → result ≡ Ok None }
         ensures kept { map.new ≡ map.old }
     {
-        map.source_text(self)
+        let alloc = map.allocator();
+        match self.source_str(map) {
+            None => Ok(None),
+            Some(text) => Ok(Some(String::from_str(alloc, text)?)),
+        }
     }
 
     /// The text of the span (`source-text`), in a map that holds it; `None` for 0..0 alone.
@@ -97,17 +99,7 @@ impl Span {
         let (lo, hi) = self.bounds();
         let (_, file) = map.file_of(lo);
         let file = file?;
-        let start = lo - file.lo();
-        let end = hi - file.lo();
-        let from = OffsetPair {
-            chars: start,
-            bytes: file.byte_offset(start),
-        };
-        let to = OffsetPair {
-            chars: end,
-            bytes: file.byte_offset(end),
-        };
-        Some(file.text_between(from, to))
+        Some(file.text_between(lo - file.lo(), hi - file.lo()))
     }
 
     /// The span from where the first of the two begins to where the last of them ends (`join`), in a map

@@ -1,16 +1,13 @@
 //! The map of the texts that were read.
 ghost use Rattle.std.specs.Prelude.{◌≡◌, ◌≤◌, ◌↔◌, ◌+◌, ◌^◌, ◌<◌, [], length, IfSome, IsTrue, OnOk, OnErr, SomeIff};
-ghost use Rattle.std.specs.Prelude.{MatchOption, IfOk, None, Ok, ◌≢◌};
+ghost use Rattle.std.specs.Prelude.{MatchOption};
 ghost use Rattle.std.specs.Option.{unwrap_or, option_copied};
 ghost use Rattle.std.specs.List.Sorted.{IsNonDecreasingBy};
 ghost use Rattle.std.specs.Str.{chars};
-ghost use Rattle.std.specs.String.{string_bytes};
-ghost use Rattle.pm_span.specs.Extent.{nowhere};
 ghost use Rattle.pm_span.specs.Files.{Files, next_lo, Fits, Holds, new_map, with_file};
-ghost use Rattle.pm_span.specs.Lookup.{StartsAt, HasBytes, HasText, IsTextOf};
+ghost use Rattle.pm_span.specs.Lookup.{StartsAt, HasBytes};
 ghost use Rattle.pm_span.specs.Consecutive.{file_0, AreBegun, IsFileOf};
 
-use crate::byte_index::OffsetPair;
 use crate::file_info::FileInfo;
 use crate::location::LineColumn;
 use crate::spans::Span;
@@ -171,55 +168,17 @@ impl SourceMap {
         }
     }
 
-    /// The bytes that a span of the map takes in its file, which may keep what it found.
-    pub(crate) fn byte_range(&mut self, span: Span) -> Range<usize>
-        requires { Holds self.old span }
-        ensures value { HasBytes self.old span result }
-        ensures kept { self.new ≡ self.old }
+    /// The bytes that a span of the map takes in its file.
+    pub(crate) fn byte_range(&self, span: Span) -> Range<usize>
+        requires { Holds self.now span }
+        ensures { HasBytes self.now span result }
     {
         let (lo, hi) = span.bounds();
-        let (number, _) = self.file_of(lo);
-        if number == 0 {
-            return 0..0;
+        let (_, file) = self.file_of(lo);
+        match file {
+            None => 0..0,
+            Some(file) => file.byte_range(lo - file.lo(), hi - file.lo()),
         }
-        // The span's end lies in the same file.
-        let file = &mut self.files[number - 1];
-        let file_lo = file.lo();
-        file.find_byte_range(lo - file_lo, hi - file_lo)
-    }
-
-    /// A copy of the text of a span of the map, whose file may keep what it found; `None` for 0..0 alone.
-    pub(crate) fn source_text(&mut self, span: Span) -> Result<Option<String>, AllocError>
-        requires { Holds self.old span }
-        ensures found { IfOk result (λ copy. MatchOption copy (span ≡ nowhere) (λ _. span ≢ nowhere)) }
-        ensures value { IfOk result (λ copy.
-            IfSome copy (λ text. HasText self.old span (chars (string_bytes text)))) }
-        ensures text { IfOk result (λ copy.
-            IfSome copy (λ text. IsTextOf self.old span (chars (string_bytes text)))) }
-        ensures nowhere { span ≡ nowhere → result ≡ Ok None }
-        ensures kept { self.new ≡ self.old }
-    {
-        let alloc = self.alloc;
-        let (lo, hi) = span.bounds();
-        let (number, _) = self.file_of(lo);
-        if number == 0 {
-            return Ok(None);
-        }
-        let source = &mut self.files[number - 1];
-        let file_lo = source.lo();
-        let start = lo - file_lo;
-        let end = hi - file_lo;
-        let bytes = source.find_byte_range(start, end);
-        let from = OffsetPair {
-            chars: start,
-            bytes: bytes.start,
-        };
-        let to = OffsetPair {
-            chars: end,
-            bytes: bytes.end,
-        };
-        let text = String::from_str(alloc, source.text_between(from, to))?;
-        Ok(Some(text))
     }
 
     /// Where the file of this text would begin, if it fits.

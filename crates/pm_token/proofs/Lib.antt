@@ -30,3 +30,4 @@ pub mod ValueLawLemmas
 pub mod WholeLemmas
 pub mod SpellingLemmas
 mod PlainNameLemmas
+mod StringLaneLemmas

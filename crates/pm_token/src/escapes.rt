@@ -13,7 +13,9 @@ ghost use Rattle.pm_token.specs.Text.{IsText};
 
 mod bytes;
 mod c_strings;
+mod words;
 
+use crate::escapes::words::count_in_string;
 use crate::symbols::Symbol;
 use std::alloc::{AllocError, Global};
 use std::marker::Model;
@@ -178,6 +180,17 @@ impl TextBuilder {
 
 /// How many bytes at the front are ASCII characters that stand for themselves between these quotes.
 fn count_plain(bytes: &[u8], quote: char) -> usize
+    ensures { result ≡ length (while_front (is_plain_ascii quote) bytes.now) }
+{
+    if quote == '"' {
+        count_in_string(bytes)
+    } else {
+        count_by_bytes(bytes, quote)
+    }
+}
+
+/// How many bytes at the front stand for themselves between these quotes, by one byte after the other.
+fn count_by_bytes(bytes: &[u8], quote: char) -> usize
     ensures { result ≡ length (while_front (is_plain_ascii quote) bytes.now) }
 {
     let mut count = 0;

@@ -1,5 +1,4 @@
-// Which bytes spans take on lines that aren't ASCII, asked for in many orders. What one look-up keeps is read by the
-// next.
+// Which bytes spans take on lines that aren't ASCII, asked for in many orders: no look-up changes the next.
 use crate::checks::held;
 use pm_span::parts::{add_file, fits};
 use proc_macro2::SourceMap;

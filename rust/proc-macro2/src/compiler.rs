@@ -1,7 +1,7 @@
 //! Inside a macro: the compiler's own tokens.
 #[cfg(span_locations)]
 use crate::LineColumn;
-use crate::{LexError, TokenTree};
+use crate::{LexError, TokenStream, TokenTree};
 use proved_tokens::pm_span::Span as Place;
 use std::fmt::{self, Debug};
 use std::panic;
@@ -22,11 +22,13 @@ pub(crate) fn inside() -> bool {
     if cfg!(procmacro2_semver_exempt) || !cfg!(feature = "proc-macro") {
         return false;
     }
-    match WHERE.load(Ordering::Relaxed) {
-        OUTSIDE => false,
-        INSIDE => true,
-        _ => look(),
-    }
+    // One comparison and one call: it is compiled wherever tokens are made.
+    WHERE.load(Ordering::Relaxed) != OUTSIDE && found_inside()
+}
+
+#[cold]
+fn found_inside() -> bool {
+    WHERE.load(Ordering::Relaxed) == INSIDE || look()
 }
 
 #[cold]
@@ -42,6 +44,26 @@ fn look() -> bool {
 pub(crate) fn inside_alone<T>(act: impl FnOnce() -> T) -> T {
     act()
 }
+
+/// A copy of a token or of a stream inside a macro.
+// Not `Clone`, so that its code is compiled here once, and not wherever a token is copied.
+pub(crate) trait Copied: Sized {
+    fn copied(&self) -> Self;
+}
+
+macro_rules! copied {
+    ($($type:ty)*) => {$(
+        impl Copied for $type {
+            #[cold]
+            fn copied(&self) -> $type {
+                self.clone()
+            }
+        }
+    )*};
+}
+
+copied!(proc_macro::Group proc_macro::Ident proc_macro::Punct proc_macro::Literal);
+copied!(proc_macro::token_stream::IntoIter Stream);
 
 /// Has all new tokens be the wrapper's own.
 pub fn stay_outside() {
@@ -70,10 +92,7 @@ pub(crate) struct Stream {
 
 impl Stream {
     pub(crate) fn new(stream: proc_macro::TokenStream) -> Stream {
-        Stream {
-            stream,
-            after: Vec::new(),
-        }
+        Stream { stream, after: Vec::new() }
     }
 
     pub(crate) fn is_empty(&self) -> bool {
@@ -84,9 +103,10 @@ impl Stream {
         self.after.push(tree_of(tree));
     }
 
-    pub(crate) fn append(&mut self, streams: impl Iterator<Item = proc_macro::TokenStream>) {
+    #[cold]
+    pub(crate) fn append(&mut self, streams: &mut dyn Iterator<Item = TokenStream>) {
         self.settle();
-        self.stream.extend(streams);
+        self.stream.extend(streams.map(|more| more.repr.into_compiler().finish()));
     }
 
     fn settle(&mut self) {

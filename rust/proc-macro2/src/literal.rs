@@ -15,23 +15,17 @@ use std::str::FromStr;
 
 token!(Literal, Own);
 
-impl Clone for Literal {
-    #[inline(always)]
-    fn clone(&self) -> Literal {
-        match &self.repr {
-            Repr::Own(literal) => Literal::own(literal.clone()),
-            Repr::Compiler(literal) => compiler::inside_alone(|| Literal::compiler(literal.clone())),
-        }
-    }
-}
-
 macro_rules! literals {
     ($($(#[$doc:meta])* $name:ident($value:ident: $type:ty) => $given:expr;)*) => {$(
         $(#[$doc])*
         #[inline]
         pub fn $name($value: $type) -> Literal {
+            #[cold]
+            fn inside($value: $type) -> Literal {
+                Literal::compiler(proc_macro::Literal::$name($value))
+            }
             if compiler::inside() {
-                compiler::inside_alone(|| Literal::compiler(proc_macro::Literal::$name($value)))
+                inside($value)
             } else {
                 Literal::own(sure(Own::$name($given)))
             }

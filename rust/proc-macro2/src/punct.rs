@@ -16,11 +16,11 @@ impl Punct {
     #[inline]
     #[track_caller]
     pub fn new(ch: char, spacing: Spacing) -> Punct {
-        assert!(Own::is_punct_char(ch), "unsupported proc macro punctuation character {ch:?}");
+        if !Own::is_punct_char(ch) {
+            refused(ch);
+        }
         if compiler::inside() {
-            let is_joint = spacing == Spacing::Joint;
-            let spacing = if is_joint { proc_macro::Spacing::Joint } else { proc_macro::Spacing::Alone };
-            return Punct::compiler(proc_macro::Punct::new(ch, spacing));
+            return Punct::compiler(inside(ch, spacing));
         }
         Punct::own(Own::new(ch, spacing))
     }
@@ -41,6 +41,20 @@ impl Punct {
             Repr::Compiler(_) => Spacing::Alone,
         }
     }
+}
+
+#[cold]
+#[track_caller]
+fn refused(ch: char) -> ! {
+    panic!("unsupported proc macro punctuation character {ch:?}");
+}
+
+/// The mark of the compiler's.
+#[cold]
+fn inside(ch: char, spacing: Spacing) -> proc_macro::Punct {
+    let is_joint = spacing == Spacing::Joint;
+    let spacing = if is_joint { proc_macro::Spacing::Joint } else { proc_macro::Spacing::Alone };
+    proc_macro::Punct::new(ch, spacing)
 }
 
 impl Display for Punct {

@@ -1,5 +1,5 @@
 //! Tokens of two kinds: the compiler's, inside macros, and those of the proved functions.
-use crate::compiler;
+use crate::compiler::{self, Copied};
 
 /// A token, a stream or an error of the compiler's or of the proved functions.
 pub(crate) enum Repr<C, O> {
@@ -24,12 +24,12 @@ impl<C, O> Repr<C, O> {
     }
 }
 
-impl<C: Clone, O: Clone> Clone for Repr<C, O> {
+impl<C: Copied, O: Clone> Clone for Repr<C, O> {
     #[inline(always)]
     fn clone(&self) -> Repr<C, O> {
         match self {
             Repr::Own(token) => Repr::Own(token.clone()),
-            Repr::Compiler(token) => Repr::Compiler(compiler::inside_alone(|| token.clone())),
+            Repr::Compiler(token) => Repr::Compiler(token.copied()),
         }
     }
 }

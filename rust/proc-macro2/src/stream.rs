@@ -13,7 +13,7 @@ impl TokenStream {
     #[inline]
     pub fn new() -> TokenStream {
         if compiler::inside() {
-            return inside_alone(|| TokenStream::compiler(proc_macro::TokenStream::new()));
+            return TokenStream::compiler(proc_macro::TokenStream::new());
         }
         TokenStream::own(Own::new())
     }
@@ -159,7 +159,7 @@ impl Extend<TokenStream> for TokenStream {
     fn extend<I: IntoIterator<Item = TokenStream>>(&mut self, streams: I) {
         let streams = streams.into_iter();
         match &mut self.repr {
-            Repr::Compiler(stream) => stream.append(streams.map(|more| more.repr.into_compiler().finish())),
+            Repr::Compiler(stream) => stream.append(&mut { streams }),
             Repr::Own(own) => sure(own.extend_streams(streams.map(|more| more.repr.into_own()))),
         }
     }
@@ -235,7 +235,7 @@ impl Iterator for IntoIter {
     fn next(&mut self) -> Option<TokenTree> {
         match &mut self.left {
             Repr::Own(trees) => trees.next().map(of_own),
-            Repr::Compiler(trees) => trees.next().map(of_compiler),
+            Repr::Compiler(trees) => next_inside(trees),
         }
     }
 
@@ -247,15 +247,15 @@ impl Iterator for IntoIter {
     }
 }
 
-/// A tree of the compiler's.
+/// The next tree of the compiler's.
 #[cold]
-fn of_compiler(tree: proc_macro::TokenTree) -> TokenTree {
-    match tree {
+fn next_inside(trees: &mut proc_macro::token_stream::IntoIter) -> Option<TokenTree> {
+    Some(match trees.next()? {
         proc_macro::TokenTree::Group(group) => TokenTree::Group(Group::compiler(group)),
         proc_macro::TokenTree::Ident(ident) => TokenTree::Ident(Ident::compiler(ident)),
         proc_macro::TokenTree::Literal(literal) => TokenTree::Literal(Literal::compiler(literal)),
         proc_macro::TokenTree::Punct(punct) => TokenTree::Punct(Punct::compiler(punct)),
-    }
+    })
 }
 
 /// A tree of the proved functions.

@@ -55,8 +55,10 @@
 //!
 //! # Features
 //!
-//! No feature is on by default. Turn on those that you need: `features = ["items", "quote"]`. To convert streams from
-//! and to those of `proc-macro2`, as in a macro, take the package `proved-macros`, which has this one inside it.
+//! None of the features above is on by default. Turn on those that you need: `features = ["items", "quote"]`. The one
+//! default feature, `whole`, is what this page describes; the package `proc-macro2` goes without it, to compile faster.
+//! To convert streams from and to those of `proc-macro2`, as in a macro, take the package `proved-macros`, which has
+//! this one inside it.
 //!
 //! # What is proved
 //!
@@ -112,6 +114,7 @@ erased! {
     pm_stream
     #[cfg(feature = "token_buffer")]
     token_buffer
+    #[cfg(feature = "whole")]
     proc_macro2
     #[cfg(feature = "quoting")]
     quoting
@@ -133,7 +136,9 @@ erased! {
 pub mod contracts;
 pub mod error;
 mod native;
+#[cfg(feature = "whole")]
 pub mod text;
+#[cfg(feature = "whole")]
 pub mod walk;
 
 #[cfg(feature = "explain")]
@@ -147,6 +152,7 @@ pub mod print;
 #[cfg(feature = "quoting")]
 pub mod quote;
 
+#[cfg(feature = "whole")]
 #[doc(inline)]
 pub use crate::proc_macro2::{
     extra::DelimSpan, Delimiter, Group, Ident, LineColumn, Literal, Punct, SourceMap, Spacing, Span, TokenStream,

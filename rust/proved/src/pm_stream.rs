@@ -9,20 +9,28 @@ mod debug;
 mod display;
 mod doc;
 pub mod extra;
+#[cfg(feature = "whole")]
 pub mod laws;
 mod parse;
 pub mod parts;
+#[cfg(feature = "whole")]
 pub mod placing;
 pub mod reading;
+#[cfg(feature = "whole")]
 pub mod reprinting;
+#[cfg(feature = "whole")]
 mod same;
 mod steps;
 mod stream;
 pub mod token_stream;
+#[cfg(feature = "whole")]
 mod walk;
+#[cfg(feature = "whole")]
 mod well_spaced;
 
 pub use steps::{Step, Steps};
 pub use stream::{Group, TokenStream, TokenTree};
+#[cfg(feature = "whole")]
 pub use walk::Walk;
+#[cfg(feature = "whole")]
 pub use well_spaced::may_be_joint;

@@ -28,14 +28,18 @@ fn append(stream: &mut TokenStream, tree: impl Into<TokenTree>) {
     stream.extend(once(tree.into()));
 }
 
+// The functions of quote that `quote!` calls are never copied to their callers: they are compiled in quote.
+#[inline(never)]
 fn word(stream: &mut TokenStream, word: &str) {
     append(stream, Ident::new(word, Span::call_site()));
 }
 
+#[inline(never)]
 fn mark(stream: &mut TokenStream, mark: char) {
     append(stream, Punct::new(mark, Spacing::Alone));
 }
 
+#[inline(never)]
 fn marks(stream: &mut TokenStream, first: char, second: char) {
     append(stream, Punct::new(first, Spacing::Joint));
     append(stream, Punct::new(second, Spacing::Alone));

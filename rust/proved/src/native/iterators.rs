@@ -1,7 +1,9 @@
 //! Walks and iterators: Rust's `Iterator` and `IntoIterator`.
 use crate::lexical::{PieceWalk, PlacedPiece};
 use crate::pm_stream::token_stream::IntoIter;
-use crate::pm_stream::{Step, Steps, TokenStream, TokenTree, Walk};
+#[cfg(feature = "whole")]
+use crate::pm_stream::Walk;
+use crate::pm_stream::{Step, Steps, TokenStream, TokenTree};
 use core::iter::FusedIterator;
 use core::slice;
 
@@ -31,6 +33,7 @@ impl ExactSizeIterator for IntoIter {}
 impl FusedIterator for IntoIter {}
 
 /// The trees at all depths, each group before those inside it: [`try_next`](Walk::try_next).
+#[cfg(feature = "whole")]
 impl<'a> Iterator for Walk<'a> {
     type Item = &'a TokenTree;
 
@@ -40,6 +43,7 @@ impl<'a> Iterator for Walk<'a> {
     }
 }
 
+#[cfg(feature = "whole")]
 impl FusedIterator for Walk<'_> {}
 
 /// The steps into and out of groups and past tokens: [`try_next`](Steps::try_next).

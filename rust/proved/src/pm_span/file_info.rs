@@ -3,7 +3,7 @@
 
 use crate::shim::prelude::{Box, GrowText};
 
-use crate::pm_span::byte_index::{ByteIndex, OffsetPair};
+use crate::pm_span::byte_index::ByteIndex;
 use crate::pm_span::line_index::LineIndex;
 use crate::pm_span::location::LineColumn;
 use crate::pm_span::text_lines::{Lines, find_lines};
@@ -28,18 +28,14 @@ enum FileText {
 }
 
 impl FileText {
-    /// A copy of this text of so many characters, where lines that aren't ASCII begin and end as said.
-    fn new(
-        text: &str,
-        count: u32,
-        bounds: Vec<OffsetPair>,
-    ) -> Result<FileText, AllocError>
+    /// A copy of this text of so many characters; refused if its memory is.
+    fn new(text: &str, count: u32) -> Result<FileText, AllocError>
     {
         let copy = String::from_str_fallibly(text)?;
         if count as usize == text.len() {
             return Ok(FileText::Ascii(copy));
         }
-        let index = ByteIndex::new(copy, count, bounds);
+        let index = ByteIndex::new(copy, count)?;
         Ok(FileText::Wide(Box::new(index)?))
     }
 }
@@ -52,11 +48,6 @@ impl fmt::Debug for FileInfo {
         debug.field("lo", &self.lo);
         debug.field("hi", &self.hi);
         debug.field("line_starts", self.lines.starts());
-        if let FileText::Wide(index) = &self.text {
-            debug.field("non_ascii_bounds", &index.bounds);
-            debug.field("byte_offsets", &index.known);
-            debug.field("used", &index.memo.found);
-        }
         debug.finish()
     }
 }
@@ -65,13 +56,9 @@ impl FileInfo {
     /// The file of this text that begins at `lo`; refused if a growth is.
     pub(crate) fn new(text: &str, lo: u32) -> Result<FileInfo, AllocError>
     {
-        let Lines {
-            starts,
-            non_ascii_bounds,
-            count,
-        } = find_lines(text)?;
+        let Lines { starts, count } = find_lines(text)?;
         Ok(FileInfo {
-            text: FileText::new(text, count, non_ascii_bounds)?,
+            text: FileText::new(text, count)?,
             lo,
             hi: lo + count,
             lines: LineIndex::new(starts, count)?,
@@ -105,27 +92,20 @@ impl FileInfo {
         self.lines.line_column(char_offset)
     }
 
-    /// An offset of the text in characters as one in bytes.
-    pub(crate) fn byte_offset(&self, char_offset: u32) -> usize
+    /// The bytes between two offsets of the text, in characters.
+    #[cfg_attr(not(debug_assertions), inline(always))]
+    pub(crate) fn byte_range(&self, start: u32, end: u32) -> Range<usize>
     {
         match &self.text {
-            FileText::Ascii(_) => char_offset as usize,
-            FileText::Wide(index) => index.byte_offset(char_offset),
-        }
-    }
-
-    /// The bytes between two offsets of the text, which may keep what it found.
-    pub(crate) fn find_byte_range(&mut self, start: u32, end: u32) -> Range<usize>
-    {
-        match &mut self.text {
             FileText::Ascii(_) => start as usize..end as usize,
-            FileText::Wide(index) => index.find_byte_range(start, end),
+            FileText::Wide(index) => index.byte_range(start, end),
         }
     }
 
-    /// The text between two of its offsets.
-    pub(crate) fn text_between(&self, from: OffsetPair, to: OffsetPair) -> &str
+    /// The text between two of its offsets, in characters.
+    pub(crate) fn text_between(&self, start: u32, end: u32) -> &str
     {
-        &self.text()[from.bytes..to.bytes]
+        let bytes = self.byte_range(start, end);
+        &self.text()[bytes.start..bytes.end]
     }
 }

@@ -3,7 +3,6 @@
 
 use crate::shim::prelude::{GrowText, format};
 
-use crate::pm_span::byte_index::OffsetPair;
 use crate::pm_span::location::LineColumn;
 use crate::pm_span::source_map::SourceMap;
 use crate::pm_span::spans::Span;
@@ -75,8 +74,7 @@ impl Span {
     /// The bytes of its file's text that the span takes (`byte-offset`), in a map that holds it.
     ///
     /// They count from the start of the file, and are 0..0 for 0..0. In the text `é a` at 1..4, the span
-    /// 3..4 takes the bytes 3..4. The map stays as it is, but may remember offsets inside long lines, so that
-    /// later look-ups there are short. Where there is no memory for that, the answer is the same.
+    /// 3..4 takes the bytes 3..4. The map stays as it is, and no memory is taken.
     ///
     /// # Contract
     ///
@@ -121,7 +119,10 @@ impl Span {
     /// [None]: crate::contracts#std.None
     pub fn source_text(self, map: &mut SourceMap) -> Result<Option<String>, AllocError>
     {
-        map.source_text(self)
+        match self.source_str(map) {
+            None => Ok(None),
+            Some(text) => Ok(Some(String::from_str_fallibly(text)?)),
+        }
     }
 
     /// The text of the span (`source-text`), in a map that holds it; `None` for 0..0 alone.
@@ -148,17 +149,7 @@ impl Span {
         let (lo, hi) = self.bounds();
         let (_, file) = map.file_of(lo);
         let file = file?;
-        let start = lo - file.lo();
-        let end = hi - file.lo();
-        let from = OffsetPair {
-            chars: start,
-            bytes: file.byte_offset(start),
-        };
-        let to = OffsetPair {
-            chars: end,
-            bytes: file.byte_offset(end),
-        };
-        Some(file.text_between(from, to))
+        Some(file.text_between(lo - file.lo(), hi - file.lo()))
     }
 
     /// The span from where the first of the two begins to where the last of them ends (`join`), in a map

@@ -1,9 +1,8 @@
 // Made from crates/pm_span/src/source_map.rt by rust/erase: change that file, not this one.
 //! The map of the texts that were read.
 
-use crate::shim::prelude::{Grow, GrowText};
+use crate::shim::prelude::Grow;
 
-use crate::pm_span::byte_index::OffsetPair;
 use crate::pm_span::file_info::FileInfo;
 use crate::pm_span::location::LineColumn;
 use crate::pm_span::spans::Span;
@@ -153,43 +152,15 @@ impl SourceMap {
         }
     }
 
-    /// The bytes that a span of the map takes in its file, which may keep what it found.
-    pub(crate) fn byte_range(&mut self, span: Span) -> Range<usize>
+    /// The bytes that a span of the map takes in its file.
+    pub(crate) fn byte_range(&self, span: Span) -> Range<usize>
     {
         let (lo, hi) = span.bounds();
-        let (number, _) = self.file_of(lo);
-        if number == 0 {
-            return 0..0;
+        let (_, file) = self.file_of(lo);
+        match file {
+            None => 0..0,
+            Some(file) => file.byte_range(lo - file.lo(), hi - file.lo()),
         }
-        // The span's end lies in the same file.
-        let file = &mut self.files[number - 1];
-        let file_lo = file.lo();
-        file.find_byte_range(lo - file_lo, hi - file_lo)
-    }
-
-    /// A copy of the text of a span of the map, whose file may keep what it found; `None` for 0..0 alone.
-    pub(crate) fn source_text(&mut self, span: Span) -> Result<Option<String>, AllocError>
-    {
-        let (lo, hi) = span.bounds();
-        let (number, _) = self.file_of(lo);
-        if number == 0 {
-            return Ok(None);
-        }
-        let source = &mut self.files[number - 1];
-        let file_lo = source.lo();
-        let start = lo - file_lo;
-        let end = hi - file_lo;
-        let bytes = source.find_byte_range(start, end);
-        let from = OffsetPair {
-            chars: start,
-            bytes: bytes.start,
-        };
-        let to = OffsetPair {
-            chars: end,
-            bytes: bytes.end,
-        };
-        let text = String::from_str_fallibly(source.text_between(from, to))?;
-        Ok(Some(text))
     }
 
     /// Where the file of this text would begin, if it fits.

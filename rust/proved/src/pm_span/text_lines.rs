@@ -3,7 +3,6 @@
 
 use crate::shim::prelude::Grow;
 
-use crate::pm_span::byte_index::OffsetPair;
 use crate::pm_span::text::{FirstLine, first_line};
 use crate::shim::alloc::AllocError;
 
@@ -11,8 +10,6 @@ use crate::shim::alloc::AllocError;
 pub(crate) struct Lines {
     /// The offsets after each line feed, in characters.
     pub(crate) starts: Vec<u32>,
-    /// Where each line that isn't ASCII begins and ends.
-    pub(crate) non_ascii_bounds: Vec<OffsetPair>,
     /// How many characters the text has.
     pub(crate) count: u32,
 }
@@ -22,53 +19,22 @@ pub(crate) struct Lines {
 pub(crate) fn find_lines(text: &str) -> Result<Lines, AllocError>
 {
     let mut starts = Vec::new();
-    let mut non_ascii_bounds = Vec::new();
-    let mut start = OffsetPair { chars: 0, bytes: 0 };
+    let mut start = 0;
     let mut rest = text;
     loop {
         let FirstLine { count, split } = first_line(rest);
         match split {
-            Some((line, after)) => {
-                let next = OffsetPair {
-                    chars: start.chars + count as u32 + 1,
-                    bytes: text.len() - after.len(),
-                };
-                starts.push_fallibly(next.chars)?;
-                if count < line.len() {
-                    push_bounds(&mut non_ascii_bounds, start, next)?;
-                }
-                start = next;
+            Some((_, after)) => {
+                start = start + count as u32 + 1;
+                starts.push_fallibly(start)?;
                 rest = after;
             }
             None => {
-                let end = OffsetPair {
-                    chars: start.chars + count as u32,
-                    bytes: text.len(),
-                };
-                if count < rest.len() {
-                    push_bounds(&mut non_ascii_bounds, start, end)?;
-                }
                 return Ok(Lines {
                     starts,
-                    non_ascii_bounds,
-                    count: end.chars,
+                    count: start + count as u32,
                 });
             }
         }
     }
-}
-
-/// Keeps where a line that isn't ASCII begins and ends. The first is kept already where the line before it is.
-fn push_bounds(
-    bounds: &mut Vec<OffsetPair>,
-    start: OffsetPair,
-    end: OffsetPair,
-) -> Result<(), AllocError>
-{
-    match bounds.last() {
-        Some(last) if last.chars == start.chars => {}
-        _ => bounds.push_fallibly(start)?,
-    }
-    bounds.push_fallibly(end)?;
-    Ok(())
 }

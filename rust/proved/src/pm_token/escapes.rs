@@ -5,7 +5,9 @@ use crate::shim::prelude::{Grow, GrowText};
 
 mod bytes;
 mod c_strings;
+mod words;
 
+use crate::pm_token::escapes::words::count_in_string;
 use crate::pm_token::symbols::Symbol;
 use crate::shim::alloc::AllocError;
 use crate::shim::ucd_category::GeneralCategory;
@@ -186,6 +188,16 @@ impl TextBuilder {
 
 /// How many bytes at the front are ASCII characters that stand for themselves between these quotes.
 fn count_plain(bytes: &[u8], quote: char) -> usize
+{
+    if quote == '"' {
+        count_in_string(bytes)
+    } else {
+        count_by_bytes(bytes, quote)
+    }
+}
+
+/// How many bytes at the front stand for themselves between these quotes, by one byte after the other.
+fn count_by_bytes(bytes: &[u8], quote: char) -> usize
 {
     let mut count = 0;
     while count < bytes.len() {

@@ -8,6 +8,7 @@ mod integers;
 mod negative;
 mod quoted;
 mod subspan;
+#[cfg(feature = "whole")]
 mod values;
 mod whole;
 

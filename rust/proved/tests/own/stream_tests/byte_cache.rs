@@ -2,8 +2,7 @@
 
 use crate::shim::prelude::{Grow, GrowText, HostRuntime, vec};
 
-// Which bytes spans take on lines that aren't ASCII, asked for in many orders. What one look-up keeps is read by the
-// next.
+// Which bytes spans take on lines that aren't ASCII, asked for in many orders: no look-up changes the next.
 use crate::stream_tests::checks::held;
 use proved_tokens::pm_span::parts::{add_file, fits};
 use proved_tokens::proc_macro2::SourceMap;

@@ -1,33 +1,38 @@
-use Rattle.std.proofs.Common.{◌≡◌, ◌-◌, ◌∙◌, take, drop, sym, ap, ap₂}
+use Rattle.std.proofs.Common.{◌≡◌, ◌-◌, ◌∙◌, take, drop, sym, ap, ap₂, arith}
 use Rattle.std.specs.Str.{chars}
 use Rattle.pm_span.specs.CharOffset.{byte_offset, between}
+use Rattle.pm_span.specs.ByteIndex.{IsByteOffset}
 use Rattle.pm_span.proofs.ByteOffsetLemmas.{known_boundary, known_order}
 use Rattle.pm_span.proofs.SeamLemmas.{between_at}
 use Rattle.pm_span.proofs.file_info.FileInfo.text_between.Goals as goal
 
+-- both offsets are those of the text
+from : (c : goal.After-text) → IsByteOffset c.args.self.now.text c.args.start c.byte_range-bytes.result.start
+from c = record {
+  within = omega (arith, c.requires.ordered, c.requires.within);
+  value = c.byte_range-bytes.ensures.start;
+}
+
+to : (c : goal.After-text) → IsByteOffset c.args.self.now.text c.args.end c.byte_range-bytes.result.end
+to c = record { within = c.requires.within; value = c.byte_range-bytes.ensures.end }
+
 pub range-requires-clause-start_le_end : goal.range-requires-clause-start_le_end
-range-requires-clause-start_le_end c = known_order c.requires.from c.requires.to c.requires.ordered
+range-requires-clause-start_le_end c = known_order (from c) (to c) c.requires.ordered
 
 pub range-requires-clause-start_boundary : goal.range-requires-clause-start_boundary
-range-requires-clause-start_boundary c =
-    let text : chars c.text.result.now ≡ c.args.self.now.text = c.text.ensures.value in
-    λ past. known_boundary c.text.utf8 text c.requires.from
+range-requires-clause-start_boundary c = λ past. known_boundary c.text.utf8 c.text.ensures.value (from c)
 
 pub range-requires-clause-end_boundary : goal.range-requires-clause-end_boundary
-range-requires-clause-end_boundary c =
-    let text : chars c.text.result.now ≡ c.args.self.now.text = c.text.ensures.value in
-    known_boundary c.text.utf8 text c.requires.to
+range-requires-clause-end_boundary c = known_boundary c.text.utf8 c.text.ensures.value (to c)
 
 pub returns : goal.returns
 returns c =
     let bytes = c.text.result.now in
     let text : chars bytes ≡ c.args.self.now.text = c.text.ensures.value in
-    let from : c.args.from.bytes ≡ byte_offset (chars bytes) c.args.from.chars =
-    c.requires.from.value ∙ ap (λ t. byte_offset t c.args.from.chars) (sym text) in
-    let to : c.args.to.bytes ≡ byte_offset (chars bytes) c.args.to.chars =
-    c.requires.to.value ∙ ap (λ t. byte_offset t c.args.to.chars) (sym text) in
-    record {
-      value = ap chars (c.range.ensures.value ∙ ap₂ (λ i j. take (j - i) (drop i bytes)) from to)
-          ∙ (between_at bytes c.args.from.chars c.args.to.chars c.text.utf8 c.requires.ordered
-          ∙ ap (λ t. between t c.args.from.chars c.args.to.chars) text);
-    }
+    let start : c.byte_range-bytes.result.start ≡ byte_offset (chars bytes) c.args.start =
+    c.byte_range-bytes.ensures.start ∙ ap (λ t. byte_offset t c.args.start) (sym text) in
+    let end : c.byte_range-bytes.result.end ≡ byte_offset (chars bytes) c.args.end =
+    c.byte_range-bytes.ensures.end ∙ ap (λ t. byte_offset t c.args.end) (sym text) in
+    ap chars (c.range.ensures.value ∙ ap₂ (λ i j. take (j - i) (drop i bytes)) start end)
+    ∙ (between_at bytes c.args.start c.args.end c.text.utf8 c.requires.ordered
+    ∙ ap (λ t. between t c.args.start c.args.end) text)

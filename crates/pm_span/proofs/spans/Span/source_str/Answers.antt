@@ -13,37 +13,13 @@ returns-in_err-file-clause-found c =
     subst (λ r. MatchOption r (c.args.self ≡ nowhere) (λ text. c.args.self ≢ nowhere)) (sym c.from_residual.ensures)
     (in_file_0 c.args.self found c.bounds-lo.ensures.ordered c.requires)
 
-pub byte_offset-requires : goal.byte_offset-requires
-byte_offset-requires c =
-    let lo = ap (λ p. p.0) c.bounds-lo.ensures.value in
-    let found = found_some lo c.in_ok-file.was c.file_of.ensures.found in
-    let ordered = c.bounds-lo.ensures.ordered in
-    let within = (holds_at c.args.self found ordered).1 c.requires in
-    omega (arith, within, ordered, lo, c.lo.ensures)
-
-pub byte_offset-requires-2 : goal.byte_offset-requires-2
-byte_offset-requires-2 c =
+pub text_between-requires-clause-within : goal.text_between-requires-clause-within
+text_between-requires-clause-within c =
     let lo = ap (λ p. p.0) c.bounds-lo.ensures.value in
     let hi = ap (λ p. p.1) c.bounds-lo.ensures.value in
     let found = found_some lo c.in_ok-file.was c.file_of.ensures.found in
     let within = (holds_at c.args.self found c.bounds-lo.ensures.ordered).1 c.requires in
     omega (arith, within, hi, c.lo-2.ensures)
-
-pub text_between-requires-clause-from : goal.text_between-requires-clause-from
-text_between-requires-clause-from c =
-    let lo = ap (λ p. p.0) c.bounds-lo.ensures.value in
-    let found = found_some lo c.in_ok-file.was c.file_of.ensures.found in
-    let ordered = c.bounds-lo.ensures.ordered in
-    let within = (holds_at c.args.self found ordered).1 c.requires in
-    record { within = omega (arith, within, ordered, lo, c.lo.ensures); value = c.byte_offset.ensures }
-
-pub text_between-requires-clause-to : goal.text_between-requires-clause-to
-text_between-requires-clause-to c =
-    let lo = ap (λ p. p.0) c.bounds-lo.ensures.value in
-    let hi = ap (λ p. p.1) c.bounds-lo.ensures.value in
-    let found = found_some lo c.in_ok-file.was c.file_of.ensures.found in
-    let within = (holds_at c.args.self found c.bounds-lo.ensures.ordered).1 c.requires in
-    record { within = omega (arith, within, hi, c.lo-2.ensures); value = c.byte_offset-2.ensures }
 
 pub returns : goal.returns
 returns c =
@@ -55,7 +31,7 @@ returns c =
     c.file_of.ensures.number in
     let here : chars c.text_between.result.now ≡ between c.in_ok-file.file.now.text
     (c.args.self.lo - c.in_ok-file.file.now.lo) (c.args.self.hi - c.in_ok-file.file.now.lo) =
-    c.text_between.ensures.value ∙ ap₂ (λ j k. between c.in_ok-file.file.now.text j k)
+    c.text_between.ensures ∙ ap₂ (λ j k. between c.in_ok-file.file.now.text j k)
     (ap₂ (λ p l. p - l) lo c.lo.ensures) (ap₂ (λ p l. p - l) hi c.lo-2.ensures) in
     record {
       found = past_file_0 c.args.self found past;

@@ -1,0 +1,43 @@
+//! The front of a string's text that stands for itself, by words of 8 bytes.
+ghost use Rattle.std.specs.Prelude.{◌≡◌, ◌<◌, IfNone, IfSome, length};
+ghost use Rattle.lexical.specs.Finder.{while_front};
+ghost use Rattle.pm_token.specs.Escaped.{is_plain_ascii};
+
+use crate::escapes::count_by_bytes;
+
+/// How many of the 8 bytes stand for themselves between double quotes, from the first of them on: `None` says all.
+///
+/// They are looked at in one word. Without its highest bit, a byte sets that bit of each sum unless it is a control
+/// character, DEL, a backslash or a quote.
+#[inline(always)]
+fn count_in_word(bytes: &[u8; 8]) -> Option<usize>
+    ensures all { IfNone result (8 ≡ length (while_front (is_plain_ascii 34) bytes.now)) }
+    ensures some { IfSome result (λ n. n ≡ length (while_front (is_plain_ascii 34) bytes.now)) }
+    ensures few { IfSome result (λ n. n < 8) }
+{
+    let word = u64::from_le_bytes(*bytes);
+    let low = word & 0x7F7F_7F7F_7F7F_7F7F;
+    let controls = low + 0x6060_6060_6060_6060;
+    let deletes = (low ^ 0x7F7F_7F7F_7F7F_7F7F) + 0x7F7F_7F7F_7F7F_7F7F;
+    let backslashes = (low ^ 0x5C5C_5C5C_5C5C_5C5C) + 0x7F7F_7F7F_7F7F_7F7F;
+    let quotes = (low ^ 0x2222_2222_2222_2222) + 0x7F7F_7F7F_7F7F_7F7F;
+    let stops = (!(controls & deletes & backslashes & quotes) | word) & 0x8080_8080_8080_8080;
+    if stops == 0 {
+        return None;
+    }
+    Some((stops.trailing_zeros() / 8) as usize)
+}
+
+/// How many bytes at the front are ASCII characters that stand for themselves between double quotes.
+pub(crate) fn count_in_string(bytes: &[u8]) -> usize
+    ensures { result ≡ length (while_front (is_plain_ascii 34) bytes.now) }
+{
+    let mut count = 0;
+    while let Some(word) = bytes[count..].first_chunk::<8>() {
+        if let Some(more) = count_in_word(word) {
+            return count + more;
+        }
+        count += 8;
+    }
+    count + count_by_bytes(&bytes[count..], '"')
+}
