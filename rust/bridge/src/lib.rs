@@ -21,12 +21,16 @@
 #![warn(missing_docs)]
 
 mod back;
+#[cfg(feature = "declarations")]
+mod expand;
 mod over;
 #[cfg(feature = "pretty_printer")]
 mod pretty;
 mod spans;
 
 pub use back::from_proved;
+#[cfg(feature = "declarations")]
+pub use expand::{expand, expand_attribute};
 pub use over::to_proved;
 #[cfg(feature = "pretty_printer")]
 pub use pretty::{pretty, PrettyError};
@@ -39,26 +43,12 @@ pub use spans::{NoToken, Spans};
 struct Readme;
 
 /// The examples of the repository's guide, which may use all features. The page is not in the package.
-#[cfg(all(
-    doctest,
-    feature = "quote",
-    feature = "items",
-    feature = "print",
-    feature = "check",
-    feature = "cursor"
-))]
+#[cfg(all(doctest, feature = "quote", feature = "items", feature = "print", feature = "check", feature = "cursor"))]
 #[doc = include_str!("../../../docs/GUIDE.md")]
 struct Guide;
 
 /// The examples on the pages of the repository's crates, likewise.
-#[cfg(all(
-    doctest,
-    feature = "quote",
-    feature = "items",
-    feature = "print",
-    feature = "check",
-    feature = "cursor"
-))]
+#[cfg(all(doctest, feature = "quote", feature = "items", feature = "print", feature = "check", feature = "cursor"))]
 mod pages {
     macro_rules! pages {
         ($($page:literal $name:ident)*) => {

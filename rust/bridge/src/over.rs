@@ -2,7 +2,8 @@
 use crate::spans::{NoToken, Spans};
 use proc_macro2::{token_stream, Delimiter, Spacing};
 use proved_tokens::pm_span::Span;
-use proved_tokens::pm_stream::{Group, TokenStream, TokenTree};
+use proved_tokens::pm_stream::parts::{put_group, put_ident, put_literal, put_punct};
+use proved_tokens::pm_stream::{Group, TokenStream};
 use proved_tokens::pm_token::{Delimiter as OwnDelimiter, Ident, Literal, Punct, Spacing as OwnSpacing};
 use std::fmt::Write;
 use std::mem;
@@ -30,7 +31,7 @@ pub fn to_proved(stream: &proc_macro2::TokenStream, spans: &mut Spans) -> Result
     let mut left = stream.clone().into_iter();
     let mut text = String::new();
     loop {
-        let tree = match left.next() {
+        let closed = match left.next() {
             Some(proc_macro2::TokenTree::Group(group)) => {
                 open.push(Open {
                     delimiter: group.delimiter(),
@@ -40,7 +41,10 @@ pub fn to_proved(stream: &proc_macro2::TokenStream, spans: &mut Spans) -> Result
                 });
                 continue;
             }
-            Some(token) => proved_token(token, spans, &mut text)?,
+            Some(token) => {
+                put_token(&mut trees, token, spans, &mut text)?;
+                continue;
+            }
             None => {
                 let Some(group) = open.pop() else {
                     return Ok(trees);
@@ -50,36 +54,47 @@ pub fn to_proved(stream: &proc_macro2::TokenStream, spans: &mut Spans) -> Result
                 let inside = mem::replace(&mut trees, group.before);
                 let mut closed = Group::new(delimiter(group.delimiter), inside);
                 closed.set_span(group.span);
-                TokenTree::Group(closed)
+                closed
             }
         };
-        let Ok(()) = trees.extend_trees([tree]);
+        let Ok(()) = put_group(&mut trees, closed);
     }
 }
 
-/// The proved token of the caller's, which is no group. The text is room for its own.
-fn proved_token(token: proc_macro2::TokenTree, spans: &mut Spans, text: &mut String) -> Result<TokenTree, NoToken> {
-    let span = token.span();
+/// Puts the proved token of the caller's, which is no group, after the trees. The text is room for its own.
+fn put_token(
+    trees: &mut TokenStream,
+    token: proc_macro2::TokenTree,
+    spans: &mut Spans,
+    text: &mut String,
+) -> Result<(), NoToken> {
+    if let proc_macro2::TokenTree::Punct(mark) = &token {
+        if Punct::is_punct_char(mark.as_char()) {
+            let mut punct = Punct::new(mark.as_char(), spacing(mark.spacing()));
+            punct.set_span(spans.place_of_token(token, None));
+            let Ok(()) = put_punct(trees, punct);
+            return Ok(());
+        }
+    }
     text.clear();
     let _ = write!(text, "{token}");
-    let other = || NoToken::new(text, span);
-    let mut tree = match &token {
-        proc_macro2::TokenTree::Punct(punct) if Punct::is_punct_char(punct.as_char()) => {
-            TokenTree::Punct(Punct::new(punct.as_char(), spacing(punct.spacing())))
-        }
+    let other = |token: &proc_macro2::TokenTree| NoToken::new(text, token.span());
+    match token {
         proc_macro2::TokenTree::Ident(_) => {
             // The compiler's `$crate` is one identifier, which no text gives.
             let text = text.strip_prefix('$').filter(|name| *name == "crate").unwrap_or(text);
-            TokenTree::Ident(identifier(text).ok_or_else(other)?)
+            let mut ident = identifier(text).ok_or_else(|| other(&token))?;
+            ident.set_span(spans.place_of_token(token, Some(ident.clone().into())));
+            let Ok(()) = put_ident(trees, ident);
         }
         proc_macro2::TokenTree::Literal(_) if Literal::is_whole(text) => {
-            let Ok(literal) = Literal::from_str_unchecked(text);
-            TokenTree::Literal(literal)
+            let Ok(mut literal) = Literal::from_str_unchecked(text);
+            literal.set_span(spans.place_of_token(token, Some(literal.clone().into())));
+            let Ok(()) = put_literal(trees, literal);
         }
-        _ => return Err(other()),
-    };
-    tree.set_span(spans.place_of_token(token));
-    Ok(tree)
+        _ => return Err(other(&token)),
+    }
+    Ok(())
 }
 
 /// The identifier that is written so.

@@ -2,6 +2,7 @@
 use proc_macro2::{Group, Span, TokenTree};
 use proved_tokens::pm_span::parts::{bounds, span_of};
 use proved_tokens::pm_span::Span as Place;
+use proved_tokens::pm_stream::TokenTree as OwnTree;
 use std::error::Error;
 use std::fmt::{self, Display};
 
@@ -22,8 +23,8 @@ pub struct Spans {
 #[derive(Clone, Debug)]
 enum Kept {
     Span(Span),
-    /// A token of the caller's.
-    Token(TokenTree),
+    /// A token of the caller's, and what it became, if that isn't seen from the token.
+    Token(TokenTree, Option<OwnTree>),
     /// A group of the caller's, and the number after those of the trees in it.
     Group(Group, usize),
 }
@@ -41,7 +42,7 @@ impl Spans {
     pub fn span(&self, place: Place) -> Span {
         match self.kept(place) {
             Some(Kept::Span(span)) => *span,
-            Some(Kept::Token(token)) => token.span(),
+            Some(Kept::Token(token, _)) => token.span(),
             Some(Kept::Group(group, _)) => group.span(),
             None => Span::call_site(),
         }
@@ -49,19 +50,24 @@ impl Spans {
 
     /// A proved span that stands for the caller's, to be set on new tokens: they come back with it.
     pub fn place(&mut self, span: Span) -> Place {
-        self.keep([Kept::Span(span)])
+        self.keep(Kept::Span(span))
     }
 
-    /// A span that stands for a token's.
-    pub(crate) fn place_of_token(&mut self, token: TokenTree) -> Place {
-        self.keep([Kept::Token(token)])
+    /// A span that stands for a token's, which became this tree.
+    pub(crate) fn place_of_token(&mut self, token: TokenTree, tree: Option<OwnTree>) -> Place {
+        self.keep(Kept::Token(token, tree))
     }
 
     /// A span that stands for a group's: its first number for that of the opener, its last for that of the closer.
     /// The numbers of its trees follow, up to a call of `close`.
     pub(crate) fn place_of_group(&mut self, group: Group) -> Place {
         let (open, close) = (group.span_open(), group.span_close());
-        self.keep([Kept::Span(open), Kept::Group(group, 0), Kept::Span(close)])
+        let (open, _, close) =
+            (self.keep(Kept::Span(open)), self.keep(Kept::Group(group, 0)), self.keep(Kept::Span(close)));
+        match (bounds(open), bounds(close)) {
+            ((lo, _), (last, hi)) if lo >= FIRST && last >= FIRST => span_of(lo, hi),
+            _ => Place::call_site(),
+        }
     }
 
     /// All trees of the group have their numbers.
@@ -72,10 +78,10 @@ impl Spans {
         }
     }
 
-    /// The caller's token that a proved span stands for.
-    pub(crate) fn token(&self, place: Place) -> Option<&TokenTree> {
+    /// The caller's token that a proved span stands for, and what it became.
+    pub(crate) fn token(&self, place: Place) -> Option<(&TokenTree, Option<&OwnTree>)> {
         match self.kept(place) {
-            Some(Kept::Token(token)) => Some(token),
+            Some(Kept::Token(token, tree)) => Some((token, tree.as_ref())),
             _ => None,
         }
     }
@@ -88,19 +94,28 @@ impl Spans {
         }
     }
 
+    /// The caller's tree that a proved span stands for.
+    pub(crate) fn own(&self, place: Place) -> Option<TokenTree> {
+        match self.kept(place)? {
+            Kept::Span(_) => None,
+            Kept::Token(token, _) => Some(token.clone()),
+            Kept::Group(group, _) => Some(TokenTree::Group(group.clone())),
+        }
+    }
+
     /// The first number of a span that stands for one of the caller's.
     pub(crate) fn first(place: Place) -> Option<usize> {
         bounds(place).0.checked_sub(FIRST).map(|index| index as usize)
     }
 
-    /// Numbers one or three entries. Past the last number it is the call site.
-    fn keep<const N: usize>(&mut self, kept: [Kept; N]) -> Place {
+    /// Numbers an entry. Past the last number it is the call site.
+    fn keep(&mut self, kept: Kept) -> Place {
         let index = u32::try_from(self.kept.len()).ok();
         let lo = index.and_then(|index| FIRST.checked_add(index));
-        let Some((lo, hi)) = lo.and_then(|lo| Some((lo, lo.checked_add(N as u32)?))) else {
+        let Some((lo, hi)) = lo.and_then(|lo| Some((lo, lo.checked_add(1)?))) else {
             return Place::call_site();
         };
-        self.kept.extend(kept);
+        self.kept.push(kept);
         span_of(lo, hi)
     }
 

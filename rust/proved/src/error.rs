@@ -20,6 +20,9 @@
 pub use crate::alloc_error::AllocError;
 #[cfg(feature = "declarations")]
 #[doc(inline)]
+pub use crate::compile_error::CompileError;
+#[cfg(feature = "declarations")]
+#[doc(inline)]
 pub use crate::declarations::{EntryError, Fault};
 #[cfg(feature = "explain")]
 #[doc(inline)]

@@ -3,9 +3,10 @@
 #![cfg(all(feature = "explain", feature = "relayout", feature = "pretty_printer", feature = "item_headers"))]
 use proved_tokens::check::explain;
 use proved_tokens::cursor::TokenBuffer;
+use proved_tokens::error::{CompileError, HeaderError};
 use proved_tokens::items::{
-    compile_error, impl_generics, impl_header, impl_header_where, parse_file, parse_param, parse_type_item,
-    type_generics, where_clause, where_clause_with_bound, Attributes, Body, Fields,
+    check_entries, compile_error, impl_generics, impl_header, impl_header_where, parse_file, parse_param,
+    parse_type_item, type_generics, where_clause, where_clause_with_bound, Attributes, Body, Fields,
 };
 use proved_tokens::print::{to_pretty_string, with_doc_comments};
 use proved_tokens::quote::{Hole, Quote};
@@ -177,5 +178,44 @@ fn errors_have_texts_sources_spans_and_are_compared() -> Outcome {
     let fault = parse_type_item(stream.trees()).err();
     assert!(fault.is_some_and(|fault| fault.span().is_some()));
     fails(fault, &fault.map(|fault| fault.to_string()).unwrap_or_default(), false);
+    Ok(())
+}
+
+#[test]
+fn every_error_becomes_a_compile_error_at_its_place() -> Outcome {
+    let mut map = SourceMap::new();
+    let stream = TokenStream::from_str("struct\n{} enum", &mut map)?;
+    let fault = parse_type_item(stream.trees()).unwrap_err();
+    assert_eq!(CompileError::from(fault).span().source_str(&map), Some("{}"));
+    let ends = parse_type_item(&stream.trees()[..1]).unwrap_err();
+    let mut error = CompileError::from(ends);
+    error.combine(HeaderError::Fault(fault).into());
+    error.combine(TokenStream::from_str("a b)", &mut map).unwrap_err().into());
+    let entries = TokenStream::from_str("skip, renam", &mut map)?;
+    error.combine(check_entries(entries.trees(), &["skip"]).unwrap_err().into());
+    let texts = error.to_string();
+    let texts: Vec<&str> = texts.lines().collect();
+    assert_eq!(texts[..3], [ends.to_string(), fault.to_string(), "cannot parse string into token stream".into()]);
+    let told = error.to_compile_error();
+    let starts = told.trees().chunks(8).map(|trees| trees[0].span().start(&map));
+    let starts: Vec<_> = starts.map(|start| (start.line, start.column)).collect();
+    assert_eq!(starts, [(1, 0), (2, 0), (1, 3), (1, 6)]);
+    // Those without a place.
+    fn in_a_macro(row: usize) -> Result<TokenStream, CompileError> {
+        match row {
+            0 => drop(Ident::new("1", Span::call_site())?),
+            1 => drop(Literal::from_str_unchecked("1")?.str_value()?),
+            2 => drop(with_doc_comments("'")?),
+            3 => drop(TokenBuffer::new("(")?),
+            4 => drop(to_pretty_string(&Punct::new('\'', Spacing::Joint).into())?),
+            5 => drop("(".parse::<TokenStream>()?),
+            _ => drop(unescape_str("\\").next().expect("a unit").1?),
+        }
+        Ok(TokenStream::new())
+    }
+    for row in 0..7 {
+        let told = in_a_macro(row).expect_err("it is an error").to_compile_error();
+        assert_eq!(told.trees().len(), 8, "row {row}");
+    }
     Ok(())
 }
