@@ -77,15 +77,11 @@ fn values<W: Write>(alloc: Global, out: &mut W, quote: &mut Quote) -> Result<(),
     let template = TokenStream::from_str(VALUES, &mut SourceMap::new(alloc))?;
     let mut rows = Values::new(alloc);
     rows.push(Value::Strings(&["s", "t"]))?;
-    let rows = Value::List(rows);
-    let name = Value::Name(LETTERS);
-    let text = Value::String(LETTERS);
-    let number = Value::Number(Number::I8(-7));
     let holes = [
-        Hole::of("name", &name),
-        Hole::of("text", &text),
-        Hole::of("number", &number),
-        Hole::of("row", &rows),
+        Hole::of("name", Value::Name(LETTERS)),
+        Hole::of("text", Value::String(LETTERS)),
+        Hole::of("number", Value::Number(Number::I8(-7))),
+        Hole::list("row", rows),
     ];
     begin(out)?;
     show(out, quote.fill(&template, &holes))

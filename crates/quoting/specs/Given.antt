@@ -22,16 +22,18 @@ use Rattle.proc_macro2.specs.declared.TokenTree.TheVariants.{Group, Ident, Punct
 use Rattle.proc_macro2.specs.declared.Spacing.TheVariants.{Alone}
 use Rattle.quoting.specs.Filled.{comes, depth_limit, has_meaning, filled_by}
 use Rattle.quoting.specs.Holes.{Named, Outcome, all_in_turn}
-use Rattle.quoting.specs.Items.{Filling, One, Each, each_of}
+use Rattle.quoting.specs.Items.{Filling, One, Each}
 use Rattle.quoting.specs.Interpolation.{Interpolation, Names, Repeats, after_hash, interpolation}
 use Rattle.quoting.specs.declared.errors.TemplateError.{TemplateError}
 use Rattle.quoting.specs.declared.errors.TemplateError.TheVariants.{NoHole, LoneList, NoList, UnequalLists}
 use Rattle.quoting.specs.declared.errors.TemplateError.TheVariants.{NotIdent, NotFinite, TooDeep, Parse, Memory}
 use Rattle.quoting.specs.declared.holes.Filling.{Filling as Filler}
-use Rattle.quoting.specs.declared.holes.Filling.TheVariants.{One as OneStream, Each as EachStream, Of as OfValue}
+use Rattle.quoting.specs.declared.holes.Filling.TheVariants.{One as OneStream, Of as OfValue, Item as OfItem, List as OfList}
 use Rattle.quoting.specs.declared.holes.Filling.TheVariants.{Tree as OfTree, Ident as OfIdent, Literal as OfLiteral}
 use Rattle.quoting.specs.declared.holes.Filling.TheVariants.{Text as OfText}
 use Rattle.quoting.specs.Values.{plain_literal, value_of}
+use Rattle.quoting.specs.declared.holes.Content.{Content}
+use Rattle.quoting.specs.declared.holes.Content.TheVariants.{Value as GivenValue, List as GivenList}
 use Rattle.quoting.specs.declared.holes.Hole.{Hole}
 use Rattle.quoting.specs.declared.holes.HoleName.{HoleName}
 use Rattle.quoting.specs.declared.holes.HoleName.TheVariants.{Word, Digits}
@@ -43,12 +45,18 @@ use Rattle.quoting.specs.declared.interpolation.FoundInterpolation.TheVariants.{
 -- what a hole stands for
 abbrev pub filling_by : Filler → Filling
 filling_by (OneStream stream) = One stream.now
-filling_by (EachStream streams) = Each (each_of One streams.now)
 filling_by (OfValue value) = value_of value.now
+filling_by (OfItem value) = value_of value.now
+filling_by (OfList values) = Each values.now
 filling_by (OfTree tree) = One (split tree.now)
 filling_by (OfIdent ident) = One (alone (Ident ident.now))
 filling_by (OfLiteral literal) = One (split (Literal literal.now))
 filling_by (OfText text) = One (plain_literal (string_text (chars text.now)))
+
+-- what is given for a hole
+abbrev pub content_of : Content → Filling
+content_of (GivenValue value) = value_of value
+content_of (GivenList values) = Each values
 
 -- what was looked up
 abbrev pub looked_up : Option Filler → Option Filling
@@ -57,7 +65,7 @@ looked_up (Some filler) = Some (filling_by filler)
 
 -- a hole's name, with what the hole stands for
 abbrev pub named : Hole → Named
-named hole = record { name = chars hole.name.now; filling = filling_by hole.filling }
+named hole = record { name = chars hole.name.now; filling = content_of hole.content }
 
 -- the names of the holes, each with what the hole stands for
 abbrev pub named_all : List Hole → List Named

@@ -20,7 +20,8 @@ use Rattle.quoting.specs.declared.values.Number.{Number}
 use Rattle.quoting.specs.declared.values.Number.TheVariants.{U8, U16, U32, U64, U128, Usize, I8, I16, I32, I64, I128}
 use Rattle.quoting.specs.declared.values.Number.TheVariants.{Isize}
 use Rattle.quoting.specs.declared.values.Value.TheVariants.{NotFinite, Streams, Trees, Idents, Literals, Strings}
-use Rattle.quoting.specs.declared.values.Value.TheVariants.{List as Listed}
+use Rattle.quoting.specs.declared.values.Item.{Item}
+use Rattle.quoting.specs.declared.values.Item.TheVariants.{Value as ItemValue, List as ItemList}
 
 -- an identifier that is not raw, with the span of no text
 abbrev pub plain_name : List ℕ → Forest
@@ -75,7 +76,11 @@ value_of (Idents idents) = Each (each_of (λ (ident : Named). One (alone (IdentT
 value_of (Literals literals) = Each (each_of (λ (literal : Text). One (split (LiteralTree literal))) literals.now)
 value_of (Strings texts) =
     Each (each_of (λ (text : Bor (List ℕ)). One (plain_literal (string_text (chars text.now)))) texts.now)
-value_of (Listed values) = Each values
 
-abbrev pub values_of : List Value → Items
-values_of = each_of value_of
+-- what a value of a list stands for
+abbrev pub item_of : Item → Filling
+item_of (ItemValue value) = value_of value
+item_of (ItemList values) = Each values
+
+abbrev pub values_of : List Item → Items
+values_of = each_of item_of

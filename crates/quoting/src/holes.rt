@@ -2,36 +2,43 @@
 ghost use Rattle.std.specs.Prelude.{◌≡◌, Some, nat_eq};
 ghost use Rattle.std.specs.Cmp.Lexicographic.{pointwise};
 ghost use Rattle.std.specs.Str.{chars};
-ghost use Rattle.quoting.specs.Given.{filling_by, in_turns, looked_up, named, named_all, span_of, text_of};
+ghost use Rattle.quoting.specs.Given.{content_of, filling_by, in_turns, looked_up, named, named_all, span_of, text_of};
 ghost use Rattle.quoting.specs.Holes.{filling_of, in_turn, list_length, value_at};
 ghost use Rattle.quoting.specs.Items.{each_of};
 ghost use Rattle.quoting.specs.Items.{One as OneStream, Each as EachStream};
-ghost use Rattle.quoting.specs.Values.{value_of};
+ghost use Rattle.quoting.specs.Values.{item_of, value_of};
 
-use crate::values::Value;
+use crate::values::{Item, Value, Values};
 use proc_macro2::{Ident, Literal, Span, TokenStream, TokenTree};
 
 /// A name in templates, and what it stands for: trees, or a list.
-#[derive(Clone, Copy)]
+#[derive(Drop)]
 pub struct Hole<'a> {
     name: &'a str,
-    filling: Filling<'a>,
+    content: Content<'a>,
 }
 
-// What a hole stands for.
+// What is given for a hole.
+#[derive(Drop)]
+pub(crate) enum Content<'a> {
+    Value(Value<'a>),
+    List(Values),
+}
+
+// What a hole stands for in some turns of repetitions.
 #[derive(Clone, Copy)]
-pub(crate) enum Filling<'a> {
-    // One stream.
-    One(&'a TokenStream),
-    // In each turn of a repetition the next stream.
-    Each(&'a [TokenStream]),
+pub(crate) enum Filling<'h, 'a> {
     // A value.
-    Of(&'a Value<'a>),
+    Of(&'h Value<'a>),
+    // A list of values.
+    List(&'h Values),
     // Values of a list, in a turn.
-    Tree(&'a TokenTree),
-    Ident(&'a Ident),
-    Literal(&'a Literal),
-    Text(&'a str),
+    Item(&'h Value<'static>),
+    One(&'h TokenStream),
+    Tree(&'h TokenTree),
+    Ident(&'h Ident),
+    Literal(&'h Literal),
+    Text(&'h str),
 }
 
 impl<'a> Hole<'a> {
@@ -41,7 +48,7 @@ impl<'a> Hole<'a> {
     {
         Hole {
             name,
-            filling: Filling::One(stream),
+            content: Content::Value(Value::Stream(stream)),
         }
     }
 
@@ -52,26 +59,52 @@ impl<'a> Hole<'a> {
     {
         Hole {
             name,
-            filling: Filling::Each(streams),
+            content: Content::Value(Value::Streams(streams)),
         }
     }
 
     /// The hole `#name`, which stands for this value.
     ///
     /// With `Value::Number(Number::U8(7))` for `count`, `[0; #count]` is `[0; 7u8]`.
-    pub fn of(name: &'a str, value: &'a Value<'a>) -> Hole<'a>
-        ensures { named result ≡ record { name = chars name.now; filling = value_of value.now } }
+    pub fn of(name: &'a str, value: Value<'a>) -> Hole<'a>
+        ensures { named result ≡ record { name = chars name.now; filling = value_of value.entry } }
     {
         Hole {
             name,
-            filling: Filling::Of(value),
+            content: Content::Value(value),
+        }
+    }
+
+    /// The hole `#name`, which stands for the next of these values in each turn of a repetition. The values may be
+    /// lists for the repetitions inside.
+    ///
+    /// With the lists of `1u8` and of nothing for `x`, `#( f(#( #x ),*) );*` is `f(1u8); f()`.
+    pub fn list(name: &'a str, values: Values) -> Hole<'a>
+        ensures { named result ≡ record { name = chars name.now; filling = EachStream values } }
+    {
+        Hole {
+            name,
+            content: Content::List(values),
         }
     }
 }
 
-impl<'a> Filling<'a> {
+impl<'a> Content<'a> {
+    // What the hole stands for.
+    #[inline]
+    fn filling(&self) -> Filling<'_, 'a>
+        ensures { filling_by result ≡ content_of self.now }
+    {
+        match self {
+            Content::Value(value) => Filling::Of(value),
+            Content::List(values) => Filling::List(values),
+        }
+    }
+}
+
+impl<'h, 'a> Filling<'h, 'a> {
     // What it is in a turn of a repetition: the value of a list for the turn, or else itself.
-    fn in_turn(self, turn: usize) -> Filling<'a>
+    fn in_turn(self, turn: usize) -> Filling<'h, 'a>
         ensures { filling_by result ≡ in_turn turn (filling_by self.entry) }
     {
         match self.value_at(turn) {
@@ -81,13 +114,13 @@ impl<'a> Filling<'a> {
     }
 
     // The value of a list for a turn.
-    #[tactic(auto, using(crate::proofs::ItemLemmas::item_at_each))]
-    fn value_at(self, turn: usize) -> Option<Filling<'a>>
+    fn value_at(self, turn: usize) -> Option<Filling<'h, 'a>>
         ensures { looked_up result ≡ value_at turn (filling_by self.entry) }
     {
         match self {
-            Filling::Each(streams) => Some(Filling::One(streams.get(turn)?)),
             Filling::Of(value) => list_value(value, turn),
+            Filling::Item(value) => list_value(value, turn),
+            Filling::List(values) => Some(item_filling(values.get(turn)?)),
             Filling::One(_)
             | Filling::Tree(_)
             | Filling::Ident(_)
@@ -97,13 +130,13 @@ impl<'a> Filling<'a> {
     }
 
     // How many values the list has, if it is one.
-    #[tactic(auto, using(crate::proofs::ItemLemmas::item_count_each))]
     pub(crate) fn len(self) -> Option<usize>
         ensures { result ≡ list_length (Some (filling_by self.entry)) }
     {
         match self {
-            Filling::Each(streams) => Some(streams.len()),
             Filling::Of(value) => list_len(value),
+            Filling::Item(value) => list_len(value),
+            Filling::List(values) => Some(values.len()),
             Filling::One(_)
             | Filling::Tree(_)
             | Filling::Ident(_)
@@ -113,9 +146,19 @@ impl<'a> Filling<'a> {
     }
 }
 
+// What an item of a list stands for.
+fn item_filling<'h, 'a>(item: &'h Item) -> Filling<'h, 'a>
+    ensures { filling_by result ≡ item_of item.now }
+{
+    match item {
+        Item::Value(value) => Filling::Item(value),
+        Item::List(values) => Filling::List(values),
+    }
+}
+
 // The value for a turn, if the value is a list.
 #[tactic(auto, using(crate::proofs::ItemLemmas::item_at_each))]
-fn list_value<'a>(value: &'a Value<'a>, turn: usize) -> Option<Filling<'a>>
+fn list_value<'h, 'a>(value: &'h Value<'_>, turn: usize) -> Option<Filling<'h, 'a>>
     ensures { looked_up result ≡ value_at turn (value_of value.now) }
 {
     match value {
@@ -124,7 +167,6 @@ fn list_value<'a>(value: &'a Value<'a>, turn: usize) -> Option<Filling<'a>>
         Value::Idents(idents) => Some(Filling::Ident(idents.get(turn)?)),
         Value::Literals(literals) => Some(Filling::Literal(literals.get(turn)?)),
         Value::Strings(texts) => Some(Filling::Text(texts.get(turn)?)),
-        Value::List(values) => Some(Filling::Of(values.get(turn)?)),
         _ => None,
     }
 }
@@ -140,7 +182,6 @@ fn list_len(value: &Value<'_>) -> Option<usize>
         Value::Idents(idents) => Some(idents.len()),
         Value::Literals(literals) => Some(literals.len()),
         Value::Strings(texts) => Some(texts.len()),
-        Value::List(values) => Some(values.len()),
         _ => None,
     }
 }
@@ -152,7 +193,7 @@ pub(crate) enum HoleName<'a> {
     Digits(&'a Literal),
 }
 
-impl<'a> HoleName<'a> {
+impl<'n> HoleName<'n> {
     // Where it stands.
     pub(crate) fn span(&self) -> Span
         ensures { result ≡ span_of self.now }
@@ -174,12 +215,13 @@ impl<'a> HoleName<'a> {
     }
 
     // What the first hole of this name stands for.
-    fn found<'h>(&self, holes: &[Hole<'h>]) -> Option<Filling<'h>>
+    #[inline]
+    fn found<'h, 'a>(&self, holes: &'h [Hole<'a>]) -> Option<Filling<'h, 'a>>
         ensures { looked_up result ≡ filling_of (named_all holes.now) (text_of self.now) }
     {
         for hole in holes {
             if self.is(hole.name) {
-                return Some(hole.filling);
+                return Some(hole.content.filling());
             }
         }
         None
@@ -187,7 +229,12 @@ impl<'a> HoleName<'a> {
 
     // What the first hole of this name stands for in these turns.
     #[tactic(auto, using(crate::proofs::ItemLemmas::filling_begun))]
-    pub(crate) fn filling<'h>(&self, holes: &[Hole<'h>], turns: &[usize]) -> Option<Filling<'h>>
+    #[inline]
+    pub(crate) fn filling<'h, 'a>(
+        &self,
+        holes: &'h [Hole<'a>],
+        turns: &[usize],
+    ) -> Option<Filling<'h, 'a>>
         ensures { looked_up result ≡ filling_of (in_turns holes.now turns.now) (text_of self.now) }
     {
         let mut filling = self.found(holes)?;

@@ -1,14 +1,14 @@
 //! Lists of values.
 ghost use Rattle.std.specs.Prelude.{◌≡◌, MatchOption, None, OnErr, OnOk, Some};
-ghost use Rattle.quoting.specs.Items.{end, and_last, item_at, item_count};
-ghost use Rattle.quoting.specs.Values.{value_of};
+ghost use Rattle.quoting.specs.Items.{Each, end, and_last, item_at, item_count};
+ghost use Rattle.quoting.specs.Values.{item_of, value_of};
 
-use crate::values::{Value, Values};
+use crate::values::{Item, Value, Values};
 use std::alloc::{AllocError, Global};
 
-impl<'a> Values<'a> {
+impl Values {
     /// An empty list. It takes no memory.
-    pub fn new(alloc: Global) -> Values<'a>
+    pub fn new(alloc: Global) -> Values
         ensures { result ≡ end }
     {
         Values {
@@ -16,16 +16,27 @@ impl<'a> Values<'a> {
         }
     }
 
-    /// Puts the value after the others. Fails where memory runs out; then nothing is changed, and the value is
+    /// Puts the value after the others. It borrows nothing but what lasts for the whole program, so trees are owned, as
+    /// those of `Value::OwnedStream` are. Fails where memory runs out; then nothing is changed, and the value is
     /// dropped.
-    ///
-    /// With the lists of `1u8` and of nothing in it, `#( f(#( #x ),*) );*` is `f(1u8); f()`.
     #[tactic(auto, using(crate::proofs::ItemLemmas::each_push))]
-    pub fn push(&mut self, value: Value<'a>) -> Result<(), AllocError>
+    pub fn push(&mut self, value: Value<'static>) -> Result<(), AllocError>
         ensures ok { OnOk result (self.new ≡ and_last self.old (value_of value.entry)) }
         ensures err { OnErr result (self.new ≡ self.old) }
     {
-        self.list.push(value)?;
+        self.list.push(Item::Value(value))?;
+        Ok(())
+    }
+
+    /// Puts a list after the other values, as `push` does.
+    ///
+    /// With the lists of `1u8` and of nothing in it, `#( f(#( #x ),*) );*` is `f(1u8); f()`.
+    #[tactic(auto, using(crate::proofs::ItemLemmas::each_push))]
+    pub fn push_list(&mut self, values: Values) -> Result<(), AllocError>
+        ensures ok { OnOk result (self.new ≡ and_last self.old (Each values)) }
+        ensures err { OnErr result (self.new ≡ self.old) }
+    {
+        self.list.push(Item::List(values))?;
         Ok(())
     }
 
@@ -39,9 +50,9 @@ impl<'a> Values<'a> {
 
     // The value at this index, from 0.
     #[tactic(auto, using(crate::proofs::ItemLemmas::item_at_each))]
-    pub(crate) fn get(&self, index: usize) -> Option<&Value<'a>>
+    pub(crate) fn get(&self, index: usize) -> Option<&Item>
         ensures { MatchOption result (item_at index self.now ≡ None)
-            (λ value. item_at index self.now ≡ Some (value_of value.now)) }
+            (λ item. item_at index self.now ≡ Some (item_of item.now)) }
     {
         self.list.get(index)
     }

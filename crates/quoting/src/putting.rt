@@ -39,6 +39,7 @@ pub(crate) fn put_name(
 {
     match name.filling(holes, turns) {
         None => Err(TemplateError::NoHole(name.span())),
+        Some(Filling::Of(Value::Stream(stream))) => Ok(out.append(stream, more)?),
         Some(Filling::One(stream)) => Ok(out.append(stream, more)?),
         Some(filling) => put_filling(alloc, out, filling, name.span(), more),
     }
@@ -48,7 +49,7 @@ pub(crate) fn put_name(
 fn put_filling(
     alloc: Global,
     out: &mut StreamBuilder,
-    filling: Filling<'_>,
+    filling: Filling<'_, '_>,
     span: Span,
     more: usize,
 ) -> Result<(), TemplateError>
@@ -58,8 +59,9 @@ fn put_filling(
 {
     match filling {
         Filling::One(stream) => Ok(out.append(stream, more)?),
-        Filling::Each(_) => Err(TemplateError::LoneList(span)),
         Filling::Of(value) => put_value(alloc, out, value, span, more),
+        Filling::Item(value) => put_value(alloc, out, value, span, more),
+        Filling::List(_) => Err(TemplateError::LoneList(span)),
         Filling::Tree(tree) => Ok(put_tree(alloc, out, tree, more)?),
         Filling::Ident(ident) => Ok(out.put(TokenTree::Ident(ident.clone()?), more)?),
         Filling::Literal(literal) => Ok(put_literal(alloc, out, literal.clone()?, more)?),
@@ -99,8 +101,7 @@ fn put_value(
         | Value::Trees(_)
         | Value::Idents(_)
         | Value::Literals(_)
-        | Value::Strings(_)
-        | Value::List(_) => Err(TemplateError::LoneList(span)),
+        | Value::Strings(_) => Err(TemplateError::LoneList(span)),
     }
 }
 

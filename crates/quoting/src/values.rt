@@ -9,7 +9,6 @@ use std::marker::Model;
 /// Alone and the rest.
 ///
 /// `Value::Number(Number::I8(-7))` is `-` and `7i8`, and `Value::String("a")` is `"a"`.
-#[cycle(value)]
 #[derive(Drop)]
 pub enum Value<'a> {
     /// No trees, as of an `Option` that is `None`.
@@ -48,8 +47,6 @@ pub enum Value<'a> {
     Literals(&'a [Literal]),
     /// A list of string literals.
     Strings(&'a [&'a str]),
-    /// A list of values, which may be lists for the repetitions inside.
-    List(Values<'a>),
 }
 
 /// A number of a type, whose literal has the name of the type as its suffix.
@@ -81,14 +78,25 @@ pub enum Number {
     Isize(isize),
 }
 
-/// A list of values. It is seen as what they stand for, in order.
-#[cycle(value)]
+// A value of a list.
+#[cycle(item)]
 #[derive(Drop)]
-pub struct Values<'a> {
-    pub(crate) list: Vec<Value<'a>>,
+pub(crate) enum Item {
+    // A value, which borrows nothing but what lasts for the whole program.
+    Value(Value<'static>),
+    // A list for the repetitions inside.
+    List(Values),
 }
 
-impl<'a> Model for Values<'a> {
+/// A list of values, which may be lists for the repetitions inside. It owns them. It is seen as what they stand for, in
+/// order.
+#[cycle(item)]
+#[derive(Drop)]
+pub struct Values {
+    pub(crate) list: Vec<Item>,
+}
+
+impl Model for Values {
     ghost use Rattle.quoting.specs.Items.{Items, coded_items};
 
     ghost Value = { Items };

@@ -6,23 +6,20 @@ use std::process::Abort;
 use std::test::Fail;
 
 // What the template prints with this value for `x`.
-fn printed<'a>(alloc: Global, template: &str, value: &'a Value<'a>) -> Result<String, Fail> {
-    let mut quote = Quote::new(alloc);
+fn printed(alloc: Global, template: &str, value: Value<'_>) -> Result<String, Fail> {
     let holes = [Hole::of("x", value)];
-    quote.parse(template, &mut SourceMap::new(alloc), &holes)?;
-    let stream = quote.into_stream();
-    Ok(format!(in alloc; "{stream}")?)
+    Ok(filled(alloc, template, &holes)?)
 }
 
-// The fault of the template with this value for `x`, the column where it is, and how many trees the quote has then.
-fn fault<'a>(
+// The fault of a template with this hole, the column where it is, and how many trees the quote has then.
+fn fault(
     alloc: Global,
     template: &str,
-    value: &'a Value<'a>,
+    hole: Hole<'_>,
 ) -> Result<Option<(TemplateError, Option<usize>, usize)>, Fail> {
     let mut quote = Quote::new(alloc);
     let mut map = SourceMap::new(alloc);
-    let holes = [Hole::of("x", value)];
+    let holes = [hole];
     let Err(fault) = quote.parse(template, &mut map, &holes) else {
         return Ok(None);
     };
@@ -33,15 +30,30 @@ fn fault<'a>(
     Ok(Some((fault, column, quote.into_stream().trees().len())))
 }
 
+/// Asserts the fault of a template with this hole, which is named `x`.
+fn check_fault(
+    rt: &(impl Abort + AllocGlobal),
+    hole: Hole<'_>,
+    want: &str,
+) -> Result<(), Fail> {
+    let Some((fault, column, count)) = fault(rt.alloc(), "a b #x", hole)? else {
+        assert!(rt; false, "a fault");
+        return Ok(());
+    };
+    assert_eq!(rt; (column, count), (Some(5), 0));
+    assert_eq!(rt; format!(in rt.alloc(); "{fault}")?.as_str(), want);
+    Ok(())
+}
+
 fn word(alloc: Global, text: &str) -> Result<Ident, Fail> {
     Ok(Ident::new(alloc, text, Span::call_site())?)
 }
 
 /// Asserts what the template prints with this value for `x`.
-fn check<'a>(
+fn check(
     rt: &(impl Abort + AllocGlobal),
     template: &str,
-    value: &'a Value<'a>,
+    value: Value<'_>,
     want: &str,
 ) -> Result<(), Fail> {
     let text = printed(rt.alloc(), template, value)?;
@@ -52,41 +64,41 @@ fn check<'a>(
 #[test]
 fn streams_and_trees_are_put_in(rt: HostRuntime) -> Result<(), Fail> {
     let stream = TokenStream::from_str("c + d", &mut SourceMap::new(rt.alloc()))?;
-    check(&rt, "(#x, #x)", &Value::Stream(&stream), "(c + d , c + d)")?;
+    check(&rt, "(#x, #x)", Value::Stream(&stream), "(c + d , c + d)")?;
     check(
         &rt,
         "(#x, #x)",
-        &Value::OwnedStream(stream),
+        Value::OwnedStream(stream),
         "(c + d , c + d)",
     )?;
     let tree = TokenTree::Literal(Literal::i8_suffixed(rt.alloc(), -4)?);
-    check(&rt, "(#x, #x)", &Value::Tree(&tree), "(- 4i8 , - 4i8)")?;
-    check(&rt, "(#x, #x)", &Value::OwnedTree(tree), "(- 4i8 , - 4i8)")
+    check(&rt, "(#x, #x)", Value::Tree(&tree), "(- 4i8 , - 4i8)")?;
+    check(&rt, "(#x, #x)", Value::OwnedTree(tree), "(- 4i8 , - 4i8)")
 }
 
 #[test]
 fn tokens_are_put_in(rt: HostRuntime) -> Result<(), Fail> {
     let ident = word(rt.alloc(), "a")?;
-    check(&rt, "(#x, #x)", &Value::Ident(&ident), "(a , a)")?;
+    check(&rt, "(#x, #x)", Value::Ident(&ident), "(a , a)")?;
     let literal = Literal::string(rt.alloc(), "b")?;
     check(
         &rt,
         "(#x, #x)",
-        &Value::Literal(&literal),
+        Value::Literal(&literal),
         "(\"b\" , \"b\")",
     )?;
     let negative = Literal::i8_unsuffixed(rt.alloc(), -3)?;
-    check(&rt, "(#x, #x)", &Value::Literal(&negative), "(- 3 , - 3)")
+    check(&rt, "(#x, #x)", Value::Literal(&negative), "(- 3 , - 3)")
 }
 
 #[test]
 fn texts_and_truth_values_are_put_in(rt: HostRuntime) -> Result<(), Fail> {
-    check(&rt, "(#x, #x)", &Value::Nothing, "(,)")?;
-    check(&rt, "(#x, #x)", &Value::Name("fn"), "(fn , fn)")?;
-    check(&rt, "#x", &Value::String("\"\n"), "\"\\\"\\n\"")?;
-    check(&rt, "#x", &Value::Character('\''), "'\\''")?;
-    check(&rt, "(#x, #x)", &Value::Boolean(true), "(true , true)")?;
-    check(&rt, "(#x, #x)", &Value::Boolean(false), "(false , false)")
+    check(&rt, "(#x, #x)", Value::Nothing, "(,)")?;
+    check(&rt, "(#x, #x)", Value::Name("fn"), "(fn , fn)")?;
+    check(&rt, "#x", Value::String("\"\n"), "\"\\\"\\n\"")?;
+    check(&rt, "#x", Value::Character('\''), "'\\''")?;
+    check(&rt, "(#x, #x)", Value::Boolean(true), "(true , true)")?;
+    check(&rt, "(#x, #x)", Value::Boolean(false), "(false , false)")
 }
 
 #[test]
@@ -112,7 +124,7 @@ fn numbers_have_their_suffix(rt: HostRuntime) -> Result<(), Fail> {
         (Number::Isize(-1), "- 1isize"),
     ];
     for &(number, want) in &rows {
-        let text = printed(rt.alloc(), "#x", &Value::Number(number))?;
+        let text = printed(rt.alloc(), "#x", Value::Number(number))?;
         assert_eq!(rt; text.as_str(), want);
     }
     Ok(())
@@ -123,28 +135,20 @@ fn a_value_that_is_no_token_is_an_error_at_the_name_of_its_hole(
     rt: HostRuntime,
 ) -> Result<(), Fail> {
     let alloc = rt.alloc();
+    let no_name = "no name of an identifier";
+    let lone = "a list outside of a repetition";
     let rows = [
-        Value::Name("1"),
-        Value::Name(""),
-        Value::Name("a b"),
-        Value::Name("r#a"),
-        Value::NotFinite,
-        Value::Streams(&[]),
-        Value::List(Values::new(alloc)),
+        (Value::Name("1"), no_name),
+        (Value::Name(""), no_name),
+        (Value::Name("a b"), no_name),
+        (Value::Name("r#a"), no_name),
+        (Value::NotFinite, "a float that is not finite"),
+        (Value::Streams(&[]), lone),
     ];
-    for value in &rows {
-        let Some((fault, column, count)) = fault(alloc, "a b #x", value)? else {
-            assert!(rt; false, "a fault");
-            return Ok(());
-        };
-        assert_eq!(rt; (column, count), (Some(5), 0));
-        match value {
-            Value::Name(_) => assert!(rt; matches!(fault, TemplateError::NotIdent(_))),
-            Value::NotFinite => assert!(rt; matches!(fault, TemplateError::NotFinite(_))),
-            _ => assert!(rt; matches!(fault, TemplateError::LoneList(_))),
-        }
+    for (value, want) in rows {
+        check_fault(&rt, Hole::of("x", value), want)?;
     }
-    Ok(())
+    check_fault(&rt, Hole::list("x", Values::new(alloc)), lone)
 }
 
 #[test]
@@ -166,23 +170,25 @@ fn lists_of_every_kind_are_repeated(rt: HostRuntime) -> Result<(), Fail> {
         (Value::Idents(&idents), "a , b"),
         (Value::Literals(&literals), "\"a\" , - 1"),
         (Value::Strings(&["a", "b"]), "\"a\" , \"b\""),
-        (Value::List(list), "1u8 ,"),
     ];
-    for (value, want) in &rows {
+    for (value, want) in rows {
         let text = printed(alloc, "#(#x),*", value)?;
-        assert_eq!(rt; text.as_str(), *want);
+        assert_eq!(rt; text.as_str(), want);
     }
+    let holes = [Hole::list("x", list)];
+    let text = filled(alloc, "#(#x),*", &holes)?;
+    assert_eq!(rt; text.as_str(), "1u8 ,");
     Ok(())
 }
 
 // A list of two lists, of two names and of one.
-fn rows<'a>(alloc: Global) -> Result<Value<'a>, Fail> {
+fn rows(alloc: Global) -> Result<Values, Fail> {
     let mut one = Values::new(alloc);
     one.push(Value::Name("c"))?;
     let mut rows = Values::new(alloc);
     rows.push(Value::Strings(&["a", "b"]))?;
-    rows.push(Value::List(one))?;
-    Ok(Value::List(rows))
+    rows.push_list(one)?;
+    Ok(rows)
 }
 
 // What the template prints with these holes.
@@ -195,13 +201,10 @@ fn filled(alloc: Global, template: &str, holes: &[Hole<'_>]) -> Result<String, T
 
 #[test]
 fn repetitions_are_nested(rt: HostRuntime) -> Result<(), Fail> {
-    let values = rows(rt.alloc())?;
-    let names = Value::Strings(&["n", "m"]);
-    let all = Value::Name("z");
     let holes = [
-        Hole::of("value", &values),
-        Hole::of("name", &names),
-        Hole::of("all", &all),
+        Hole::list("value", rows(rt.alloc())?),
+        Hole::of("name", Value::Strings(&["n", "m"])),
+        Hole::of("all", Value::Name("z")),
     ];
     let rows = [
         (
