@@ -178,21 +178,30 @@ fn the_first_entry_leaves_the_rest(rt: HostRuntime) -> Result<(), Fail> {
     Ok(())
 }
 
-// Checks what `check_entries` answers for each text: nothing, or the problem and how many trees stand before it.
+// Checks what `check_entries` answers for a text: nothing, or the problem and how many trees stand before it.
+fn check_list(
+    rt: &(impl Abort + AllocGlobal),
+    text: &str,
+    wanted: &Option<(EntryProblem, usize)>,
+) -> Result<(), Fail> {
+    let stream = TokenStream::from_str(text, &mut SourceMap::new(rt.alloc()))?;
+    match check_entries(stream.trees(), &["skip", "rename", "bound", "type"]) {
+        Ok(()) => assert!(rt; wanted.is_none(), "{text:?}"),
+        Err(error) => {
+            assert_eq!(rt; Some((error.problem, error.at)), *wanted, "{text:?}");
+            assert_eq!(rt; error.known.len(), 4, "{text:?}");
+        }
+    }
+    Ok(())
+}
+
+// Checks so for each text.
 fn check_names(
     rt: &(impl Abort + AllocGlobal),
     rows: &[(&str, Option<(EntryProblem, usize)>)],
 ) -> Result<(), Fail> {
-    let known = ["skip", "rename", "bound", "type"];
     for (text, wanted) in rows {
-        let stream = TokenStream::from_str(text, &mut SourceMap::new(rt.alloc()))?;
-        match check_entries(stream.trees(), &known) {
-            Ok(()) => assert!(rt; wanted.is_none(), "{text:?}"),
-            Err(error) => {
-                assert_eq!(rt; Some((error.problem, error.at)), *wanted, "{text:?}");
-                assert_eq!(rt; error.known.len(), 4, "{text:?}");
-            }
-        }
+        check_list(rt, text, wanted)?;
     }
     Ok(())
 }
