@@ -151,7 +151,6 @@ pub struct Punct {
 /// assert_eq!(Literal::byte_string(b"\0a").to_string(), r#"b"\0a""#);
 /// assert_eq!(Literal::c_string(c"a").to_string(), r#"c"a""#);
 /// ```
-#[derive(Clone)]
 pub struct Literal {
     repr: Repr<proc_macro::Literal, pm_token::Literal>,
 }

@@ -15,6 +15,25 @@ use std::str::FromStr;
 
 token!(Literal, Own);
 
+impl Clone for Literal {
+    #[inline(always)]
+    fn clone(&self) -> Literal {
+        match &self.repr {
+            Repr::Own(literal) => Literal::own(literal.clone()),
+            Repr::Compiler(literal) => inside(literal.clone()),
+        }
+    }
+}
+
+/// A literal of the compiler's.
+// If it were inlined, both kinds of literals would meet in registers piece by piece, and a copy would take twice the
+// time.
+#[cold]
+#[inline(never)]
+fn inside(literal: proc_macro::Literal) -> Literal {
+    Literal::compiler(literal)
+}
+
 macro_rules! literals {
     ($($(#[$doc:meta])* $name:ident($value:ident: $type:ty) => $given:expr;)*) => {$(
         $(#[$doc])*
@@ -58,7 +77,7 @@ macro_rules! floats {
         pub fn $suffixed(f: $type) -> Literal {
             assert!(f.is_finite());
             if compiler::inside() {
-                return Literal::compiler(proc_macro::Literal::$suffixed(f));
+                return inside(proc_macro::Literal::$suffixed(f));
             }
             Literal::made(&format!(concat!("{}", stringify!($type)), f))
         }
@@ -71,7 +90,7 @@ macro_rules! floats {
         pub fn $unsuffixed(f: $type) -> Literal {
             assert!(f.is_finite());
             if compiler::inside() {
-                return Literal::compiler(proc_macro::Literal::$unsuffixed(f));
+                return inside(proc_macro::Literal::$unsuffixed(f));
             }
             // A few digits that read as the number are the shortest that do, which is what Rust prints.
             let tenths = (f * 10.0) as u32;

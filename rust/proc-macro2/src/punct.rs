@@ -20,7 +20,9 @@ impl Punct {
             refused(ch);
         }
         if compiler::inside() {
-            return Punct::compiler(inside(ch, spacing));
+            let is_joint = spacing == Spacing::Joint;
+            let spacing = if is_joint { proc_macro::Spacing::Joint } else { proc_macro::Spacing::Alone };
+            return Punct::compiler(proc_macro::Punct::new(ch, spacing));
         }
         Punct::own(Own::new(ch, spacing))
     }
@@ -47,14 +49,6 @@ impl Punct {
 #[track_caller]
 fn refused(ch: char) -> ! {
     panic!("unsupported proc macro punctuation character {ch:?}");
-}
-
-/// The mark of the compiler's.
-#[cold]
-fn inside(ch: char, spacing: Spacing) -> proc_macro::Punct {
-    let is_joint = spacing == Spacing::Joint;
-    let spacing = if is_joint { proc_macro::Spacing::Joint } else { proc_macro::Spacing::Alone };
-    proc_macro::Punct::new(ch, spacing)
 }
 
 impl Display for Punct {

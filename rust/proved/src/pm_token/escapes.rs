@@ -156,6 +156,7 @@ impl TextBuilder {
 
     /// Writes the front of the text that stands for itself between these quotes, as far as it is ASCII, and answers
     /// what follows it.
+    #[cfg_attr(not(debug_assertions), inline(always))]
     fn push_plain<'a>(&mut self, quote: char, text: &'a str) -> Result<&'a str, AllocError>
     {
         let size = count_plain(text.as_bytes(), quote);
@@ -187,9 +188,11 @@ impl TextBuilder {
 }
 
 /// How many bytes at the front are ASCII characters that stand for themselves between these quotes.
+///
+/// Words of 8 bytes pay from two words on.
 fn count_plain(bytes: &[u8], quote: char) -> usize
 {
-    if quote == '"' {
+    if quote == '"' && bytes.len() >= 16 {
         count_in_string(bytes)
     } else {
         count_by_bytes(bytes, quote)
