@@ -133,6 +133,8 @@
 //! - <a id="declarations.Field.IsFieldAt"></a>**IsFieldAt**: the trees begin with a field of the form, and
 //!   these are its parts
 //! - <a id="declarations.File.IsFile"></a>**IsFile**: the trees are inner attributes, and then items
+//! - <a id="declarations.Function.IsFunction"></a>**IsFunction**: the trees are a function, and these are its
+//!   parts
 //! - <a id="declarations.Forms.IsItem"></a>**IsItem**: a struct, an enum or a union: attributes, a visibility,
 //!   its keyword and name, generics, where clause and body
 //! - <a id="declarations.Reading.IsOnly"></a>**IsOnly**: no other part and rest are read by the form from these
@@ -203,6 +205,8 @@
 //!   type
 //! - <a id="declarations.rules.Parts.fields"></a>**fields**: fields
 //! - <a id="declarations.rules.Rules.follows"></a>**follows**: the classes of signs that may follow each rule
+//! - <a id="declarations.rules.Functions.function_item"></a>**function_item**: a function: attributes, a
+//!   visibility, qualifiers, `fn`, a name, generic parameters, its parameters and the rest
 //! - <a id="declarations.rules.Parameters.function_parameter"></a>**function_parameter**: a parameter of a
 //!   function: attributes, and a receiver, a pattern and its type, or `...`
 //! - <a id="declarations.rules.Parts.generics"></a>**generics**: generic parameters in angle brackets, or
