@@ -4,10 +4,11 @@ use Rattle.proc_macro2.specs.Extent.{Extent}
 use Rattle.proc_macro2.specs.Forest.{Forest, nil, leaf, group}
 use Rattle.proc_macro2.specs.Token.{Name, Mark, Literal}
 use Rattle.proc_macro2.specs.declared.Delimiter.TheVariants.{Parenthesis, Brace, Bracket}
-use Rattle.quoting.specs.Filled.{at_top, filled, filled_by}
-use Rattle.quoting.specs.Holes.{One, Each, Named}
-use Rattle.quoting.specs.declared.errors.TemplateError.TheVariants.{NoHole, LoneList, NoList, UnequalLists, Nested}
-use Rattle.quoting.specs.declared.errors.TemplateError.TheVariants.{TooDeep}
+use Rattle.quoting.specs.Filled.{comes, filled, filled_by}
+use Rattle.quoting.specs.Holes.{Named}
+use Rattle.quoting.specs.Items.{One, Unfit, Each, end, trees, misfit, list, no_name, no_number}
+use Rattle.quoting.specs.declared.errors.TemplateError.TheVariants.{NoHole, LoneList, NoList, UnequalLists}
+use Rattle.quoting.specs.declared.errors.TemplateError.TheVariants.{NotIdent, NotFinite, TooDeep}
 
 -- the span of one character
 abbrev at : ℕ → Extent
@@ -34,13 +35,18 @@ a = name (codes "a") 93 nil
 abbrev b : Forest
 b = name (codes "b") 94 nil
 
--- `#x` is `+ 7`, `#0` is `a`; `#xs` is `a` and then `b`, `#ys` a list of one
+-- `#x` is `+ 7`, `#0` is `a`; `#xs` is `a` and then `b`, `#ys` a list of one; `#rows` is `a b` and then `a`, lists
+-- themselves; `#bad` is no name, and `#nan` is no number and then `a`
 abbrev holes : List Named
 holes =
     record { name = codes "x"; filling = One sum }
     ∷ record { name = codes "0"; filling = One a }
-    ∷ record { name = codes "xs"; filling = Each (a ∷ b ∷ []) } ∷ record { name = codes "ys"; filling = Each (b ∷ []) }
-    ∷ record { name = codes "none"; filling = Each [] } ∷ []
+    ∷ record { name = codes "xs"; filling = Each (trees a (trees b end)) }
+    ∷ record { name = codes "ys"; filling = Each (trees b end) }
+    ∷ record { name = codes "none"; filling = Each end }
+    ∷ record { name = codes "rows"; filling = Each (list (trees a (trees b end)) (list (trees a end) end)) }
+    ∷ record { name = codes "bad"; filling = Unfit no_name }
+    ∷ record { name = codes "nan"; filling = Each (misfit no_number (trees a end)) } ∷ []
 
 -- `#x`, and other names
 abbrev hole : List ℕ → ℕ → Forest → Forest
@@ -148,16 +154,47 @@ unequal :
     ≡ Err (UnequalLists (at 5))
 unequal = refl
 
--- `#( #( #xs )* #y )*`
-nested :
+-- `#( #( #xs )* )*`: the outer repetition uses the list up
+used_up :
+    filled holes
+    (hash 0 (parens 1 12 (hash 2 (parens 3 7 (hole (codes "xs") 4 nil) (mark 42 8 nil))) (mark 42 13 nil)))
+    ≡ Err (NoList (record { lo = 3; hi = 7 }))
+used_up = refl
+
+-- `#( #xs #rows )*`: what a list of lists gives is used by no repetition inside
+lone_row :
+    filled holes (hash 0 (parens 1 7 (hole (codes "xs") 2 (hole (codes "rows") 4 nil)) (mark 42 8 nil)))
+    ≡ Err (LoneList (at 5))
+lone_row = refl
+
+-- `#( #( #xs )* #y )*`: the names come first
+no_hole_before_turns :
     filled holes
     (hash 0 (parens 1 12 (hash 2 (parens 3 7 (hole (codes "xs") 4 nil) (mark 42 8 (hole (codes "y") 9 nil))))
     (mark 42 13 nil)))
-    ≡ Err (Nested (record { lo = 3; hi = 7 }))
+    ≡ Err (NoHole (at 10))
+no_hole_before_turns = refl
+
+-- `#bad` and `#( #nan )*`
+no_ident : filled holes (hole (codes "bad") 0 nil) ≡ Err (NotIdent (at 1))
+no_ident = refl
+
+not_finite :
+    filled holes (hash 0 (parens 1 5 (hole (codes "nan") 2 nil) (mark 42 6 nil))) ≡ Err (NotFinite (at 3))
+not_finite = refl
+
+-- `#( #xs [ #( #rows ),* ] );*`: a repetition inside a repetition, with a list of its own in each turn
+nested :
+    filled holes
+    (hash 0 (parens 1 20 (hole (codes "xs") 2 (group Bracket 4 15
+    (hash 5 (parens 6 10 (hole (codes "rows") 7 nil) (mark 44 11 (mark 42 12 nil)))) nil))
+    (mark 59 20 (mark 42 21 nil))))
+    ≡ Ok (name (codes "a") 93 (group Bracket 4 15 (name (codes "a") 93 (mark 44 11 b))
+    (mark 59 20 (name (codes "b") 94 (group Bracket 4 15 a nil)))))
 nested = refl
 
 -- `((x))` where groups may nest one deep
-too_deep : filled_by (at_top holes) 1 0 (parens 0 5 (parens 1 4 a nil) nil) ≡ Err (TooDeep (record { lo = 1; hi = 4 }))
+too_deep : filled_by (comes 1 holes) 1 0 (parens 0 5 (parens 1 4 a nil) nil) ≡ Err (TooDeep (record { lo = 1; hi = 4 }))
 too_deep = refl
 
 -- a Joint mark is Alone before a hole, and stays Joint before another `#`: `&#0 &#[a]`

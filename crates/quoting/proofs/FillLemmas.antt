@@ -11,7 +11,7 @@ use Rattle.proc_macro2.specs.declared.Group.{Group as Grouped}
 use Rattle.proc_macro2.specs.declared.TokenTree.{TokenTree}
 use Rattle.proc_macro2.specs.declared.TokenTree.TheVariants.{Group, Ident, Punct, Literal}
 use Rattle.quoting.specs.Filled.{followed, enclosed_in, has_meaning, replaced, set_apart, filled_by}
-use Rattle.quoting.specs.Given.{UnlessMemory, apart, apart_before, gives, inside_at, interpolation_of, named_all}
+use Rattle.quoting.specs.Given.{UnlessMemory, apart, apart_before, gives, in_turns, inside_at, interpolation_of}
 use Rattle.quoting.specs.Given.{span_of}
 use Rattle.quoting.specs.Given.{text_of}
 use Rattle.quoting.specs.Holes.{Outcome, filling_of, put_in}
@@ -19,8 +19,8 @@ use Rattle.quoting.specs.Interpolation.{Interpolation, Names, taken}
 use Rattle.quoting.specs.declared.errors.TemplateError.{TemplateError}
 use Rattle.quoting.specs.declared.holes.Hole.{Hole}
 use Rattle.quoting.specs.declared.holes.HoleName.{HoleName}
-use Rattle.quoting.specs.declared.errors.TemplateError.TheVariants.{NoHole, LoneList, NoList, UnequalLists, Nested}
-use Rattle.quoting.specs.declared.errors.TemplateError.TheVariants.{TooDeep, Parse, Memory}
+use Rattle.quoting.specs.declared.errors.TemplateError.TheVariants.{NoHole, LoneList, NoList, UnequalLists}
+use Rattle.quoting.specs.declared.errors.TemplateError.TheVariants.{NotIdent, NotFinite, TooDeep, Parse, Memory}
 use Rattle.quoting.proofs.PartLemmas.{joined_assoc, joined_nil}
 
 -- what comes of what has a meaning
@@ -32,7 +32,8 @@ unless_weaker (NoHole span) P Q f h = f h
 unless_weaker (LoneList span) P Q f h = f h
 unless_weaker (NoList span) P Q f h = f h
 unless_weaker (UnequalLists span) P Q f h = f h
-unless_weaker (Nested span) P Q f h = f h
+unless_weaker (NotIdent span) P Q f h = f h
+unless_weaker (NotFinite span) P Q f h = f h
 unless_weaker (TooDeep span) P Q f h = f h
 unless_weaker (Parse error) P Q f h = absurd h
 unless_weaker (Memory error) P Q f h = tt
@@ -225,8 +226,7 @@ found_onto given depth old all out new t found left after rest was whole is drop
     found_step given depth old all out new p.0 t found left after rest was whole is drops p.1 p.2
 
 -- what comes in the place of a name
-pub gives_name : (holes : List Hole) (turn : Option ℕ) (depth : ℕ) (name : HoleName)
-    → gives holes turn depth (Names (text_of name) (span_of name))
-    ≡ put_in turn (span_of name) (filling_of (named_all holes) (text_of name))
-gives_name holes None depth name = refl
-gives_name holes (Some turn) depth name = refl
+pub gives_name : (holes : List Hole) (turns : List ℕ) (depth : ℕ) (name : HoleName)
+    → gives holes turns depth (Names (text_of name) (span_of name))
+    ≡ put_in (span_of name) (filling_of (in_turns holes turns) (text_of name))
+gives_name holes turns depth name = refl

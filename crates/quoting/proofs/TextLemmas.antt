@@ -7,8 +7,8 @@ use Rattle.quoting.specs.Given.{UnlessMemory}
 use Rattle.quoting.specs.Holes.{Named}
 use Rattle.quoting.specs.TextFault.{IsTextFault}
 use Rattle.quoting.specs.declared.errors.TemplateError.{TemplateError}
-use Rattle.quoting.specs.declared.errors.TemplateError.TheVariants.{NoHole, LoneList, NoList, UnequalLists, Nested}
-use Rattle.quoting.specs.declared.errors.TemplateError.TheVariants.{TooDeep, Parse, Memory}
+use Rattle.quoting.specs.declared.errors.TemplateError.TheVariants.{NoHole, LoneList, NoList, UnequalLists}
+use Rattle.quoting.specs.declared.errors.TemplateError.TheVariants.{NotIdent, NotFinite, TooDeep, Parse, Memory}
 
 -- the fault of the template that a text parses to is that of the text
 fault_of_text : (first : ℕ) (text : List ℕ) (holes : List Named) (template : Forest) (fault : TemplateError)
@@ -18,7 +18,8 @@ fault_of_text first text holes template (NoHole span) parses is = (template, par
 fault_of_text first text holes template (LoneList span) parses is = (template, parses, is)
 fault_of_text first text holes template (NoList span) parses is = (template, parses, is)
 fault_of_text first text holes template (UnequalLists span) parses is = (template, parses, is)
-fault_of_text first text holes template (Nested span) parses is = (template, parses, is)
+fault_of_text first text holes template (NotIdent span) parses is = (template, parses, is)
+fault_of_text first text holes template (NotFinite span) parses is = (template, parses, is)
 fault_of_text first text holes template (TooDeep span) parses is = (template, parses, is)
 fault_of_text first text holes template (Parse error) parses is = absurd is
 fault_of_text first text holes template (Memory error) parses is = (template, parses)

@@ -4,10 +4,10 @@ use Rattle.proc_macro2.specs.Extent.{Extent}
 use Rattle.proc_macro2.specs.Forest.{Forest, nil, leaf, group, joined}
 use Rattle.proc_macro2.specs.Token.{Token, Name, Mark, Literal}
 use Rattle.proc_macro2.specs.declared.Delimiter.{Delimiter}
-use Rattle.quoting.specs.Holes.{Named, Outcome, filling_of, put_in}
+use Rattle.quoting.specs.Holes.{Named, Outcome, all_in_turn, filling_of, put_in}
 use Rattle.quoting.specs.Interpolation.{Interpolation, Names, Repeats, interpolation, taken}
 use Rattle.quoting.specs.Turns.{Check, checked, turns_of}
-use Rattle.quoting.specs.declared.errors.TemplateError.TheVariants.{NoList, Nested, TooDeep}
+use Rattle.quoting.specs.declared.errors.TemplateError.TheVariants.{NoList, TooDeep}
 
 -- one outcome and then another: a fault of the first comes first
 abbrev pub followed : Outcome → Outcome → Outcome
@@ -55,11 +55,6 @@ filled_by gives zero zero (group d lo hi inside rest) = Err (TooDeep (record { l
 filled_by gives (suc depth) zero (group d lo hi inside rest) =
     followed (enclosed_in d lo hi (filled_by gives depth 0 inside)) (filled_by gives (suc depth) 0 rest)
 
--- in a turn of a repetition
-abbrev pub in_turn : List Named → ℕ → ℕ → Interpolation → Outcome
-in_turn holes turn depth (Names name span) = put_in (Some turn) span (filling_of holes name)
-in_turn holes turn depth (Repeats body span between) = Err (Nested span)
-
 -- the separator before a turn: none before the first
 abbrev pub before_turn : Forest → ℕ → Forest
 before_turn between zero = nil
@@ -71,34 +66,34 @@ turns_from gives between turn zero = Ok nil
 turns_from gives between turn (suc more) =
     followed (followed (Ok (before_turn between turn)) (gives turn)) (turns_from gives between (suc turn) more)
 
--- a repetition of so many turns, once its body is checked
-abbrev pub unless_fault : List Named → ℕ → Forest → Forest → ℕ → Check → Outcome
-unless_fault holes depth body between turns (Err fault) = Err fault
-unless_fault holes depth body between turns (Ok done) =
-    turns_from (λ turn. filled_by (in_turn holes turn) depth 0 body) between 0 turns
+-- a repetition of so many turns, once the names inside are checked
+abbrev pub unless_fault : (ℕ → Outcome) → Forest → ℕ → Check → Outcome
+unless_fault gives between turns (Err fault) = Err fault
+unless_fault gives between turns (Ok done) = turns_from gives between 0 turns
 
 -- a repetition that has turns, or else names no list. Its parentheses come before what is wrong inside
-abbrev pub repeated_so : List Named → ℕ → Forest → Extent → Forest → Option ℕ → Outcome
-repeated_so holes depth body span between None = Err (NoList span)
-repeated_so holes depth body span between (Some turns) =
-    unless_fault holes depth body between turns (checked holes depth turns 0 body)
+abbrev pub repeated : List Named → (ℕ → Outcome) → ℕ → Forest → Extent → Forest → Option ℕ → Outcome
+repeated holes gives depth body span between None = Err (NoList span)
+repeated holes gives depth body span between (Some turns) =
+    unless_fault gives between turns (checked holes depth turns body)
 
-abbrev pub repeated : List Named → ℕ → Forest → Extent → Forest → Outcome
-repeated holes zero body span between = Err (TooDeep span)
-repeated holes (suc depth) body span between =
-    repeated_so holes depth body span between (turns_of holes body)
+-- what comes in the place of what has a meaning, where so many repetitions may nest, and groups so deep. In a turn of a
+-- repetition every list is its value for the turn, for the repetitions inside too: so it is used up by the outermost
+-- repetition in which it stands
+abbrev pub comes : ℕ → List Named → ℕ → Interpolation → Outcome
+comes more holes depth (Names name span) = put_in span (filling_of holes name)
+comes zero holes depth (Repeats body span between) = Err (TooDeep span)
+comes (suc more) holes zero (Repeats body span between) = Err (TooDeep span)
+comes (suc more) holes (suc depth) (Repeats body span between) =
+    repeated holes (λ turn. filled_by (comes more (all_in_turn turn holes)) depth 0 body) depth body span between
+    (turns_of holes body)
 
--- outside of repetitions
-abbrev pub at_top : List Named → ℕ → Interpolation → Outcome
-at_top holes depth (Names name span) = put_in None span (filling_of holes name)
-at_top holes depth (Repeats body span between) = repeated holes depth body span between
-
--- how deep the groups of a template may nest
+-- how deep the groups of a template may nest, and so its repetitions
 abbrev pub depth_limit : ℕ
 depth_limit = 64
 
 -- `filled`: the template with its holes filled, or its first fault in reading order, a group coming before its
 -- contents. So a repetition that names no list is the fault, whatever is wrong inside of it. Of the faults at one pair
--- of parentheses `Nested` comes first, then `TooDeep`, then `NoList`
+-- of parentheses `TooDeep` comes before `NoList`. In a repetition the names come first, and then its turns in order
 abbrev pub filled : List Named → Forest → Outcome
-filled holes template = filled_by (at_top holes) depth_limit 0 template
+filled holes template = filled_by (comes depth_limit holes) depth_limit 0 template

@@ -1,11 +1,13 @@
 -- What the code's values are in the words of templates.
 use Rattle.std.specs.Prelude.{ℕ, zero, suc, Bool, true, false, ◌≡◌, ◌==◌, List, [], ◌∷◌, Option, Some, None, Ok, Err}
-use Rattle.std.specs.Prelude.{not}
+use Rattle.std.specs.Prelude.{not, ◌-◌, length}
 use Rattle.std.specs.Prelude.{if◌then◌else◌}
 use Rattle.std.specs.Borrow.{Bor}
 use Rattle.std.specs.Char.{is_ascii_digit}
 use Rattle.std.specs.List.{list_all}
 use Rattle.std.specs.Str.{chars}
+use Rattle.proc_macro2.specs.Escaped.{string_text}
+use Rattle.proc_macro2.specs.Building.{split}
 use Rattle.proc_macro2.specs.Character.{hash_sign}
 use Rattle.proc_macro2.specs.Extent.{Extent}
 use Rattle.proc_macro2.specs.Forest.{Forest, nil, leaf, group}
@@ -13,18 +15,23 @@ use Rattle.proc_macro2.specs.Leaf.{mark_token, name_token, text_token}
 use Rattle.proc_macro2.specs.Leaf as leaves
 use Rattle.proc_macro2.specs.Token as tokens
 use Rattle.proc_macro2.specs.Token.{token_text}
+use Rattle.proc_macro2.specs.Trees.{alone}
 use Rattle.proc_macro2.specs.declared.Group.{Group as Grouped}
 use Rattle.proc_macro2.specs.declared.TokenTree.{TokenTree}
 use Rattle.proc_macro2.specs.declared.TokenTree.TheVariants.{Group, Ident, Punct, Literal}
 use Rattle.proc_macro2.specs.declared.Spacing.TheVariants.{Alone}
-use Rattle.quoting.specs.Filled.{at_top, has_meaning, in_turn, filled_by}
-use Rattle.quoting.specs.Holes.{Filling, One, Each, Named, Outcome}
+use Rattle.quoting.specs.Filled.{comes, depth_limit, has_meaning, filled_by}
+use Rattle.quoting.specs.Holes.{Named, Outcome, all_in_turn}
+use Rattle.quoting.specs.Items.{Filling, One, Each, each_of}
 use Rattle.quoting.specs.Interpolation.{Interpolation, Names, Repeats, after_hash, interpolation}
 use Rattle.quoting.specs.declared.errors.TemplateError.{TemplateError}
-use Rattle.quoting.specs.declared.errors.TemplateError.TheVariants.{NoHole, LoneList, NoList, UnequalLists, Nested}
-use Rattle.quoting.specs.declared.errors.TemplateError.TheVariants.{TooDeep, Parse, Memory}
+use Rattle.quoting.specs.declared.errors.TemplateError.TheVariants.{NoHole, LoneList, NoList, UnequalLists}
+use Rattle.quoting.specs.declared.errors.TemplateError.TheVariants.{NotIdent, NotFinite, TooDeep, Parse, Memory}
 use Rattle.quoting.specs.declared.holes.Filling.{Filling as Filler}
-use Rattle.quoting.specs.declared.holes.Filling.TheVariants.{One as OneStream, Each as EachStream}
+use Rattle.quoting.specs.declared.holes.Filling.TheVariants.{One as OneStream, Each as EachStream, Of as OfValue}
+use Rattle.quoting.specs.declared.holes.Filling.TheVariants.{Tree as OfTree, Ident as OfIdent, Literal as OfLiteral}
+use Rattle.quoting.specs.declared.holes.Filling.TheVariants.{Text as OfText}
+use Rattle.quoting.specs.Values.{plain_literal, value_of}
 use Rattle.quoting.specs.declared.holes.Hole.{Hole}
 use Rattle.quoting.specs.declared.holes.HoleName.{HoleName}
 use Rattle.quoting.specs.declared.holes.HoleName.TheVariants.{Word, Digits}
@@ -36,7 +43,12 @@ use Rattle.quoting.specs.declared.interpolation.FoundInterpolation.TheVariants.{
 -- what a hole stands for
 abbrev pub filling_by : Filler → Filling
 filling_by (OneStream stream) = One stream.now
-filling_by (EachStream streams) = Each streams.now
+filling_by (EachStream streams) = Each (each_of One streams.now)
+filling_by (OfValue value) = value_of value.now
+filling_by (OfTree tree) = One (split tree.now)
+filling_by (OfIdent ident) = One (alone (Ident ident.now))
+filling_by (OfLiteral literal) = One (split (Literal literal.now))
+filling_by (OfText text) = One (plain_literal (string_text (chars text.now)))
 
 -- what was looked up
 abbrev pub looked_up : Option Filler → Option Filling
@@ -51,6 +63,14 @@ named hole = record { name = chars hole.name.now; filling = filling_by hole.fill
 abbrev pub named_all : List Hole → List Named
 named_all [] = []
 named_all (hole ∷ holes) = named hole ∷ named_all holes
+
+-- the holes in these turns of repetitions, the outermost first
+abbrev pub in_all : List ℕ → List Named → List Named
+in_all [] holes = holes
+in_all (turn ∷ turns) holes = in_all turns (all_in_turn turn holes)
+
+abbrev pub in_turns : List Hole → List ℕ → List Named
+in_turns holes turns = in_all turns (named_all holes)
 
 -- the text of a name
 abbrev pub text_of : HoleName → List ℕ
@@ -133,10 +153,9 @@ is_fixed (Ident i) = true
 is_fixed (Punct p) = not (p.mark == hash_sign)
 is_fixed (Literal l) = true
 
--- what comes in the place of what has a meaning, in a turn or outside of repetitions
-abbrev pub gives : List Hole → Option ℕ → ℕ → Interpolation → Outcome
-gives holes None = at_top (named_all holes)
-gives holes (Some turn) = in_turn (named_all holes) turn
+-- what comes in the place of what has a meaning, in these turns
+abbrev pub gives : List Hole → List ℕ → ℕ → Interpolation → Outcome
+gives holes turns = comes (depth_limit - length turns) (in_turns holes turns)
 
 -- what comes out of the inside of a group
 abbrev pub inside_at : (ℕ → Interpolation → Outcome) → ℕ → Grouped → Outcome
@@ -164,7 +183,8 @@ UnlessMemory (NoHole span) holds = holds
 UnlessMemory (LoneList span) holds = holds
 UnlessMemory (NoList span) holds = holds
 UnlessMemory (UnequalLists span) holds = holds
-UnlessMemory (Nested span) holds = holds
+UnlessMemory (NotIdent span) holds = holds
+UnlessMemory (NotFinite span) holds = holds
 UnlessMemory (TooDeep span) holds = holds
 UnlessMemory (Parse error) holds = ⊥
 UnlessMemory (Memory error) holds = Unit {0}

@@ -5,6 +5,9 @@ pub mod Choice
 pub mod Part
 pub mod Put
 pub mod Laws
+pub mod Items
+pub mod Values
+pub mod InnerHeight
 pub mod Holes
 pub mod Interpolation
 pub mod Turns

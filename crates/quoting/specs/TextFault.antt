@@ -7,8 +7,8 @@ use Rattle.proc_macro2.specs.declared.ParseError.TheVariants.{Lex, MapFull, Memo
 use Rattle.quoting.specs.Filled.{filled}
 use Rattle.quoting.specs.Holes.{Named}
 use Rattle.quoting.specs.declared.errors.TemplateError.{TemplateError}
-use Rattle.quoting.specs.declared.errors.TemplateError.TheVariants.{NoHole, LoneList, NoList, UnequalLists, Nested}
-use Rattle.quoting.specs.declared.errors.TemplateError.TheVariants.{TooDeep, Parse, Memory}
+use Rattle.quoting.specs.declared.errors.TemplateError.TheVariants.{NoHole, LoneList, NoList, UnequalLists}
+use Rattle.quoting.specs.declared.errors.TemplateError.TheVariants.{NotIdent, NotFinite, TooDeep, Parse, Memory}
 
 -- the text parses to a template that has this fault
 abbrev pub IsTemplateFault : ℕ → List ℕ → List Named → TemplateError → Type 0
@@ -22,7 +22,8 @@ IsTextFault first text holes (NoHole span) = IsTemplateFault first text holes (N
 IsTextFault first text holes (LoneList span) = IsTemplateFault first text holes (LoneList span)
 IsTextFault first text holes (NoList span) = IsTemplateFault first text holes (NoList span)
 IsTextFault first text holes (UnequalLists span) = IsTemplateFault first text holes (UnequalLists span)
-IsTextFault first text holes (Nested span) = IsTemplateFault first text holes (Nested span)
+IsTextFault first text holes (NotIdent span) = IsTemplateFault first text holes (NotIdent span)
+IsTextFault first text holes (NotFinite span) = IsTemplateFault first text holes (NotFinite span)
 IsTextFault first text holes (TooDeep span) = IsTemplateFault first text holes (TooDeep span)
 IsTextFault first text holes (Parse (Lex fault)) = (fault.lo ≡ fault.hi) × FaultAt first text fault.lo
 IsTextFault first text holes (Parse MapFull) = Unit {0}
@@ -37,7 +38,8 @@ LeavesMap old text new (Err (NoHole span)) = new ≡ with_file old text
 LeavesMap old text new (Err (LoneList span)) = new ≡ with_file old text
 LeavesMap old text new (Err (NoList span)) = new ≡ with_file old text
 LeavesMap old text new (Err (UnequalLists span)) = new ≡ with_file old text
-LeavesMap old text new (Err (Nested span)) = new ≡ with_file old text
+LeavesMap old text new (Err (NotIdent span)) = new ≡ with_file old text
+LeavesMap old text new (Err (NotFinite span)) = new ≡ with_file old text
 LeavesMap old text new (Err (TooDeep span)) = new ≡ with_file old text
 LeavesMap old text new (Err (Parse (Lex fault))) = new ≡ with_file old text
 LeavesMap old text new (Err (Parse MapFull)) = new ≡ old

@@ -1,19 +1,14 @@
 -- How many turns a repetition has, and what is wrong inside of it.
-use Rattle.std.specs.Prelude.{ℕ, zero, suc, ◌==◌, List, Option, Some, None, Result, Ok, Err, if◌then◌else◌, length}
+use Rattle.std.specs.Prelude.{ℕ, zero, suc, ◌==◌, List, Option, Some, None, Result, Ok, Err, if◌then◌else◌}
 use Rattle.proc_macro2.specs.Extent.{Extent}
 use Rattle.proc_macro2.specs.Forest.{Forest, nil, leaf, group}
-use Rattle.quoting.specs.Holes.{Filling, One, Each, Named, filling_of}
-use Rattle.quoting.specs.Interpolation.{Interpolation, Names, Repeats, interpolation, taken}
+use Rattle.quoting.specs.Items.{Filling}
+use Rattle.quoting.specs.Holes.{Named, filling_of, list_length}
+use Rattle.quoting.specs.Interpolation.{Interpolation, Names, Repeats, interpolation}
 use Rattle.quoting.specs.declared.errors.TemplateError.{TemplateError}
-use Rattle.quoting.specs.declared.errors.TemplateError.TheVariants.{NoHole, UnequalLists, Nested, TooDeep}
+use Rattle.quoting.specs.declared.errors.TemplateError.TheVariants.{NoHole, UnequalLists, TooDeep}
 
 -- ---- how many turns
-
--- the length of a list that a name stands for
-abbrev pub list_length : Option Filling → Option ℕ
-list_length None = None
-list_length (Some (One stream)) = None
-list_length (Some (Each streams)) = Some (length streams)
 
 -- the length of a list that is named
 abbrev pub named_length : List Named → Option Interpolation → Option ℕ
@@ -47,26 +42,28 @@ abbrev pub and_then : Check → Check → Check
 and_then (Err fault) more = Err fault
 and_then (Ok done) more = more
 
--- a name has a hole, and a list as many streams as there are turns
+-- a list has as many values as there are turns
+abbrev pub length_checked : ℕ → Extent → Option ℕ → Check
+length_checked turns span None = Ok tt
+length_checked turns span (Some n) = if n == turns then Ok tt else Err (UnequalLists span)
+
+-- a name has a hole, and a list as many values as there are turns
 abbrev pub name_checked : ℕ → Extent → Option Filling → Check
 name_checked turns span None = Err (NoHole span)
-name_checked turns span (Some (One stream)) = Ok tt
-name_checked turns span (Some (Each streams)) = if length streams == turns then Ok tt else Err (UnequalLists span)
+name_checked turns span (Some filling) = length_checked turns span (list_length (Some filling))
 
--- what has a meaning is a name, and no repetition
+-- what is inside of a repetition has its own place among the trees
 abbrev pub interpolation_checked : List Named → ℕ → Option Interpolation → Check
 interpolation_checked holes turns None = Ok tt
 interpolation_checked holes turns (Some (Names name span)) = name_checked turns span (filling_of holes name)
-interpolation_checked holes turns (Some (Repeats body span between)) = Err (Nested span)
+interpolation_checked holes turns (Some (Repeats body span between)) = Ok tt
 
--- the trees of a repetition of so many turns in order, after some that are passed over, where groups may nest so deep
-abbrev pub checked : List Named → ℕ → ℕ → ℕ → Forest → Check
-checked holes depth turns passed nil = Ok tt
-checked holes depth turns zero (leaf token lo hi rest) =
-    and_then (interpolation_checked holes turns (interpolation token rest))
-    (checked holes depth turns (taken (interpolation token rest)) rest)
-checked holes depth turns (suc passed) (leaf token lo hi rest) = checked holes depth turns passed rest
-checked holes depth turns (suc passed) (group d lo hi inside rest) = checked holes depth turns passed rest
-checked holes zero turns zero (group d lo hi inside rest) = Err (TooDeep (record { lo = lo; hi = hi }))
-checked holes (suc depth) turns zero (group d lo hi inside rest) =
-    and_then (checked holes depth turns 0 inside) (checked holes (suc depth) turns 0 rest)
+-- the names in the trees of a repetition of so many turns, at any depth and in the repetitions inside of it too. Groups
+-- may nest so deep
+abbrev pub checked : List Named → ℕ → ℕ → Forest → Check
+checked holes depth turns nil = Ok tt
+checked holes depth turns (leaf token lo hi rest) =
+    and_then (interpolation_checked holes turns (interpolation token rest)) (checked holes depth turns rest)
+checked holes zero turns (group d lo hi inside rest) = Err (TooDeep (record { lo = lo; hi = hi }))
+checked holes (suc depth) turns (group d lo hi inside rest) =
+    and_then (checked holes depth turns inside) (checked holes (suc depth) turns rest)

@@ -52,7 +52,8 @@ impl From<AllocError> for QuoteError {
 ///
 /// The first fault is the first in reading order, a group coming before its contents. So of `#( #missing )*` it is
 /// `NoList` at the parentheses, and `NoHole` at `missing` only where a list is named beside it. Of the faults at one
-/// pair of parentheses `Nested` comes first, then `TooDeep`, then `NoList`.
+/// pair of parentheses `TooDeep` comes before `NoList`. In a repetition `NoHole`, `UnequalLists` and groups that are
+/// `TooDeep` come first, in reading order, and then the first fault of its first turn, of its second and so on.
 #[derive(Debug, Drop)]
 pub enum TemplateError {
     /// No hole has the name that stands here, after a `#`.
@@ -63,8 +64,10 @@ pub enum TemplateError {
     NoList(Span),
     /// The name of a list stands here whose length isn't that of the first list named in the repetition.
     UnequalLists(Span),
-    /// The parentheses of a repetition inside a repetition.
-    Nested(Span),
+    /// The name of a hole stands here whose text is no name of an identifier that is not raw.
+    NotIdent(Span),
+    /// The name of a hole stands here whose float is infinite or no number.
+    NotFinite(Span),
     /// A group inside of 64 others.
     TooDeep(Span),
     /// The text of the template was not parsed: it has a fault, the map has no room for it, or memory ran out before it
@@ -85,7 +88,8 @@ impl TemplateError {
             | TemplateError::LoneList(span)
             | TemplateError::NoList(span)
             | TemplateError::UnequalLists(span)
-            | TemplateError::Nested(span)
+            | TemplateError::NotIdent(span)
+            | TemplateError::NotFinite(span)
             | TemplateError::TooDeep(span) => Some(*span),
             TemplateError::Parse(error) => error.span(),
             TemplateError::Memory(_) => None,
@@ -112,7 +116,8 @@ impl PartialEq for TemplateError {
             | (TemplateError::LoneList(span), TemplateError::LoneList(other))
             | (TemplateError::NoList(span), TemplateError::NoList(other))
             | (TemplateError::UnequalLists(span), TemplateError::UnequalLists(other))
-            | (TemplateError::Nested(span), TemplateError::Nested(other))
+            | (TemplateError::NotIdent(span), TemplateError::NotIdent(other))
+            | (TemplateError::NotFinite(span), TemplateError::NotFinite(other))
             | (TemplateError::TooDeep(span), TemplateError::TooDeep(other)) => span.eq(other),
             (TemplateError::Parse(error), TemplateError::Parse(other)) => error == other,
             (TemplateError::Memory(_), TemplateError::Memory(_)) => true,
@@ -133,7 +138,8 @@ impl fmt::Display for TemplateError {
             TemplateError::LoneList(_) => f.write_str("a list outside of a repetition"),
             TemplateError::NoList(_) => f.write_str("a repetition that names no list"),
             TemplateError::UnequalLists(_) => f.write_str("lists of different lengths"),
-            TemplateError::Nested(_) => f.write_str("a repetition inside a repetition"),
+            TemplateError::NotIdent(_) => f.write_str("no name of an identifier"),
+            TemplateError::NotFinite(_) => f.write_str("a float that is not finite"),
             TemplateError::TooDeep(_) => f.write_str("groups nested too deep"),
             TemplateError::Parse(error) => error.fmt(f),
             TemplateError::Memory(_) => f.write_str("no memory"),

@@ -1,15 +1,17 @@
 //! What the holes of a template stand for.
-ghost use Rattle.std.specs.Prelude.{◌≡◌, IfErr, IfOk, Ok, Err, nat_eq};
+ghost use Rattle.std.specs.Prelude.{◌≡◌, Some, nat_eq};
 ghost use Rattle.std.specs.Cmp.Lexicographic.{pointwise};
 ghost use Rattle.std.specs.Str.{chars};
-ghost use Rattle.quoting.specs.Given.{UnlessMemory, looked_up, named, named_all, span_of, text_of};
-ghost use Rattle.quoting.specs.Holes.{filling_of, put_in};
-ghost use Rattle.quoting.specs.Holes.{One as OneStream, Each as EachStream};
+ghost use Rattle.quoting.specs.Given.{filling_by, in_turns, looked_up, named, named_all, span_of, text_of};
+ghost use Rattle.quoting.specs.Holes.{filling_of, in_turn, list_length, value_at};
+ghost use Rattle.quoting.specs.Items.{each_of};
+ghost use Rattle.quoting.specs.Items.{One as OneStream, Each as EachStream};
+ghost use Rattle.quoting.specs.Values.{value_of};
 
-use crate::errors::TemplateError;
-use proc_macro2::{Ident, Literal, Span, TokenStream};
+use crate::values::Value;
+use proc_macro2::{Ident, Literal, Span, TokenStream, TokenTree};
 
-/// A name in templates, and what it stands for: one stream, or a list of streams.
+/// A name in templates, and what it stands for: trees, or a list.
 #[derive(Clone, Copy)]
 pub struct Hole<'a> {
     name: &'a str,
@@ -23,6 +25,13 @@ pub(crate) enum Filling<'a> {
     One(&'a TokenStream),
     // In each turn of a repetition the next stream.
     Each(&'a [TokenStream]),
+    // A value.
+    Of(&'a Value<'a>),
+    // Values of a list, in a turn.
+    Tree(&'a TokenTree),
+    Ident(&'a Ident),
+    Literal(&'a Literal),
+    Text(&'a str),
 }
 
 impl<'a> Hole<'a> {
@@ -38,12 +47,101 @@ impl<'a> Hole<'a> {
 
     /// The hole `#name`, which stands for the next of these streams in each turn of a repetition.
     pub fn each(name: &'a str, streams: &'a [TokenStream]) -> Hole<'a>
-        ensures { named result ≡ record { name = chars name.now; filling = EachStream streams.now } }
+        ensures { named result
+            ≡ record { name = chars name.now; filling = EachStream (each_of OneStream streams.now) } }
     {
         Hole {
             name,
             filling: Filling::Each(streams),
         }
+    }
+
+    /// The hole `#name`, which stands for this value.
+    ///
+    /// With `Value::Number(Number::U8(7))` for `count`, `[0; #count]` is `[0; 7u8]`.
+    pub fn of(name: &'a str, value: &'a Value<'a>) -> Hole<'a>
+        ensures { named result ≡ record { name = chars name.now; filling = value_of value.now } }
+    {
+        Hole {
+            name,
+            filling: Filling::Of(value),
+        }
+    }
+}
+
+impl<'a> Filling<'a> {
+    // What it is in a turn of a repetition: the value of a list for the turn, or else itself.
+    fn in_turn(self, turn: usize) -> Filling<'a>
+        ensures { filling_by result ≡ in_turn turn (filling_by self.entry) }
+    {
+        match self.value_at(turn) {
+            Some(value) => value,
+            None => self,
+        }
+    }
+
+    // The value of a list for a turn.
+    #[tactic(auto, using(crate::proofs::ItemLemmas::item_at_each))]
+    fn value_at(self, turn: usize) -> Option<Filling<'a>>
+        ensures { looked_up result ≡ value_at turn (filling_by self.entry) }
+    {
+        match self {
+            Filling::Each(streams) => Some(Filling::One(streams.get(turn)?)),
+            Filling::Of(value) => list_value(value, turn),
+            Filling::One(_)
+            | Filling::Tree(_)
+            | Filling::Ident(_)
+            | Filling::Literal(_)
+            | Filling::Text(_) => None,
+        }
+    }
+
+    // How many values the list has, if it is one.
+    #[tactic(auto, using(crate::proofs::ItemLemmas::item_count_each))]
+    pub(crate) fn len(self) -> Option<usize>
+        ensures { result ≡ list_length (Some (filling_by self.entry)) }
+    {
+        match self {
+            Filling::Each(streams) => Some(streams.len()),
+            Filling::Of(value) => list_len(value),
+            Filling::One(_)
+            | Filling::Tree(_)
+            | Filling::Ident(_)
+            | Filling::Literal(_)
+            | Filling::Text(_) => None,
+        }
+    }
+}
+
+// The value for a turn, if the value is a list.
+#[tactic(auto, using(crate::proofs::ItemLemmas::item_at_each))]
+fn list_value<'a>(value: &'a Value<'a>, turn: usize) -> Option<Filling<'a>>
+    ensures { looked_up result ≡ value_at turn (value_of value.now) }
+{
+    match value {
+        Value::Streams(streams) => Some(Filling::One(streams.get(turn)?)),
+        Value::Trees(trees) => Some(Filling::Tree(trees.get(turn)?)),
+        Value::Idents(idents) => Some(Filling::Ident(idents.get(turn)?)),
+        Value::Literals(literals) => Some(Filling::Literal(literals.get(turn)?)),
+        Value::Strings(texts) => Some(Filling::Text(texts.get(turn)?)),
+        Value::List(values) => Some(Filling::Of(values.get(turn)?)),
+        _ => None,
+    }
+}
+
+// How many values it has, if it is a list.
+#[tactic(auto, using(crate::proofs::ItemLemmas::item_count_each))]
+fn list_len(value: &Value<'_>) -> Option<usize>
+    ensures { result ≡ list_length (Some (value_of value.now)) }
+{
+    match value {
+        Value::Streams(streams) => Some(streams.len()),
+        Value::Trees(trees) => Some(trees.len()),
+        Value::Idents(idents) => Some(idents.len()),
+        Value::Literals(literals) => Some(literals.len()),
+        Value::Strings(texts) => Some(texts.len()),
+        Value::List(values) => Some(values.len()),
+        _ => None,
     }
 }
 
@@ -76,7 +174,7 @@ impl<'a> HoleName<'a> {
     }
 
     // What the first hole of this name stands for.
-    pub(crate) fn filling<'h>(&self, holes: &[Hole<'h>]) -> Option<Filling<'h>>
+    fn found<'h>(&self, holes: &[Hole<'h>]) -> Option<Filling<'h>>
         ensures { looked_up result ≡ filling_of (named_all holes.now) (text_of self.now) }
     {
         for hole in holes {
@@ -87,30 +185,15 @@ impl<'a> HoleName<'a> {
         None
     }
 
-    // The stream that comes in its place: in a turn of a repetition also that of a list.
-    pub(crate) fn put_in<'h>(
-        &self,
-        holes: &[Hole<'h>],
-        turn: Option<usize>,
-    ) -> Result<&'h TokenStream, TemplateError>
-        ensures ok { IfOk result (λ stream.
-            put_in turn (span_of self.now) (filling_of (named_all holes.now) (text_of self.now)) ≡ Ok stream.now) }
-        ensures fault { IfErr result (λ fault. UnlessMemory fault
-            (put_in turn (span_of self.now) (filling_of (named_all holes.now) (text_of self.now)) ≡ Err fault)) }
+    // What the first hole of this name stands for in these turns.
+    #[tactic(auto, using(crate::proofs::ItemLemmas::filling_begun))]
+    pub(crate) fn filling<'h>(&self, holes: &[Hole<'h>], turns: &[usize]) -> Option<Filling<'h>>
+        ensures { looked_up result ≡ filling_of (in_turns holes.now turns.now) (text_of self.now) }
     {
-        let stream = match self.filling(holes) {
-            None => return Err(TemplateError::NoHole(self.span())),
-            Some(Filling::One(stream)) => stream,
-            Some(Filling::Each(streams)) => {
-                let Some(turn) = turn else {
-                    return Err(TemplateError::LoneList(self.span()));
-                };
-                let Some(stream) = streams.get(turn) else {
-                    return Err(TemplateError::UnequalLists(self.span()));
-                };
-                stream
-            }
-        };
-        Ok(stream)
+        let mut filling = self.found(holes)?;
+        for turn in turns {
+            filling = filling.in_turn(*turn);
+        }
+        Some(filling)
     }
 }

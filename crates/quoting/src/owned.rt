@@ -1,10 +1,10 @@
 //! Templates that belong to no one else: their lists are filled where they stand.
 //!
 //! Groups nest no deeper in a template than a limit, so that the functions may call themselves for them.
-ghost use Rattle.std.specs.Prelude.{◌≡◌, IfErr, IfOk, Ok, Err, None, OnOk};
+ghost use Rattle.std.specs.Prelude.{◌≡◌, ◌≤◌, [], IfErr, IfOk, Ok, Err, OnOk};
 ghost use Rattle.proc_macro2.specs.Forest.{Forest, IsBuilt};
 ghost use Rattle.proc_macro2.specs.Trees.{alone, forest, GoesInside};
-ghost use Rattle.quoting.specs.Filled.{followed, filled_by};
+ghost use Rattle.quoting.specs.Filled.{depth_limit, followed, filled_by};
 ghost use Rattle.quoting.specs.Given.{Settles, UnlessMemory, apart, apart_before, gives, inside_at, inside_tree};
 
 use crate::builder::StreamBuilder;
@@ -12,6 +12,7 @@ use crate::errors::TemplateError;
 use crate::fill::{are_fixed, has_meaning, repeat_onto};
 use crate::holes::Hole;
 use crate::interpolation::{FoundInterpolation, interpolation_at};
+use crate::putting::put_name;
 use crate::respace::spaced;
 use pm_stream::parts;
 use proc_macro2::{Group, Spacing, TokenStream, TokenTree};
@@ -26,9 +27,10 @@ pub(crate) fn filled_in_place(
     holes: &[Hole<'_>],
     depth: usize,
 ) -> Result<TokenStream, TemplateError>
-    ensures ok { IfOk result (λ stream. filled_by (gives holes.now None) depth 0 template ≡ Ok stream) }
+    requires { depth ≤ depth_limit }
+    ensures ok { IfOk result (λ stream. filled_by (gives holes.now []) depth 0 template ≡ Ok stream) }
     ensures fault { IfErr result (λ fault.
-        UnlessMemory fault (filled_by (gives holes.now None) depth 0 template ≡ Err fault)) }
+        UnlessMemory fault (filled_by (gives holes.now []) depth 0 template ≡ Err fault)) }
 {
     let mut list = parts::into_trees(template)?;
     let mut done = 0;
@@ -59,11 +61,12 @@ fn fill_rest(
     holes: &[Hole<'_>],
     depth: usize,
 ) -> Result<(), TemplateError>
-    requires { IsBuilt (forest rest.items) }
+    requires built { IsBuilt (forest rest.items) }
+    requires few { depth ≤ depth_limit }
     ensures ok { OnOk result (followed (Ok out.old)
-        (filled_by (gives holes.now None) depth 0 (forest rest.items)) ≡ Ok out.new) }
+        (filled_by (gives holes.now []) depth 0 (forest rest.items)) ≡ Ok out.new) }
     ensures fault { IfErr result (λ fault.
-        UnlessMemory fault (filled_by (gives holes.now None) depth 0 (forest rest.items) ≡ Err fault)) }
+        UnlessMemory fault (filled_by (gives holes.now []) depth 0 (forest rest.items) ≡ Err fault)) }
 {
     let mut list = rest;
     let mut done = 0;
@@ -78,12 +81,12 @@ fn fill_rest(
             }
             Some(FoundInterpolation::Names(name, left)) => {
                 let more = left.len();
-                out.append(name.put_in(holes, None)?, more)?;
+                put_name(alloc, out, &name, holes, &[], more)?;
                 done = list.len() - more;
             }
             Some(FoundInterpolation::Repeats(repetition, left)) => {
                 let more = left.len();
-                repeat_onto(alloc, out, &repetition, holes, None, depth)?;
+                repeat_onto(alloc, out, &repetition, holes, &[], depth)?;
                 done = list.len() - more;
             }
         }
@@ -101,12 +104,13 @@ fn settle(
     holes: &[Hole<'_>],
     depth: usize,
 ) -> Result<(), TemplateError>
-    requires { GoesInside tree.old }
-    ensures ok { OnOk result (Settles (gives holes.now None) depth apart tree.old tree.new) }
+    requires inside { GoesInside tree.old }
+    requires few { depth ≤ depth_limit }
+    ensures ok { OnOk result (Settles (gives holes.now []) depth apart tree.old tree.new) }
     ensures inside { OnOk result (GoesInside tree.new) }
     ensures built { OnOk result (IsBuilt (alone tree.new)) }
     ensures fault { IfErr result (λ fault.
-        UnlessMemory fault (inside_tree (gives holes.now None) depth tree.old ≡ Err fault)) }
+        UnlessMemory fault (inside_tree (gives holes.now []) depth tree.old ≡ Err fault)) }
 {
     change(alloc, tree, apart, holes, depth)?;
     // It computes nothing: proofs learn what is true of every tree.
@@ -124,11 +128,12 @@ fn change(
     holes: &[Hole<'_>],
     depth: usize,
 ) -> Result<(), TemplateError>
-    requires { GoesInside tree.old }
-    ensures ok { OnOk result (Settles (gives holes.now None) depth apart tree.old tree.new) }
+    requires inside { GoesInside tree.old }
+    requires few { depth ≤ depth_limit }
+    ensures ok { OnOk result (Settles (gives holes.now []) depth apart tree.old tree.new) }
     ensures inside { OnOk result (GoesInside tree.new) }
     ensures fault { IfErr result (λ fault.
-        UnlessMemory fault (inside_tree (gives holes.now None) depth tree.old ≡ Err fault)) }
+        UnlessMemory fault (inside_tree (gives holes.now []) depth tree.old ≡ Err fault)) }
 {
     match tree {
         TokenTree::Group(group) => fill_group(alloc, group, holes, depth),
@@ -150,10 +155,11 @@ fn fill_group(
     holes: &[Hole<'_>],
     depth: usize,
 ) -> Result<(), TemplateError>
-    ensures ok { OnOk result ((inside : Forest) × (inside_at (gives holes.now None) depth group.old ≡ Ok inside)
+    requires { depth ≤ depth_limit }
+    ensures ok { OnOk result ((inside : Forest) × (inside_at (gives holes.now []) depth group.old ≡ Ok inside)
         × (group.new ≡ record group.old { stream = inside })) }
     ensures fault { IfErr result (λ fault.
-        UnlessMemory fault (inside_at (gives holes.now None) depth group.old ≡ Err fault)) }
+        UnlessMemory fault (inside_at (gives holes.now []) depth group.old ≡ Err fault)) }
 {
     let Some(inner) = depth.checked_sub(1) else {
         return Err(TemplateError::TooDeep(group.span()));

@@ -21,10 +21,13 @@ const DEPTH_LIMIT: usize = 64;
 impl Quote {
     /// Puts the template after the other trees, its holes filled (`filled`).
     ///
-    /// `#name` and `#0` stand for the stream of the first hole of that name, `#( .. )*` for as many turns as the
-    /// lists named inside have streams, and `#( .. ),*` for the same with the mark between the turns. Any other `#`
-    /// stands for itself. All other trees are kept, with their spans; groups are filled inside. A mark right before a
-    /// hole or a repetition comes out Alone, so that it doesn't join what comes there.
+    /// `#name` and `#0` stand for what the first hole of that name stands for. `#( .. )*` stands for as many turns as
+    /// the lists named inside have values, and `#( .. ),*` for the same with the mark between the turns. In a turn each
+    /// list is its value for the turn, also in the repetitions inside. So a list is used up by the outermost repetition
+    /// in which it stands, and a repetition inside needs a list of lists.
+    ///
+    /// Any other `#` stands for itself. All other trees are kept, with their spans; groups are filled inside. A mark
+    /// right before a hole or a repetition comes out Alone, so that it doesn't join what comes there.
     ///
     /// Fails with the template's first fault (`TemplateError`), and where memory runs out. The quote then stays as it
     /// was.
@@ -38,7 +41,7 @@ impl Quote {
             UnlessMemory fault (filled (named_all holes.now) template.now ≡ Err fault)) }
         ensures kept { OnErr result (self.new ≡ self.old) }
     {
-        let stream = filled(self.alloc(), template, holes, None, DEPTH_LIMIT)?;
+        let stream = filled(self.alloc(), template, holes, &[], DEPTH_LIMIT)?;
         self.push_stream(stream)?;
         Ok(())
     }

@@ -133,7 +133,8 @@ fn span_of(error: &TemplateError) -> Option<Span> {
         | TemplateError::LoneList(span)
         | TemplateError::NoList(span)
         | TemplateError::UnequalLists(span)
-        | TemplateError::Nested(span)
+        | TemplateError::NotIdent(span)
+        | TemplateError::NotFinite(span)
         | TemplateError::TooDeep(span) => Some(*span),
         TemplateError::Parse(_) | TemplateError::Memory(_) => None,
     }
@@ -259,7 +260,8 @@ fn tokens_of_the_template_and_of_the_holes_keep_their_spans(rt: HostRuntime) -> 
     let mut map = SourceMap::new(alloc);
     let name = TokenStream::from_str("point", &mut map)?;
     let mut quote = Quote::new(alloc);
-    quote.parse("let #name = (1);", &mut map, &[Hole::one("name", &name)])?;
+    let holes = [Hole::one("name", &name)];
+    quote.parse("let #name = (1);", &mut map, &holes)?;
     let stream = quote.finish()?;
     let [word, name, equals, group, end] = stream.trees() else {
         assert!(rt; false, "five trees");
@@ -300,7 +302,7 @@ fn each_fault_has_its_span(rt: HostRuntime) -> Result<(), Fail> {
         ),
         (
             "#( #two #( #three ),* )*",
-            ("a repetition inside a repetition", 9, 19),
+            ("lists of different lengths", 12, 17),
         ),
         ("#( #two #z #three )*", ("no hole of this name", 9, 10)),
     ];
@@ -311,7 +313,6 @@ fn each_fault_has_its_span(rt: HostRuntime) -> Result<(), Fail> {
 fn parentheses_come_before_what_is_wrong_inside(rt: HostRuntime) -> Result<(), Fail> {
     let no_hole = "no hole of this name";
     let no_list = "a repetition that names no list";
-    let nested = "a repetition inside a repetition";
     let rows = [
         // No list is named, whatever else is wrong inside.
         ("#( #missing )*", (no_list, 1, 13)),
@@ -326,14 +327,16 @@ fn parentheses_come_before_what_is_wrong_inside(rt: HostRuntime) -> Result<(), F
         ("#( #missing [(#two)] )*", (no_hole, 4, 11)),
         ("#( [#two] #missing )*", (no_hole, 11, 18)),
         ("#( #none #missing )*", (no_hole, 10, 17)),
-        ("#( #( #two )* )*", (nested, 4, 12)),
-        ("#( #( #missing #two )* )*", (nested, 4, 21)),
+        // The outer repetition uses the list up.
+        ("#( #( #two )* )*", (no_list, 4, 12)),
+        ("#( #( #missing #two )* )*", (no_hole, 7, 14)),
         (
             "#( #three #two #missing )*",
             ("lists of different lengths", 11, 14),
         ),
-        // Of the faults of the inner parentheses this one comes first.
-        ("#( #two #( #x )* )*", (nested, 9, 15)),
+        ("#( #two #( #x )* )*", (no_list, 9, 15)),
+        // Where there is no turn, what is wrong in one is not met.
+        ("#( #none #( #x )* )* #missing", (no_hole, 22, 29)),
         // What stands before comes before.
         ("#missing #( #x )*", (no_hole, 1, 8)),
         ("#( #x )* #missing", (no_list, 1, 7)),
@@ -385,15 +388,9 @@ fn a_list_is_found_deeper_than_groups_may_nest(rt: HostRuntime) -> Result<(), Fa
             64,
             ("a repetition that names no list", 1, 135),
         ),
-        // At one pair of parentheses depth comes before lists, and nested repetitions before depth.
+        // At one pair of parentheses depth comes before lists.
         ("", "#( #x )*", "", 64, (too_deep, 65, 71)),
-        (
-            "",
-            "#( #two #( #x )* )*",
-            "",
-            63,
-            ("a repetition inside a repetition", 72, 78),
-        ),
+        ("", "#( #two #( #x )* )*", "", 63, (too_deep, 72, 78)),
         ("", "#( #two [#x] )*", "", 63, (too_deep, 71, 75)),
     ];
     for (before, inside, after, levels, want) in rows {

@@ -793,8 +793,8 @@
 //!
 //! - <a id="quoting.Laws.AFaultIsHopeless"></a>**AFaultIsHopeless**: no choice of spacings makes a stream with
 //!   a fault well spaced
-//! - <a id="quoting.Holes.Each"></a>**Each**: what a hole stands for: one stream, or in each turn of a
-//!   repetition the next stream of a list
+//! - <a id="quoting.Items.Each"></a>**Each**: what a hole stands for: trees, nothing that can come, or in each
+//!   turn of a repetition the next value of a list
 //! - <a id="quoting.Choice.HopelessIfNamed"></a>**HopelessIfNamed**: if the error names a fault, no choice of
 //!   spacings makes the stream well spaced
 //! - <a id="quoting.Fault.IsFaultOf"></a>**IsFaultOf**: a fault that is named is the stream's first; an error
@@ -808,17 +808,21 @@
 //! - <a id="quoting.TextFault.LeavesMap"></a>**LeavesMap**: the map after the call: with the text as its next
 //!   file, but as it was where the text didn't fit and where memory for parsing it ran out
 //! - <a id="quoting.Laws.NothingToDo"></a>**NothingToDo**: a stream that was well spaced comes out unchanged
-//! - <a id="quoting.Holes.One"></a>**One**: what a hole stands for: one stream, or in each turn of a repetition
-//!   the next stream of a list
+//! - <a id="quoting.Items.One"></a>**One**: what a hole stands for: trees, nothing that can come, or in each
+//!   turn of a repetition the next value of a list
 //! - <a id="quoting.Laws.OnlySpacing"></a>**OnlySpacing**: respacing is a choice of spacings
 //! - <a id="quoting.Given.UnlessMemory"></a>**UnlessMemory**: this holds of the error if it is a fault of the
 //!   template, not of a text, and memory did not run out
 //! - <a id="quoting.Laws.WellSpacedWithoutFault"></a>**WellSpacedWithoutFault**: a stream without a fault is
 //!   well spaced once it is respaced
+//! - <a id="quoting.Items.and_last"></a>**and_last**: a value after others
+//! - <a id="quoting.Items.each_of"></a>**each_of**: the list of these values
+//! - <a id="quoting.Items.end"></a>**end**: the values of a list, in order: the trees of each, or why there are
+//!   none, or a list
 //! - <a id="quoting.Filled.filled"></a>**filled**: `filled`: the template with its holes filled, or its first
 //!   fault in reading order, a group coming before its contents. So a repetition that names no list is the
-//!   fault, whatever is wrong inside of it. Of the faults at one pair of parentheses `Nested` comes first, then
-//!   `TooDeep`, then `NoList`
+//!   fault, whatever is wrong inside of it. Of the faults at one pair of parentheses `TooDeep` comes before
+//!   `NoList`. In a repetition the names come first, and then its turns in order
 //! - <a id="quoting.Fault.first_fault"></a>**first_fault**: `first-fault`: the first fault of the stream in
 //!   reading order that no choice of spacings mends
 //! - <a id="quoting.Given.named"></a>**named**: a hole's name, with what the hole stands for
@@ -827,6 +831,7 @@
 //! - <a id="quoting.Respaced.respaced"></a>**respaced**: `respaced`: the same trees with the same spans, at any
 //!   depth, but for the spacing of marks
 //! - <a id="quoting.Message.template_span"></a>**template_span**: the span of the fault
+//! - <a id="quoting.Values.value_of"></a>**value_of**: what a value stands for
 //!
 //! # Words of `relayout`
 //!

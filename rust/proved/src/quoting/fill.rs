@@ -3,29 +3,29 @@
 //!
 //! Groups nest no deeper in a template than a limit, so that the functions may call themselves for them.
 
-use crate::shim::prelude::TryClone;
+use crate::shim::prelude::{Grow, GrowList, TryClone};
 
 use crate::quoting::builder::StreamBuilder;
 use crate::quoting::errors::TemplateError;
 use crate::quoting::holes::Hole;
 use crate::quoting::interpolation::{FoundInterpolation, Repetition, interpolation_at};
+use crate::quoting::putting::put_name;
 use crate::quoting::respace::{regrouped, spaced};
 use crate::quoting::turns::{checked, turns_of};
 use crate::proc_macro2::{Group, Punct, Spacing, TokenStream, TokenTree};
 use crate::shim::alloc::AllocError;
 
-// The trees with the holes filled, where groups may nest so deep. In a turn of a repetition the turn's stream of each
-// list comes.
+// The trees with the holes filled in these turns of repetitions, where groups may nest so deep.
 pub(crate) fn filled(
     template: &TokenStream,
     holes: &[Hole<'_>],
-    turn: Option<usize>,
+    turns: &[usize],
     depth: usize,
 ) -> Result<TokenStream, TemplateError>
 {
     let trees = template.trees();
     let mut out = StreamBuilder::new();
-    fill_onto(&mut out, trees, holes, turn, depth)?;
+    fill_onto(&mut out, trees, holes, turns, depth)?;
     Ok(out.finish()?)
 }
 
@@ -34,7 +34,7 @@ fn fill_onto(
     out: &mut StreamBuilder,
     template: &[TokenTree],
     holes: &[Hole<'_>],
-    turn: Option<usize>,
+    turns: &[usize],
     depth: usize,
 ) -> Result<(), TemplateError>
 {
@@ -43,7 +43,7 @@ fn fill_onto(
         match interpolation_at(tree, after) {
             None => {
                 if let TokenTree::Group(group) = tree {
-                    let inside = filled_inside(group, holes, turn, depth)?;
+                    let inside = filled_inside(group, holes, turns, depth)?;
                     out.put(TokenTree::Group(regrouped(group, inside)), after.len())?;
                 } else {
                     out.put(apart_before(tree, after)?, after.len())?;
@@ -51,11 +51,11 @@ fn fill_onto(
                 left = after;
             }
             Some(FoundInterpolation::Names(name, rest)) => {
-                out.append(name.put_in(holes, turn)?, rest.len())?;
+                put_name(out, &name, holes, turns, rest.len())?;
                 left = rest;
             }
             Some(FoundInterpolation::Repeats(repetition, rest)) => {
-                repeat_onto(out, &repetition, holes, turn, depth)?;
+                repeat_onto(out, &repetition, holes, turns, depth)?;
                 left = rest;
             }
         }
@@ -88,7 +88,7 @@ pub(crate) fn has_meaning(trees: &[TokenTree]) -> bool
 fn filled_inside(
     group: &Group,
     holes: &[Hole<'_>],
-    turn: Option<usize>,
+    turns: &[usize],
     depth: usize,
 ) -> Result<TokenStream, TemplateError>
 {
@@ -100,7 +100,7 @@ fn filled_inside(
     if are_fixed(template.trees()) {
         return Ok(template.try_clone()?);
     }
-    filled(template, holes, turn, inner)
+    filled(template, holes, turns, inner)
 }
 
 /// Whether the trees are neither groups nor `#`, and so come out as they are.
@@ -130,27 +130,52 @@ pub(crate) fn repeat_onto(
     out: &mut StreamBuilder,
     repetition: &Repetition<'_>,
     holes: &[Hole<'_>],
-    turn: Option<usize>,
+    turns: &[usize],
     depth: usize,
 ) -> Result<(), TemplateError>
 {
     let body = repetition.body;
-    if turn.is_some() {
-        return Err(TemplateError::Nested(body.span()));
-    }
     let Some(inner) = depth.checked_sub(1) else {
         return Err(TemplateError::TooDeep(body.span()));
     };
     let trees = body.stream_ref().trees();
-    let Some(turns) = turns_of(trees, holes)? else {
+    let Some(count) = turns_of(trees, holes, turns)? else {
         return Err(TemplateError::NoList(body.span()));
     };
-    checked(trees, holes, inner, turns)?;
-    for turn in 0..turns {
+    checked(trees, holes, turns, inner, count)?;
+    for turn in 0..count {
         separate(out, repetition.separator, turn, trees.len())?;
-        fill_onto(out, trees, holes, Some(turn), inner)?;
+        fill_turn(out, trees, holes, turns, turn, inner)?;
     }
     Ok(())
+}
+
+// Puts the trees with the holes filled in a turn of a repetition after those of the stream. These are the turns of the
+// repetitions outside.
+fn fill_turn(
+    out: &mut StreamBuilder,
+    template: &[TokenTree],
+    holes: &[Hole<'_>],
+    turns: &[usize],
+    turn: usize,
+    depth: usize,
+) -> Result<(), TemplateError>
+{
+    // Most repetitions stand in no other, so that no list has to be made.
+    if turns.is_empty() {
+        return fill_onto(out, template, holes, &[turn], depth);
+    }
+    let here = and_turn(turns, turn)?;
+    fill_onto(out, template, holes, here.as_slice(), depth)
+}
+
+// The turns of the repetitions outside, and this one.
+fn and_turn(turns: &[usize], turn: usize) -> Result<Vec<usize>, AllocError>
+{
+    let mut list = Vec::with_capacity_fallibly(turns.len().saturating_add(1))?;
+    list.extend_from_slice_fallibly(turns)?;
+    list.push_fallibly(turn)?;
+    Ok(list)
 }
 
 // Puts the separator at the end, Alone, before a turn that is not the first. So many more trees are expected.

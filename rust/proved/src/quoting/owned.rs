@@ -8,6 +8,7 @@ use crate::quoting::errors::TemplateError;
 use crate::quoting::fill::{are_fixed, has_meaning, repeat_onto};
 use crate::quoting::holes::Hole;
 use crate::quoting::interpolation::{FoundInterpolation, interpolation_at};
+use crate::quoting::putting::put_name;
 use crate::quoting::respace::spaced;
 use crate::pm_stream::parts;
 use crate::proc_macro2::{Group, Spacing, TokenStream, TokenTree};
@@ -61,12 +62,12 @@ fn fill_rest(
             }
             Some(FoundInterpolation::Names(name, left)) => {
                 let more = left.len();
-                out.append(name.put_in(holes, None)?, more)?;
+                put_name(out, &name, holes, &[], more)?;
                 done = list.len() - more;
             }
             Some(FoundInterpolation::Repeats(repetition, left)) => {
                 let more = left.len();
-                repeat_onto(out, &repetition, holes, None, depth)?;
+                repeat_onto(out, &repetition, holes, &[], depth)?;
                 done = list.len() - more;
             }
         }

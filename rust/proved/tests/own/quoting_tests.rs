@@ -9,3 +9,5 @@ mod rows;
 mod templates;
 #[cfg(test)]
 mod trees;
+#[cfg(test)]
+mod values;

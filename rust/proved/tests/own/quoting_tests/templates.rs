@@ -133,7 +133,8 @@ fn span_of(error: &TemplateError) -> Option<Span> {
         | TemplateError::LoneList(span)
         | TemplateError::NoList(span)
         | TemplateError::UnequalLists(span)
-        | TemplateError::Nested(span)
+        | TemplateError::NotIdent(span)
+        | TemplateError::NotFinite(span)
         | TemplateError::TooDeep(span) => Some(*span),
         TemplateError::Parse(_) | TemplateError::Memory(_) => None,
     _ => unreachable!("each case is above"),
@@ -303,7 +304,7 @@ fn each_fault_has_its_span() -> Result<(), Fail> {
         ),
         (
             "#( #two #( #three ),* )*",
-            ("a repetition inside a repetition", 9, 19),
+            ("lists of different lengths", 12, 17),
         ),
         ("#( #two #z #three )*", ("no hole of this name", 9, 10)),
     ];
@@ -315,7 +316,6 @@ fn parentheses_come_before_what_is_wrong_inside() -> Result<(), Fail> {
     let rt = HostRuntime;
     let no_hole = "no hole of this name";
     let no_list = "a repetition that names no list";
-    let nested = "a repetition inside a repetition";
     let rows = [
         // No list is named, whatever else is wrong inside.
         ("#( #missing )*", (no_list, 1, 13)),
@@ -330,14 +330,16 @@ fn parentheses_come_before_what_is_wrong_inside() -> Result<(), Fail> {
         ("#( #missing [(#two)] )*", (no_hole, 4, 11)),
         ("#( [#two] #missing )*", (no_hole, 11, 18)),
         ("#( #none #missing )*", (no_hole, 10, 17)),
-        ("#( #( #two )* )*", (nested, 4, 12)),
-        ("#( #( #missing #two )* )*", (nested, 4, 21)),
+        // The outer repetition uses the list up.
+        ("#( #( #two )* )*", (no_list, 4, 12)),
+        ("#( #( #missing #two )* )*", (no_hole, 7, 14)),
         (
             "#( #three #two #missing )*",
             ("lists of different lengths", 11, 14),
         ),
-        // Of the faults of the inner parentheses this one comes first.
-        ("#( #two #( #x )* )*", (nested, 9, 15)),
+        ("#( #two #( #x )* )*", (no_list, 9, 15)),
+        // Where there is no turn, what is wrong in one is not met.
+        ("#( #none #( #x )* )* #missing", (no_hole, 22, 29)),
         // What stands before comes before.
         ("#missing #( #x )*", (no_hole, 1, 8)),
         ("#( #x )* #missing", (no_list, 1, 7)),
@@ -389,15 +391,9 @@ fn a_list_is_found_deeper_than_groups_may_nest() -> Result<(), Fail> {
             64,
             ("a repetition that names no list", 1, 135),
         ),
-        // At one pair of parentheses depth comes before lists, and nested repetitions before depth.
+        // At one pair of parentheses depth comes before lists.
         ("", "#( #x )*", "", 64, (too_deep, 65, 71)),
-        (
-            "",
-            "#( #two #( #x )* )*",
-            "",
-            63,
-            ("a repetition inside a repetition", 72, 78),
-        ),
+        ("", "#( #two #( #x )* )*", "", 63, (too_deep, 72, 78)),
         ("", "#( #two [#x] )*", "", 63, (too_deep, 71, 75)),
     ];
     for (before, inside, after, levels, want) in rows {

@@ -1,0 +1,224 @@
+//! Values of every kind in the holes of templates, and lists of lists.
+use proc_macro2::{Ident, Literal, SourceMap, Span, TokenStream, TokenTree};
+use quoting::{Hole, Number, Quote, TemplateError, Value, Values};
+use std::alloc::Global;
+use std::process::Abort;
+use std::test::Fail;
+
+// What the template prints with this value for `x`.
+fn printed<'a>(alloc: Global, template: &str, value: &'a Value<'a>) -> Result<String, Fail> {
+    let mut quote = Quote::new(alloc);
+    let holes = [Hole::of("x", value)];
+    quote.parse(template, &mut SourceMap::new(alloc), &holes)?;
+    let stream = quote.into_stream();
+    Ok(format!(in alloc; "{stream}")?)
+}
+
+// The fault of the template with this value for `x`, the column where it is, and how many trees the quote has then.
+fn fault<'a>(
+    alloc: Global,
+    template: &str,
+    value: &'a Value<'a>,
+) -> Result<Option<(TemplateError, Option<usize>, usize)>, Fail> {
+    let mut quote = Quote::new(alloc);
+    let mut map = SourceMap::new(alloc);
+    let holes = [Hole::of("x", value)];
+    let Err(fault) = quote.parse(template, &mut map, &holes) else {
+        return Ok(None);
+    };
+    let column = match fault.span() {
+        Some(span) if map.holds(span) => Some(span.start(&map).column),
+        _ => None,
+    };
+    Ok(Some((fault, column, quote.into_stream().trees().len())))
+}
+
+fn word(alloc: Global, text: &str) -> Result<Ident, Fail> {
+    Ok(Ident::new(alloc, text, Span::call_site())?)
+}
+
+/// Asserts what the template prints with this value for `x`.
+fn check<'a>(
+    rt: &(impl Abort + AllocGlobal),
+    template: &str,
+    value: &'a Value<'a>,
+    want: &str,
+) -> Result<(), Fail> {
+    let text = printed(rt.alloc(), template, value)?;
+    assert_eq!(rt; text.as_str(), want, "of {template:?}");
+    Ok(())
+}
+
+#[test]
+fn streams_and_trees_are_put_in(rt: HostRuntime) -> Result<(), Fail> {
+    let stream = TokenStream::from_str("c + d", &mut SourceMap::new(rt.alloc()))?;
+    check(&rt, "(#x, #x)", &Value::Stream(&stream), "(c + d , c + d)")?;
+    check(
+        &rt,
+        "(#x, #x)",
+        &Value::OwnedStream(stream),
+        "(c + d , c + d)",
+    )?;
+    let tree = TokenTree::Literal(Literal::i8_suffixed(rt.alloc(), -4)?);
+    check(&rt, "(#x, #x)", &Value::Tree(&tree), "(- 4i8 , - 4i8)")?;
+    check(&rt, "(#x, #x)", &Value::OwnedTree(tree), "(- 4i8 , - 4i8)")
+}
+
+#[test]
+fn tokens_are_put_in(rt: HostRuntime) -> Result<(), Fail> {
+    let ident = word(rt.alloc(), "a")?;
+    check(&rt, "(#x, #x)", &Value::Ident(&ident), "(a , a)")?;
+    let literal = Literal::string(rt.alloc(), "b")?;
+    check(
+        &rt,
+        "(#x, #x)",
+        &Value::Literal(&literal),
+        "(\"b\" , \"b\")",
+    )?;
+    let negative = Literal::i8_unsuffixed(rt.alloc(), -3)?;
+    check(&rt, "(#x, #x)", &Value::Literal(&negative), "(- 3 , - 3)")
+}
+
+#[test]
+fn texts_and_truth_values_are_put_in(rt: HostRuntime) -> Result<(), Fail> {
+    check(&rt, "(#x, #x)", &Value::Nothing, "(,)")?;
+    check(&rt, "(#x, #x)", &Value::Name("fn"), "(fn , fn)")?;
+    check(&rt, "#x", &Value::String("\"\n"), "\"\\\"\\n\"")?;
+    check(&rt, "#x", &Value::Character('\''), "'\\''")?;
+    check(&rt, "(#x, #x)", &Value::Boolean(true), "(true , true)")?;
+    check(&rt, "(#x, #x)", &Value::Boolean(false), "(false , false)")
+}
+
+#[test]
+fn numbers_have_their_suffix(rt: HostRuntime) -> Result<(), Fail> {
+    let rows = [
+        (Number::U8(u8::MAX), "255u8"),
+        (Number::U16(7), "7u16"),
+        (Number::U32(7), "7u32"),
+        (Number::U64(u64::MAX), "18446744073709551615u64"),
+        (
+            Number::U128(u128::MAX),
+            "340282366920938463463374607431768211455u128",
+        ),
+        (Number::Usize(0), "0usize"),
+        (Number::I8(i8::MIN), "- 128i8"),
+        (Number::I16(-7), "- 7i16"),
+        (Number::I32(7), "7i32"),
+        (Number::I64(-7), "- 7i64"),
+        (
+            Number::I128(i128::MIN),
+            "- 170141183460469231731687303715884105728i128",
+        ),
+        (Number::Isize(-1), "- 1isize"),
+    ];
+    for &(number, want) in &rows {
+        let text = printed(rt.alloc(), "#x", &Value::Number(number))?;
+        assert_eq!(rt; text.as_str(), want);
+    }
+    Ok(())
+}
+
+#[test]
+fn a_value_that_is_no_token_is_an_error_at_the_name_of_its_hole(
+    rt: HostRuntime,
+) -> Result<(), Fail> {
+    let alloc = rt.alloc();
+    let rows = [
+        Value::Name("1"),
+        Value::Name(""),
+        Value::Name("a b"),
+        Value::Name("r#a"),
+        Value::NotFinite,
+        Value::Streams(&[]),
+        Value::List(Values::new(alloc)),
+    ];
+    for value in &rows {
+        let Some((fault, column, count)) = fault(alloc, "a b #x", value)? else {
+            assert!(rt; false, "a fault");
+            return Ok(());
+        };
+        assert_eq!(rt; (column, count), (Some(5), 0));
+        match value {
+            Value::Name(_) => assert!(rt; matches!(fault, TemplateError::NotIdent(_))),
+            Value::NotFinite => assert!(rt; matches!(fault, TemplateError::NotFinite(_))),
+            _ => assert!(rt; matches!(fault, TemplateError::LoneList(_))),
+        }
+    }
+    Ok(())
+}
+
+#[test]
+fn lists_of_every_kind_are_repeated(rt: HostRuntime) -> Result<(), Fail> {
+    let alloc = rt.alloc();
+    let stream = TokenStream::from_str("a; b", &mut SourceMap::new(alloc))?;
+    let idents = [word(alloc, "a")?, word(alloc, "b")?];
+    let literals = [
+        Literal::string(alloc, "a")?,
+        Literal::i8_unsuffixed(alloc, -1)?,
+    ];
+    let streams = [stream.clone()?, TokenStream::new(alloc)];
+    let mut list = Values::new(alloc);
+    list.push(Value::Number(Number::U8(1)))?;
+    list.push(Value::Nothing)?;
+    let rows = [
+        (Value::Streams(&streams), "a ; b ,"),
+        (Value::Trees(stream.trees()), "a , ; , b"),
+        (Value::Idents(&idents), "a , b"),
+        (Value::Literals(&literals), "\"a\" , - 1"),
+        (Value::Strings(&["a", "b"]), "\"a\" , \"b\""),
+        (Value::List(list), "1u8 ,"),
+    ];
+    for (value, want) in &rows {
+        let text = printed(alloc, "#(#x),*", value)?;
+        assert_eq!(rt; text.as_str(), *want);
+    }
+    Ok(())
+}
+
+// A list of two lists, of two names and of one.
+fn rows<'a>(alloc: Global) -> Result<Value<'a>, Fail> {
+    let mut one = Values::new(alloc);
+    one.push(Value::Name("c"))?;
+    let mut rows = Values::new(alloc);
+    rows.push(Value::Strings(&["a", "b"]))?;
+    rows.push(Value::List(one))?;
+    Ok(Value::List(rows))
+}
+
+// What the template prints with these holes.
+fn filled(alloc: Global, template: &str, holes: &[Hole<'_>]) -> Result<String, TemplateError> {
+    let mut quote = Quote::new(alloc);
+    quote.parse(template, &mut SourceMap::new(alloc), holes)?;
+    let stream = quote.into_stream();
+    Ok(format!(in alloc; "{stream}")?)
+}
+
+#[test]
+fn repetitions_are_nested(rt: HostRuntime) -> Result<(), Fail> {
+    let values = rows(rt.alloc())?;
+    let names = Value::Strings(&["n", "m"]);
+    let all = Value::Name("z");
+    let holes = [
+        Hole::of("value", &values),
+        Hole::of("name", &names),
+        Hole::of("all", &all),
+    ];
+    let rows = [
+        (
+            "#( #name: [ #( #value ),* ] );*",
+            "\"n\" : [\"a\" , \"b\"] ; \"m\" : [c]",
+        ),
+        (
+            "#( #( #value #name #all )* )*",
+            "\"a\" \"n\" z \"b\" \"n\" z c \"m\" z",
+        ),
+    ];
+    for &(template, want) in &rows {
+        let text = filled(rt.alloc(), template, &holes)?;
+        assert_eq!(rt; text.as_str(), want);
+    }
+    // The third repetition inside has no list left.
+    let fault = filled(rt.alloc(), "#( #( #( #value )* )* )*", &holes);
+    assert!(rt; matches!(fault, Err(TemplateError::NoList(_))));
+    Ok(())
+}
