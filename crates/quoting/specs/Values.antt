@@ -15,7 +15,8 @@ use Rattle.proc_macro2.specs.declared.TokenTree.TheVariants.{Ident as IdentTree,
 use Rattle.quoting.specs.Items.{Filling, One, Unfit, Each, Items, no_name, no_number, each_of}
 use Rattle.quoting.specs.declared.values.Value.{Value}
 use Rattle.quoting.specs.declared.values.Value.TheVariants.{Nothing, Stream, OwnedStream, Tree, OwnedTree, Ident}
-use Rattle.quoting.specs.declared.values.Value.TheVariants.{Literal, Name, String, Character, Boolean, Number as OfNumber}
+use Rattle.quoting.specs.declared.values.Value.TheVariants.{Literal, Name, String, Character, Boolean}
+use Rattle.quoting.specs.declared.values.Value.TheVariants.{Number as OfNumber}
 use Rattle.quoting.specs.declared.values.Number.{Number}
 use Rattle.quoting.specs.declared.values.Number.TheVariants.{U8, U16, U32, U64, U128, Usize, I8, I16, I32, I64, I128}
 use Rattle.quoting.specs.declared.values.Number.TheVariants.{Isize}

@@ -32,7 +32,8 @@ returns-in_err-get-in-Trees c =
 
 pub returns-in_ok-get-in-Trees : goal.returns-in_ok-get-in-Trees
 returns-in_ok-get-in-Trees c =
-    lent (λ tree. One (split tree)) _ c.args.turn (Some c.in_ok-get-in-Trees.field-0) c.in_ok-get-in-Trees.ensures.lookup
+    lent (λ tree. One (split tree)) _ c.args.turn (Some c.in_ok-get-in-Trees.field-0)
+    c.in_ok-get-in-Trees.ensures.lookup
     ∙ ap (λ v. value_at c.args.turn (value_of v)) (sym c.in-Trees.is)
 
 pub returns-in_err-get-in-Idents : goal.returns-in_err-get-in-Idents
@@ -43,27 +44,32 @@ returns-in_err-get-in-Idents c =
 
 pub returns-in_ok-get-in-Idents : goal.returns-in_ok-get-in-Idents
 returns-in_ok-get-in-Idents c =
-    lent (λ (ident : Name). One (alone (IdentTree ident))) _ c.args.turn (Some c.in_ok-get-in-Idents.field-0) c.in_ok-get-in-Idents.ensures.lookup
+    lent (λ (ident : Name). One (alone (IdentTree ident))) _ c.args.turn (Some c.in_ok-get-in-Idents.field-0)
+    c.in_ok-get-in-Idents.ensures.lookup
     ∙ ap (λ v. value_at c.args.turn (value_of v)) (sym c.in-Idents.is)
 
 pub returns-in_err-get-in-Literals : goal.returns-in_err-get-in-Literals
 returns-in_err-get-in-Literals c =
     ap looked_up c.from_residual-in_err-get-in-Literals.ensures
-    ∙ (lent (λ (literal : Text). One (split (LiteralTree literal))) _ c.args.turn None c.in_err-get-in-Literals.ensures.lookup
+    ∙ (lent (λ (literal : Text). One (split (LiteralTree literal))) _ c.args.turn None
+    c.in_err-get-in-Literals.ensures.lookup
     ∙ ap (λ v. value_at c.args.turn (value_of v)) (sym c.in-Literals.is))
 
 pub returns-in_ok-get-in-Literals : goal.returns-in_ok-get-in-Literals
 returns-in_ok-get-in-Literals c =
-    lent (λ (literal : Text). One (split (LiteralTree literal))) _ c.args.turn (Some c.in_ok-get-in-Literals.field-0) c.in_ok-get-in-Literals.ensures.lookup
+    lent (λ (literal : Text). One (split (LiteralTree literal))) _ c.args.turn
+    (Some c.in_ok-get-in-Literals.field-0) c.in_ok-get-in-Literals.ensures.lookup
     ∙ ap (λ v. value_at c.args.turn (value_of v)) (sym c.in-Literals.is)
 
 pub returns-in_err-get-in-Strings : goal.returns-in_err-get-in-Strings
 returns-in_err-get-in-Strings c =
     ap looked_up c.from_residual-in_err-get-in-Strings.ensures
-    ∙ (lent (λ (text : Bor (List ℕ)). One (plain_literal (string_text (chars text.now)))) _ c.args.turn None c.in_err-get-in-Strings.ensures.lookup
+    ∙ (lent (λ (text : Bor (List ℕ)). One (plain_literal (string_text (chars text.now)))) _ c.args.turn None
+    c.in_err-get-in-Strings.ensures.lookup
     ∙ ap (λ v. value_at c.args.turn (value_of v)) (sym c.in-Strings.is))
 
 pub returns-in_ok-get-in-Strings : goal.returns-in_ok-get-in-Strings
 returns-in_ok-get-in-Strings c =
-    lent (λ (text : Bor (List ℕ)). One (plain_literal (string_text (chars text.now)))) _ c.args.turn (Some c.in_ok-get-in-Strings.field-0) c.in_ok-get-in-Strings.ensures.lookup
+    lent (λ (text : Bor (List ℕ)). One (plain_literal (string_text (chars text.now)))) _ c.args.turn
+    (Some c.in_ok-get-in-Strings.field-0) c.in_ok-get-in-Strings.ensures.lookup
     ∙ ap (λ v. value_at c.args.turn (value_of v)) (sym c.in-Strings.is)
