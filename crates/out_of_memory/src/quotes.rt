@@ -6,7 +6,7 @@ use crate::watched::{begin, show};
 use proc_macro2::{
     Delimiter, Group, Ident, Punct, SourceMap, Spacing, Span, TokenStream, TokenTree,
 };
-use quoting::{Hole, Number, Quote, Value, Values};
+use quoting::{Hole, Number, Quote, TemplateError, Value, Values};
 use std::alloc::Global;
 use std::io::Write;
 
@@ -77,7 +77,16 @@ fn values<W: Write>(alloc: Global, out: &mut W, quote: &mut Quote) -> Result<(),
     let template = TokenStream::from_str(VALUES, &mut SourceMap::new(alloc))?;
     let mut rows = Values::new(alloc);
     rows.push(Value::Strings(&["s", "t"]))?;
-    let rows = Value::List(rows);
+    begin(out)?;
+    show(out, fill_values(quote, &template, Value::List(rows)))
+}
+
+/// Fills the template with this value for `row`.
+fn fill_values(
+    quote: &mut Quote,
+    template: &TokenStream,
+    rows: Value<'_>,
+) -> Result<(), TemplateError> {
     let name = Value::Name(LETTERS);
     let text = Value::String(LETTERS);
     let number = Value::Number(Number::I8(-7));
@@ -87,8 +96,7 @@ fn values<W: Write>(alloc: Global, out: &mut W, quote: &mut Quote) -> Result<(),
         Hole::of("number", &number),
         Hole::of("row", &rows),
     ];
-    begin(out)?;
-    show(out, quote.fill(&template, &holes))
+    quote.fill(template, &holes)
 }
 
 /// Puts a value in a list that has no room.

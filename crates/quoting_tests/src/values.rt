@@ -5,32 +5,51 @@ use std::alloc::Global;
 use std::process::Abort;
 use std::test::Fail;
 
-// What the template prints with this value for `x`.
-fn printed<'a>(alloc: Global, template: &str, value: &'a Value<'a>) -> Result<String, Fail> {
+// What the template prints with these holes.
+fn filled(alloc: Global, template: &str, holes: &[Hole<'_>]) -> Result<String, TemplateError> {
     let mut quote = Quote::new(alloc);
-    let holes = [Hole::of("x", value)];
-    quote.parse(template, &mut SourceMap::new(alloc), &holes)?;
+    quote.parse(template, &mut SourceMap::new(alloc), holes)?;
     let stream = quote.into_stream();
     Ok(format!(in alloc; "{stream}")?)
 }
 
-// The fault of the template with this value for `x`, the column where it is, and how many trees the quote has then.
-fn fault<'a>(
-    alloc: Global,
-    template: &str,
-    value: &'a Value<'a>,
-) -> Result<Option<(TemplateError, Option<usize>, usize)>, Fail> {
+// What the template prints with this value for `x`.
+fn printed(alloc: Global, template: &str, value: Value<'_>) -> Result<String, TemplateError> {
+    let holes = [Hole::of("x", &value)];
+    filled(alloc, template, &holes)
+}
+
+/// The fault of a template, the column where it is, and how many trees the quote has then.
+type Told = (TemplateError, Option<usize>, usize);
+
+// The fault of the template with these holes.
+fn told(alloc: Global, template: &str, holes: &[Hole<'_>]) -> Option<Told> {
     let mut quote = Quote::new(alloc);
     let mut map = SourceMap::new(alloc);
-    let holes = [Hole::of("x", value)];
-    let Err(fault) = quote.parse(template, &mut map, &holes) else {
-        return Ok(None);
+    let Err(fault) = quote.parse(template, &mut map, holes) else {
+        return None;
     };
     let column = match fault.span() {
         Some(span) if map.holds(span) => Some(span.start(&map).column),
         _ => None,
     };
-    Ok(Some((fault, column, quote.into_stream().trees().len())))
+    Some((fault, column, quote.into_stream().trees().len()))
+}
+
+// The fault of `a b #x` with this value for `x`.
+fn fault_of(alloc: Global, value: Value<'_>) -> Option<Told> {
+    let holes = [Hole::of("x", &value)];
+    told(alloc, "a b #x", &holes)
+}
+
+/// Asserts that a hole of this value is a fault at its name, which leaves the quote empty. Gives the fault.
+fn check_fault(rt: &(impl Abort + AllocGlobal), value: Value<'_>) -> Option<TemplateError> {
+    let Some((fault, column, count)) = fault_of(rt.alloc(), value) else {
+        assert!(rt; false, "a fault");
+        return None;
+    };
+    assert_eq!(rt; (column, count), (Some(5), 0));
+    Some(fault)
 }
 
 fn word(alloc: Global, text: &str) -> Result<Ident, Fail> {
@@ -38,10 +57,10 @@ fn word(alloc: Global, text: &str) -> Result<Ident, Fail> {
 }
 
 /// Asserts what the template prints with this value for `x`.
-fn check<'a>(
+fn check(
     rt: &(impl Abort + AllocGlobal),
     template: &str,
-    value: &'a Value<'a>,
+    value: Value<'_>,
     want: &str,
 ) -> Result<(), Fail> {
     let text = printed(rt.alloc(), template, value)?;
@@ -52,41 +71,36 @@ fn check<'a>(
 #[test]
 fn streams_and_trees_are_put_in(rt: HostRuntime) -> Result<(), Fail> {
     let stream = TokenStream::from_str("c + d", &mut SourceMap::new(rt.alloc()))?;
-    check(&rt, "(#x, #x)", &Value::Stream(&stream), "(c + d , c + d)")?;
+    check(&rt, "(#x, #x)", Value::Stream(&stream), "(c + d , c + d)")?;
     check(
         &rt,
         "(#x, #x)",
-        &Value::OwnedStream(stream),
+        Value::OwnedStream(stream),
         "(c + d , c + d)",
     )?;
     let tree = TokenTree::Literal(Literal::i8_suffixed(rt.alloc(), -4)?);
-    check(&rt, "(#x, #x)", &Value::Tree(&tree), "(- 4i8 , - 4i8)")?;
-    check(&rt, "(#x, #x)", &Value::OwnedTree(tree), "(- 4i8 , - 4i8)")
+    check(&rt, "(#x, #x)", Value::Tree(&tree), "(- 4i8 , - 4i8)")?;
+    check(&rt, "(#x, #x)", Value::OwnedTree(tree), "(- 4i8 , - 4i8)")
 }
 
 #[test]
 fn tokens_are_put_in(rt: HostRuntime) -> Result<(), Fail> {
     let ident = word(rt.alloc(), "a")?;
-    check(&rt, "(#x, #x)", &Value::Ident(&ident), "(a , a)")?;
+    check(&rt, "(#x, #x)", Value::Ident(&ident), "(a , a)")?;
     let literal = Literal::string(rt.alloc(), "b")?;
-    check(
-        &rt,
-        "(#x, #x)",
-        &Value::Literal(&literal),
-        "(\"b\" , \"b\")",
-    )?;
+    check(&rt, "(#x, #x)", Value::Literal(&literal), "(\"b\" , \"b\")")?;
     let negative = Literal::i8_unsuffixed(rt.alloc(), -3)?;
-    check(&rt, "(#x, #x)", &Value::Literal(&negative), "(- 3 , - 3)")
+    check(&rt, "(#x, #x)", Value::Literal(&negative), "(- 3 , - 3)")
 }
 
 #[test]
 fn texts_and_truth_values_are_put_in(rt: HostRuntime) -> Result<(), Fail> {
-    check(&rt, "(#x, #x)", &Value::Nothing, "(,)")?;
-    check(&rt, "(#x, #x)", &Value::Name("fn"), "(fn , fn)")?;
-    check(&rt, "#x", &Value::String("\"\n"), "\"\\\"\\n\"")?;
-    check(&rt, "#x", &Value::Character('\''), "'\\''")?;
-    check(&rt, "(#x, #x)", &Value::Boolean(true), "(true , true)")?;
-    check(&rt, "(#x, #x)", &Value::Boolean(false), "(false , false)")
+    check(&rt, "(#x, #x)", Value::Nothing, "(,)")?;
+    check(&rt, "(#x, #x)", Value::Name("fn"), "(fn , fn)")?;
+    check(&rt, "#x", Value::String("\"\n"), "\"\\\"\\n\"")?;
+    check(&rt, "#x", Value::Character('\''), "'\\''")?;
+    check(&rt, "(#x, #x)", Value::Boolean(true), "(true , true)")?;
+    check(&rt, "(#x, #x)", Value::Boolean(false), "(false , false)")
 }
 
 #[test]
@@ -112,7 +126,7 @@ fn numbers_have_their_suffix(rt: HostRuntime) -> Result<(), Fail> {
         (Number::Isize(-1), "- 1isize"),
     ];
     for &(number, want) in &rows {
-        let text = printed(rt.alloc(), "#x", &Value::Number(number))?;
+        let text = printed(rt.alloc(), "#x", Value::Number(number))?;
         assert_eq!(rt; text.as_str(), want);
     }
     Ok(())
@@ -122,28 +136,16 @@ fn numbers_have_their_suffix(rt: HostRuntime) -> Result<(), Fail> {
 fn a_value_that_is_no_token_is_an_error_at_the_name_of_its_hole(
     rt: HostRuntime,
 ) -> Result<(), Fail> {
-    let alloc = rt.alloc();
-    let rows = [
-        Value::Name("1"),
-        Value::Name(""),
-        Value::Name("a b"),
-        Value::Name("r#a"),
-        Value::NotFinite,
-        Value::Streams(&[]),
-        Value::List(Values::new(alloc)),
-    ];
-    for value in &rows {
-        let Some((fault, column, count)) = fault(alloc, "a b #x", value)? else {
-            assert!(rt; false, "a fault");
-            return Ok(());
-        };
-        assert_eq!(rt; (column, count), (Some(5), 0));
-        match value {
-            Value::Name(_) => assert!(rt; matches!(fault, TemplateError::NotIdent(_))),
-            Value::NotFinite => assert!(rt; matches!(fault, TemplateError::NotFinite(_))),
-            _ => assert!(rt; matches!(fault, TemplateError::LoneList(_))),
-        }
+    for name in ["1", "", "a b", "r#a"] {
+        let fault = check_fault(&rt, Value::Name(name));
+        assert!(rt; matches!(fault, Some(TemplateError::NotIdent(_))));
     }
+    let fault = check_fault(&rt, Value::NotFinite);
+    assert!(rt; matches!(fault, Some(TemplateError::NotFinite(_))));
+    let fault = check_fault(&rt, Value::Streams(&[]));
+    assert!(rt; matches!(fault, Some(TemplateError::LoneList(_))));
+    let fault = check_fault(&rt, Value::List(Values::new(rt.alloc())));
+    assert!(rt; matches!(fault, Some(TemplateError::LoneList(_))));
     Ok(())
 }
 
@@ -160,19 +162,13 @@ fn lists_of_every_kind_are_repeated(rt: HostRuntime) -> Result<(), Fail> {
     let mut list = Values::new(alloc);
     list.push(Value::Number(Number::U8(1)))?;
     list.push(Value::Nothing)?;
-    let rows = [
-        (Value::Streams(&streams), "a ; b ,"),
-        (Value::Trees(stream.trees()), "a , ; , b"),
-        (Value::Idents(&idents), "a , b"),
-        (Value::Literals(&literals), "\"a\" , - 1"),
-        (Value::Strings(&["a", "b"]), "\"a\" , \"b\""),
-        (Value::List(list), "1u8 ,"),
-    ];
-    for (value, want) in &rows {
-        let text = printed(alloc, "#(#x),*", value)?;
-        assert_eq!(rt; text.as_str(), *want);
-    }
-    Ok(())
+    let each = "#(#x),*";
+    check(&rt, each, Value::Streams(&streams), "a ; b ,")?;
+    check(&rt, each, Value::Trees(stream.trees()), "a , ; , b")?;
+    check(&rt, each, Value::Idents(&idents), "a , b")?;
+    check(&rt, each, Value::Literals(&literals), "\"a\" , - 1")?;
+    check(&rt, each, Value::Strings(&["a", "b"]), "\"a\" , \"b\"")?;
+    check(&rt, each, Value::List(list), "1u8 ,")
 }
 
 // A list of two lists, of two names and of one.
@@ -185,17 +181,8 @@ fn rows<'a>(alloc: Global) -> Result<Value<'a>, Fail> {
     Ok(Value::List(rows))
 }
 
-// What the template prints with these holes.
-fn filled(alloc: Global, template: &str, holes: &[Hole<'_>]) -> Result<String, TemplateError> {
-    let mut quote = Quote::new(alloc);
-    quote.parse(template, &mut SourceMap::new(alloc), holes)?;
-    let stream = quote.into_stream();
-    Ok(format!(in alloc; "{stream}")?)
-}
-
-#[test]
-fn repetitions_are_nested(rt: HostRuntime) -> Result<(), Fail> {
-    let values = rows(rt.alloc())?;
+// What the template prints with these values for `value`, and other holes.
+fn nested(alloc: Global, template: &str, values: Value<'_>) -> Result<String, TemplateError> {
     let names = Value::Strings(&["n", "m"]);
     let all = Value::Name("z");
     let holes = [
@@ -203,7 +190,12 @@ fn repetitions_are_nested(rt: HostRuntime) -> Result<(), Fail> {
         Hole::of("name", &names),
         Hole::of("all", &all),
     ];
-    let rows = [
+    filled(alloc, template, &holes)
+}
+
+#[test]
+fn repetitions_are_nested(rt: HostRuntime) -> Result<(), Fail> {
+    let templates = [
         (
             "#( #name: [ #( #value ),* ] );*",
             "\"n\" : [\"a\" , \"b\"] ; \"m\" : [c]",
@@ -213,12 +205,12 @@ fn repetitions_are_nested(rt: HostRuntime) -> Result<(), Fail> {
             "\"a\" \"n\" z \"b\" \"n\" z c \"m\" z",
         ),
     ];
-    for &(template, want) in &rows {
-        let text = filled(rt.alloc(), template, &holes)?;
+    for &(template, want) in &templates {
+        let text = nested(rt.alloc(), template, rows(rt.alloc())?)?;
         assert_eq!(rt; text.as_str(), want);
     }
     // The third repetition inside has no list left.
-    let fault = filled(rt.alloc(), "#( #( #( #value )* )* )*", &holes);
+    let fault = nested(rt.alloc(), "#( #( #( #value )* )* )*", rows(rt.alloc())?);
     assert!(rt; matches!(fault, Err(TemplateError::NoList(_))));
     Ok(())
 }

@@ -110,6 +110,7 @@ fn calls_in_place_of_quotes() -> Outcome {
     let mut quote = Quote::new();
     quote.parse("fn #name() {}", &mut map, &[Hole::one("name", &name)])?;
     assert_eq!(quote.finish()?.to_string(), "fn g () { }");
+    assert_eq!(quote.into_stream().to_string(), "fn g () { }");
     assert_eq!(quote! { fn #name() {} }.to_string(), "fn g () { }");
     let (template, ident) = ("fn #name() {}", format_ident!("{}", "g"));
     let mut stream = {
@@ -151,15 +152,6 @@ fn calls_in_place_of_syns() -> Outcome {
     assert_eq!(header.to_string(), "impl < T : A > Clone for S < T > where T : C , T : Clone");
     let (text, span) = ("a", item.name.span());
     assert_eq!(compile_error(text, span)?.to_string(), ":: core :: compile_error ! { \"a\" }");
-    let trees = item.name.to_string().parse::<TokenStream>()?;
-    let (trees, names) = (trees.trees(), &["S"][..]);
-    check_entries(trees, names)?;
-    let Some(TokenTree::Group(group)) = item.attributes.last() else { panic!("it is an attribute") };
-    assert_eq!(Entries::new(group).count(), 1);
-    let other = CompileError::new_spanned(trees, text);
-    let mut error = CompileError::new(span, text);
-    error.combine(other);
-    assert_eq!(error.to_compile_error().trees().len(), 16);
     let error = parse_type_item(path.trees()).err().ok_or("it is no item")?;
     assert_eq!(error.to_compile_error()?.to_string(), ":: core :: compile_error ! { \"not expected here\" }");
     Ok(())

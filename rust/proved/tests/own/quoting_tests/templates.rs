@@ -262,7 +262,8 @@ fn tokens_of_the_template_and_of_the_holes_keep_their_spans() -> Result<(), Fail
     let mut map = SourceMap::new();
     let name = TokenStream::from_str("point", &mut map)?;
     let mut quote = Quote::new();
-    quote.parse("let #name = (1);", &mut map, &[Hole::one("name", &name)])?;
+    let holes = [Hole::one("name", &name)];
+    quote.parse("let #name = (1);", &mut map, &holes)?;
     let stream = quote.finish()?;
     let [word, name, equals, group, end] = stream.trees() else {
         assert!(false, "five trees");

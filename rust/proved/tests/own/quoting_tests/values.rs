@@ -1,7 +1,7 @@
 // Made from crates/quoting_tests/src/values.rt by rust/erase: change that file, not this one.
 //! Values of every kind in the holes of templates, and lists of lists.
 
-use crate::shim::prelude::{HostRuntime, TryClone, format};
+use crate::shim::prelude::{AllocGlobal, HostRuntime, TryClone, format};
 
 use proved_tokens::proc_macro2::{Ident, Literal, SourceMap, Span, TokenStream, TokenTree};
 use proved_tokens::quoting::{Hole, Number, Quote, TemplateError, Value, Values};
@@ -9,25 +9,23 @@ use crate::shim::process::Abort;
 use crate::shim::test::Fail;
 
 // What the template prints with this value for `x`.
-fn printed(template: &str, value: &Value<'_>) -> Result<String, Fail> {
+fn printed<'a>(template: &str, value: &'a Value<'a>) -> Result<String, Fail> {
     let mut quote = Quote::new();
-    quote.parse(
-        template,
-        &mut SourceMap::new(),
-        &[Hole::of("x", value)],
-    )?;
+    let holes = [Hole::of("x", value)];
+    quote.parse(template, &mut SourceMap::new(), &holes)?;
     let stream = quote.into_stream();
     Ok(format!("{stream}")?)
 }
 
 // The fault of the template with this value for `x`, the column where it is, and how many trees the quote has then.
-fn fault(
+fn fault<'a>(
     template: &str,
-    value: &Value<'_>,
+    value: &'a Value<'a>,
 ) -> Result<Option<(TemplateError, Option<usize>, usize)>, Fail> {
     let mut quote = Quote::new();
     let mut map = SourceMap::new();
-    let Err(fault) = quote.parse(template, &mut map, &[Hole::of("x", value)]) else {
+    let holes = [Hole::of("x", value)];
+    let Err(fault) = quote.parse(template, &mut map, &holes) else {
         return Ok(None);
     };
     let column = match fault.span() {
@@ -41,37 +39,59 @@ fn word(text: &str) -> Result<Ident, Fail> {
     Ok(Ident::new(text, Span::call_site())?)
 }
 
+/// Asserts what the template prints with this value for `x`.
+fn check<'a>(
+    rt: &(impl Abort + AllocGlobal),
+    template: &str,
+    value: &'a Value<'a>,
+    want: &str,
+) -> Result<(), Fail> {
+    let text = printed(template, value)?;
+    assert_eq!(text.as_str(), want, "of {template:?}");
+    Ok(())
+}
+
 #[test]
-fn values_of_every_kind_are_put_in() -> Result<(), Fail> {
+fn streams_and_trees_are_put_in() -> Result<(), Fail> {
+    let rt = HostRuntime;
+    let stream = TokenStream::from_str("c + d", &mut SourceMap::new())?;
+    check(&rt, "(#x, #x)", &Value::Stream(&stream), "(c + d , c + d)")?;
+    check(
+        &rt,
+        "(#x, #x)",
+        &Value::OwnedStream(stream),
+        "(c + d , c + d)",
+    )?;
+    let tree = TokenTree::Literal(Literal::i8_suffixed(-4)?);
+    check(&rt, "(#x, #x)", &Value::Tree(&tree), "(- 4i8 , - 4i8)")?;
+    check(&rt, "(#x, #x)", &Value::OwnedTree(tree), "(- 4i8 , - 4i8)")
+}
+
+#[test]
+fn tokens_are_put_in() -> Result<(), Fail> {
     let rt = HostRuntime;
     let ident = word("a")?;
+    check(&rt, "(#x, #x)", &Value::Ident(&ident), "(a , a)")?;
     let literal = Literal::string("b")?;
+    check(
+        &rt,
+        "(#x, #x)",
+        &Value::Literal(&literal),
+        "(\"b\" , \"b\")",
+    )?;
     let negative = Literal::i8_unsuffixed(-3)?;
-    let tree = TokenTree::Literal(Literal::i8_suffixed(-4)?);
-    let stream = TokenStream::from_str("c + d", &mut SourceMap::new())?;
-    let rows = [
-        (Value::Nothing, "(,)"),
-        (Value::Stream(&stream), "(c + d , c + d)"),
-        (Value::OwnedStream(stream.try_clone()?), "(c + d , c + d)"),
-        (Value::Tree(&tree), "(- 4i8 , - 4i8)"),
-        (
-            Value::OwnedTree(TokenTree::Ident(word("e")?)),
-            "(e , e)",
-        ),
-        (Value::Ident(&ident), "(a , a)"),
-        (Value::Literal(&literal), "(\"b\" , \"b\")"),
-        (Value::Literal(&negative), "(- 3 , - 3)"),
-        (Value::Name("fn"), "(fn , fn)"),
-        (Value::String("\"\n"), "(\"\\\"\\n\" , \"\\\"\\n\")"),
-        (Value::Character('\''), "('\\'' , '\\'')"),
-        (Value::Boolean(true), "(true , true)"),
-        (Value::Boolean(false), "(false , false)"),
-    ];
-    for (value, want) in &rows {
-        let text = printed("(#x, #x)", value)?;
-        assert_eq!(text.as_str(), *want);
-    }
-    Ok(())
+    check(&rt, "(#x, #x)", &Value::Literal(&negative), "(- 3 , - 3)")
+}
+
+#[test]
+fn texts_and_truth_values_are_put_in() -> Result<(), Fail> {
+    let rt = HostRuntime;
+    check(&rt, "(#x, #x)", &Value::Nothing, "(,)")?;
+    check(&rt, "(#x, #x)", &Value::Name("fn"), "(fn , fn)")?;
+    check(&rt, "#x", &Value::String("\"\n"), "\"\\\"\\n\"")?;
+    check(&rt, "#x", &Value::Character('\''), "'\\''")?;
+    check(&rt, "(#x, #x)", &Value::Boolean(true), "(true , true)")?;
+    check(&rt, "(#x, #x)", &Value::Boolean(false), "(false , false)")
 }
 
 #[test]
@@ -161,12 +181,20 @@ fn lists_of_every_kind_are_repeated() -> Result<(), Fail> {
 
 // A list of two lists, of two names and of one.
 fn rows<'a>() -> Result<Value<'a>, Fail> {
-    let mut rows = Values::new();
-    rows.push(Value::Strings(&["a", "b"]))?;
     let mut one = Values::new();
     one.push(Value::Name("c"))?;
+    let mut rows = Values::new();
+    rows.push(Value::Strings(&["a", "b"]))?;
     rows.push(Value::List(one))?;
     Ok(Value::List(rows))
+}
+
+// What the template prints with these holes.
+fn filled(template: &str, holes: &[Hole<'_>]) -> Result<String, TemplateError> {
+    let mut quote = Quote::new();
+    quote.parse(template, &mut SourceMap::new(), holes)?;
+    let stream = quote.into_stream();
+    Ok(format!("{stream}")?)
 }
 
 #[test]
@@ -189,21 +217,13 @@ fn repetitions_are_nested() -> Result<(), Fail> {
             "#( #( #value #name #all )* )*",
             "\"a\" \"n\" z \"b\" \"n\" z c \"m\" z",
         ),
-        ("#( #( #( #value )* )* )*", ""),
     ];
     for &(template, want) in &rows {
-        let mut quote = Quote::new();
-        match quote.parse(template, &mut SourceMap::new(), &holes) {
-            Ok(()) => {
-                let stream = quote.into_stream();
-                let text = format!("{stream}")?;
-                assert_eq!(text.as_str(), want);
-            }
-            Err(error) => {
-                assert_eq!(want, "");
-                assert!(matches!(error, TemplateError::NoList(_)));
-            }
-        }
+        let text = filled(template, &holes)?;
+        assert_eq!(text.as_str(), want);
     }
+    // The third repetition inside has no list left.
+    let fault = filled("#( #( #( #value )* )* )*", &holes);
+    assert!(matches!(fault, Err(TemplateError::NoList(_))));
     Ok(())
 }
