@@ -7,6 +7,9 @@
 # the distribution's, from CARGO_REGISTRY or /usr/share/cargo/registry; nothing is fetched. The two programs run in
 # turn, so many times each (else 3), and the least times are printed in nanoseconds, sizes in bytes, and how long each
 # crate with its dependencies and default features takes to compile for release, in processor milliseconds.
+#
+# Where the linker happens to place a loop changes calls of a few nanoseconds by up to a third. So in both programs what
+# no other code runs into begins at a multiple of 64 bytes.
 set -eu
 crate=$(cd "$1" && pwd)
 sources=$(cd "$2" && pwd)
@@ -39,7 +42,8 @@ proc-macro2 = { path = "$path" }
 END
     sed '/^\(quote\|syn\) =/d' bench/Cargo.toml > "$room/$name/empty/Cargo.toml"
     echo 'fn main() {}' > "$room/$name/empty/src/main.rs"
-    (cd "$room/$name" && cargo build --release --offline --quiet)
+    (cd "$room/$name" &&
+        RUSTFLAGS="-C llvm-args=-align-all-nofallthru-blocks=6" cargo build --release --offline --quiet)
 done
 for _ in $(seq "$runs"); do
     for name in package public; do
