@@ -6,8 +6,8 @@ use crate::proc_macro2::{Ident, Literal, TokenStream, TokenTree};
 /// What comes in the place of a hole: trees, or a list whose next value comes in each turn of a repetition.
 ///
 /// Trees come as they are, with their spans. A token that is made of a text, a number, a character or a `bool` has
-/// the span of [`Span::call_site`](crate::proc_macro2::Span::call_site). A negative literal comes as two trees, the mark `-`
-/// Alone and the rest.
+/// the span of [`Span::call_site`](crate::proc_macro2::Span::call_site). A negative literal comes as two trees: the
+/// mark `-`, which is Alone, and the rest.
 ///
 /// `Value::Number(Number::I8(-7))` is `-` and `7i8`, and `Value::String("a")` is `"a"`.
 pub enum Value<'a> {

@@ -256,14 +256,24 @@ fn templates_are_filled() -> Result<(), Fail> {
     Ok(())
 }
 
+// Adds the template with this stream for `name` to the quote.
+fn name_filled(
+    quote: &mut Quote,
+    template: &str,
+    map: &mut SourceMap,
+    name: &TokenStream,
+) -> Result<(), TemplateError> {
+    let holes = [Hole::one("name", name)];
+    quote.parse(template, map, &holes)
+}
+
 #[test]
 fn tokens_of_the_template_and_of_the_holes_keep_their_spans() -> Result<(), Fail> {
     let rt = HostRuntime;
     let mut map = SourceMap::new();
     let name = TokenStream::from_str("point", &mut map)?;
     let mut quote = Quote::new();
-    let holes = [Hole::one("name", &name)];
-    quote.parse("let #name = (1);", &mut map, &holes)?;
+    name_filled(&mut quote, "let #name = (1);", &mut map, &name)?;
     let stream = quote.finish()?;
     let [word, name, equals, group, end] = stream.trees() else {
         assert!(false, "five trees");

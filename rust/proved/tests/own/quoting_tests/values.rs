@@ -8,31 +8,51 @@ use proved_tokens::quoting::{Hole, Number, Quote, TemplateError, Value, Values};
 use crate::shim::process::Abort;
 use crate::shim::test::Fail;
 
-// What the template prints with this value for `x`.
-fn printed<'a>(template: &str, value: &'a Value<'a>) -> Result<String, Fail> {
+// What the template prints with these holes.
+fn filled(template: &str, holes: &[Hole<'_>]) -> Result<String, TemplateError> {
     let mut quote = Quote::new();
-    let holes = [Hole::of("x", value)];
-    quote.parse(template, &mut SourceMap::new(), &holes)?;
+    quote.parse(template, &mut SourceMap::new(), holes)?;
     let stream = quote.into_stream();
     Ok(format!("{stream}")?)
 }
 
-// The fault of the template with this value for `x`, the column where it is, and how many trees the quote has then.
-fn fault<'a>(
-    template: &str,
-    value: &'a Value<'a>,
-) -> Result<Option<(TemplateError, Option<usize>, usize)>, Fail> {
+// What the template prints with this value for `x`.
+fn printed(template: &str, value: Value<'_>) -> Result<String, TemplateError> {
+    let holes = [Hole::of("x", &value)];
+    filled(template, &holes)
+}
+
+/// The fault of a template, the column where it is, and how many trees the quote has then.
+type Told = (TemplateError, Option<usize>, usize);
+
+// The fault of the template with these holes.
+fn told(template: &str, holes: &[Hole<'_>]) -> Option<Told> {
     let mut quote = Quote::new();
     let mut map = SourceMap::new();
-    let holes = [Hole::of("x", value)];
-    let Err(fault) = quote.parse(template, &mut map, &holes) else {
-        return Ok(None);
+    let Err(fault) = quote.parse(template, &mut map, holes) else {
+        return None;
     };
     let column = match fault.span() {
         Some(span) if map.holds(span) => Some(span.start(&map).column),
         _ => None,
     };
-    Ok(Some((fault, column, quote.into_stream().trees().len())))
+    Some((fault, column, quote.into_stream().trees().len()))
+}
+
+// The fault of `a b #x` with this value for `x`.
+fn fault_of(value: Value<'_>) -> Option<Told> {
+    let holes = [Hole::of("x", &value)];
+    told("a b #x", &holes)
+}
+
+/// Asserts that a hole of this value is a fault at its name, which leaves the quote empty. Gives the fault.
+fn check_fault(rt: &(impl Abort + AllocGlobal), value: Value<'_>) -> Option<TemplateError> {
+    let Some((fault, column, count)) = fault_of(value) else {
+        assert!(false, "a fault");
+        return None;
+    };
+    assert_eq!((column, count), (Some(5), 0));
+    Some(fault)
 }
 
 fn word(text: &str) -> Result<Ident, Fail> {
@@ -40,10 +60,10 @@ fn word(text: &str) -> Result<Ident, Fail> {
 }
 
 /// Asserts what the template prints with this value for `x`.
-fn check<'a>(
+fn check(
     rt: &(impl Abort + AllocGlobal),
     template: &str,
-    value: &'a Value<'a>,
+    value: Value<'_>,
     want: &str,
 ) -> Result<(), Fail> {
     let text = printed(template, value)?;
@@ -55,43 +75,38 @@ fn check<'a>(
 fn streams_and_trees_are_put_in() -> Result<(), Fail> {
     let rt = HostRuntime;
     let stream = TokenStream::from_str("c + d", &mut SourceMap::new())?;
-    check(&rt, "(#x, #x)", &Value::Stream(&stream), "(c + d , c + d)")?;
+    check(&rt, "(#x, #x)", Value::Stream(&stream), "(c + d , c + d)")?;
     check(
         &rt,
         "(#x, #x)",
-        &Value::OwnedStream(stream),
+        Value::OwnedStream(stream),
         "(c + d , c + d)",
     )?;
     let tree = TokenTree::Literal(Literal::i8_suffixed(-4)?);
-    check(&rt, "(#x, #x)", &Value::Tree(&tree), "(- 4i8 , - 4i8)")?;
-    check(&rt, "(#x, #x)", &Value::OwnedTree(tree), "(- 4i8 , - 4i8)")
+    check(&rt, "(#x, #x)", Value::Tree(&tree), "(- 4i8 , - 4i8)")?;
+    check(&rt, "(#x, #x)", Value::OwnedTree(tree), "(- 4i8 , - 4i8)")
 }
 
 #[test]
 fn tokens_are_put_in() -> Result<(), Fail> {
     let rt = HostRuntime;
     let ident = word("a")?;
-    check(&rt, "(#x, #x)", &Value::Ident(&ident), "(a , a)")?;
+    check(&rt, "(#x, #x)", Value::Ident(&ident), "(a , a)")?;
     let literal = Literal::string("b")?;
-    check(
-        &rt,
-        "(#x, #x)",
-        &Value::Literal(&literal),
-        "(\"b\" , \"b\")",
-    )?;
+    check(&rt, "(#x, #x)", Value::Literal(&literal), "(\"b\" , \"b\")")?;
     let negative = Literal::i8_unsuffixed(-3)?;
-    check(&rt, "(#x, #x)", &Value::Literal(&negative), "(- 3 , - 3)")
+    check(&rt, "(#x, #x)", Value::Literal(&negative), "(- 3 , - 3)")
 }
 
 #[test]
 fn texts_and_truth_values_are_put_in() -> Result<(), Fail> {
     let rt = HostRuntime;
-    check(&rt, "(#x, #x)", &Value::Nothing, "(,)")?;
-    check(&rt, "(#x, #x)", &Value::Name("fn"), "(fn , fn)")?;
-    check(&rt, "#x", &Value::String("\"\n"), "\"\\\"\\n\"")?;
-    check(&rt, "#x", &Value::Character('\''), "'\\''")?;
-    check(&rt, "(#x, #x)", &Value::Boolean(true), "(true , true)")?;
-    check(&rt, "(#x, #x)", &Value::Boolean(false), "(false , false)")
+    check(&rt, "(#x, #x)", Value::Nothing, "(,)")?;
+    check(&rt, "(#x, #x)", Value::Name("fn"), "(fn , fn)")?;
+    check(&rt, "#x", Value::String("\"\n"), "\"\\\"\\n\"")?;
+    check(&rt, "#x", Value::Character('\''), "'\\''")?;
+    check(&rt, "(#x, #x)", Value::Boolean(true), "(true , true)")?;
+    check(&rt, "(#x, #x)", Value::Boolean(false), "(false , false)")
 }
 
 #[test]
@@ -118,7 +133,7 @@ fn numbers_have_their_suffix() -> Result<(), Fail> {
         (Number::Isize(-1), "- 1isize"),
     ];
     for &(number, want) in &rows {
-        let text = printed("#x", &Value::Number(number))?;
+        let text = printed("#x", Value::Number(number))?;
         assert_eq!(text.as_str(), want);
     }
     Ok(())
@@ -127,27 +142,16 @@ fn numbers_have_their_suffix() -> Result<(), Fail> {
 #[test]
 fn a_value_that_is_no_token_is_an_error_at_the_name_of_its_hole() -> Result<(), Fail> {
     let rt = HostRuntime;
-    let rows = [
-        Value::Name("1"),
-        Value::Name(""),
-        Value::Name("a b"),
-        Value::Name("r#a"),
-        Value::NotFinite,
-        Value::Streams(&[]),
-        Value::List(Values::new()),
-    ];
-    for value in &rows {
-        let Some((fault, column, count)) = fault("a b #x", value)? else {
-            assert!(false, "a fault");
-            return Ok(());
-        };
-        assert_eq!((column, count), (Some(5), 0));
-        match value {
-            Value::Name(_) => assert!(matches!(fault, TemplateError::NotIdent(_))),
-            Value::NotFinite => assert!(matches!(fault, TemplateError::NotFinite(_))),
-            _ => assert!(matches!(fault, TemplateError::LoneList(_))),
-        }
+    for name in ["1", "", "a b", "r#a"] {
+        let fault = check_fault(&rt, Value::Name(name));
+        assert!(matches!(fault, Some(TemplateError::NotIdent(_))));
     }
+    let fault = check_fault(&rt, Value::NotFinite);
+    assert!(matches!(fault, Some(TemplateError::NotFinite(_))));
+    let fault = check_fault(&rt, Value::Streams(&[]));
+    assert!(matches!(fault, Some(TemplateError::LoneList(_))));
+    let fault = check_fault(&rt, Value::List(Values::new()));
+    assert!(matches!(fault, Some(TemplateError::LoneList(_))));
     Ok(())
 }
 
@@ -164,19 +168,13 @@ fn lists_of_every_kind_are_repeated() -> Result<(), Fail> {
     let mut list = Values::new();
     list.push(Value::Number(Number::U8(1)))?;
     list.push(Value::Nothing)?;
-    let rows = [
-        (Value::Streams(&streams), "a ; b ,"),
-        (Value::Trees(stream.trees()), "a , ; , b"),
-        (Value::Idents(&idents), "a , b"),
-        (Value::Literals(&literals), "\"a\" , - 1"),
-        (Value::Strings(&["a", "b"]), "\"a\" , \"b\""),
-        (Value::List(list), "1u8 ,"),
-    ];
-    for (value, want) in &rows {
-        let text = printed("#(#x),*", value)?;
-        assert_eq!(text.as_str(), *want);
-    }
-    Ok(())
+    let each = "#(#x),*";
+    check(&rt, each, Value::Streams(&streams), "a ; b ,")?;
+    check(&rt, each, Value::Trees(stream.trees()), "a , ; , b")?;
+    check(&rt, each, Value::Idents(&idents), "a , b")?;
+    check(&rt, each, Value::Literals(&literals), "\"a\" , - 1")?;
+    check(&rt, each, Value::Strings(&["a", "b"]), "\"a\" , \"b\"")?;
+    check(&rt, each, Value::List(list), "1u8 ,")
 }
 
 // A list of two lists, of two names and of one.
@@ -189,18 +187,8 @@ fn rows<'a>() -> Result<Value<'a>, Fail> {
     Ok(Value::List(rows))
 }
 
-// What the template prints with these holes.
-fn filled(template: &str, holes: &[Hole<'_>]) -> Result<String, TemplateError> {
-    let mut quote = Quote::new();
-    quote.parse(template, &mut SourceMap::new(), holes)?;
-    let stream = quote.into_stream();
-    Ok(format!("{stream}")?)
-}
-
-#[test]
-fn repetitions_are_nested() -> Result<(), Fail> {
-    let rt = HostRuntime;
-    let values = rows()?;
+// What the template prints with these values for `value`, and other holes.
+fn nested(template: &str, values: Value<'_>) -> Result<String, TemplateError> {
     let names = Value::Strings(&["n", "m"]);
     let all = Value::Name("z");
     let holes = [
@@ -208,7 +196,13 @@ fn repetitions_are_nested() -> Result<(), Fail> {
         Hole::of("name", &names),
         Hole::of("all", &all),
     ];
-    let rows = [
+    filled(template, &holes)
+}
+
+#[test]
+fn repetitions_are_nested() -> Result<(), Fail> {
+    let rt = HostRuntime;
+    let templates = [
         (
             "#( #name: [ #( #value ),* ] );*",
             "\"n\" : [\"a\" , \"b\"] ; \"m\" : [c]",
@@ -218,12 +212,12 @@ fn repetitions_are_nested() -> Result<(), Fail> {
             "\"a\" \"n\" z \"b\" \"n\" z c \"m\" z",
         ),
     ];
-    for &(template, want) in &rows {
-        let text = filled(template, &holes)?;
+    for &(template, want) in &templates {
+        let text = nested(template, rows()?)?;
         assert_eq!(text.as_str(), want);
     }
     // The third repetition inside has no list left.
-    let fault = filled("#( #( #( #value )* )* )*", &holes);
+    let fault = nested("#( #( #( #value )* )* )*", rows()?);
     assert!(matches!(fault, Err(TemplateError::NoList(_))));
     Ok(())
 }
