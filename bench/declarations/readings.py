@@ -5,24 +5,43 @@ For each part, and each list of signs over an alphabet, it looks for all reading
 must be one at most. The walk by the tables in `specs/` must end exactly where there is one, and go on exactly where
 the list is a front of one. The tables are read from the definitions, so a wrong row of these shows here.
 
-Usage: readings.py [LENGTH [PART]]
+Entries of attributes and parameters of functions have no table. In place of a walk by tables, these are read by their
+rules in `specs/rules`, as `checks/grammar_value.py` reads this value. So are generic parameters, without the brackets.
+
+Usage: readings.py [--code] [LENGTH [PART..]]
+
+With `--code` it compares what the calls for entries, parameters and patterns return with the same grammar, on the same
+lists: the numbers of trees in the parts, the kinds, and where faults are. The calls are those of the package
+`proved-tokens`. `bench/declarations/answers`, which cargo builds, calls them. Lists in which two signs would be another
+sign together, such as `#` and `!`, are left out.
 """
 import os
 import re
+import subprocess
 import sys
+import tempfile
 
+sys.dont_write_bytecode = True
 HERE = os.path.dirname(os.path.abspath(__file__))
 SPECS = os.path.join(HERE, "..", "..", "crates", "declarations", "specs")
+sys.path.insert(0, os.path.join(HERE, "..", "..", "checks"))
+from grammar_value import Machine, Value, start  # noqa: E402
 
 
 # ---- all readings by the grammar
 
-def grammar(text):
+def grammar(text, signs):
+    """The rules of a text, over these signs."""
     rules = {}
     for line in text.splitlines():
         if "=" in line and not line.startswith("#"):
-            name, body = line.split("=", 1)
-            rules[name.strip()] = alternatives(re.findall(r"\w+|[()|?*!]", body))[0]
+            name, body = (part.strip() for part in line.split("=", 1))
+            if name in rules:
+                raise ValueError("two rules have the name " + name)
+            rules[name] = alternatives(re.findall(r"\w+|[()|?*!]", body))[0]
+    for name in re.findall(r"\w+", re.sub("#.*", "", text)):
+        if name not in rules and name not in signs:
+            raise ValueError("there is no rule or sign " + name)
     return rules
 
 
@@ -147,6 +166,11 @@ TURNS = {"Stay": 0, "Open": 1, "Close": -1}
 WORDS = "Auto Default Safe Union".split()
 KEYWORDS = ("Async Const Dyn Enum Extern Fn For Impl Macro Mod Mut Pub Static Struct Trait Type Unsafe Use "
             "Where").split()
+
+
+def names_of(classes):
+    """The names that the signs of these classes have in the grammar."""
+    return WORDS + KEYWORDS + [sign[0] for sign in classes]
 
 
 def class_of(sign):
@@ -300,24 +324,216 @@ PARTS = [
 ]
 
 
-def main():
-    longest = int(sys.argv[1]) if len(sys.argv) > 1 else 6
-    with open(os.path.join(HERE, "grammar.txt")) as file:
-        reader = Reader(grammar(file.read()))
-    tables, wrong, count = Tables(), 0, 0
-    wanted = sys.argv[2:] or [part[0] for part in PARTS]
+# Parts that have no table, or begin too late in those that have one: the rule of the value, and alphabets.
+PROVED = [
+    ("parameter", "Parts.parameter", [
+        "Const Word Colon Equals Minus Literal Braces Truth", "Hash Brackets Lifetime Colon Word Plus Equals"]),
+    ("receiver", "Parameters.receiver", ["And Lifetime Mut SelfValue Word Colon"]),
+    ("pattern", "Parameters.pattern", [
+        "Word Mut And Braces Parentheses Colon", "Word PathSeparator Less Greater Comma Braces",
+        "Keyword SelfType Super Crate SelfValue Underscore",
+        "Truth Literal Minus Infix Equals Exclamation", "Word Dot Bar Comma Infix Brackets Invisible",
+        "Restriction Visibility Braces Less Greater Plus"]),
+    ("fn_parameter", "Parameters.function_parameter", [
+        "Hash Brackets SelfValue Mut And Lifetime Colon Word", "And Mut SelfValue Word Colon Dot Comma",
+        "Dot Colon Word SelfValue Hash Brackets Mut", "Word Less Greater PathSeparator Colon Braces Comma",
+        "Mut Keyword SelfType Super Crate Underscore Colon", "And Truth Literal Minus Infix Equals Colon Word",
+        "Exclamation Braces Parentheses Restriction Invisible Visibility Colon And",
+        "Less LessJoint Greater Lifetime Colon Plus Mut", "Word Colon Arrow Exclamation Brackets Dot And"]),
+    ("fn_parameters", "Parameters.function_parameters", [
+        "Word Colon Comma SelfValue And Dot", "Hash Brackets Mut SelfValue Comma Word Colon",
+        "Word Colon Comma Less Greater Parentheses"]),
+    ("entry", "Entries.entry", [
+        "Word PathSeparator Parentheses Equals Literal Minus Truth", "Word As Equals Greater Arrow Literal Comma",
+        "Word Equals Less Greater Comma And Bar", "Keyword SelfValue SelfType Super Crate Await Jump PathSeparator",
+        "Braces Brackets Invisible Visibility Restriction Word Equals",
+        "Word Equals Dot Hash Brackets Lifetime Literal"]),
+    ("entries", "Entries.entries", ["Word Comma Equals Literal Parentheses", "Minus Literal Truth Comma Word"]),
+]
+
+
+class ByTables:
+    """The steps of a part by the tables. A place is `None` where no step leads."""
+
+    def __init__(self, tables, item, rule, state):
+        self.tables, self.first = tables, (item, rule, state, 0)
+
+    def step(self, place, sign):
+        return self.tables.step(place, class_of(sign))
+
+    def ends(self, place):
+        return self.tables.ends(place)
+
+
+class ByValue:
+    """The steps of a part by the value."""
+
+    def __init__(self, value, rule):
+        self.machine, self.first = Machine(value.body), start(("ref", value.key(rule)))
+
+    def step(self, place, sign):
+        found = class_of(sign)
+        return self.machine.step(place, (found[0], (found[1],)) if isinstance(found, tuple) else (found,)) or None
+
+    def ends(self, place):
+        return self.machine.ends(place)
+
+
+def parts(tables, value):
+    """The parts, each with what takes its steps, and alphabets."""
     for part, item, rule, state, alphabets in PARTS:
-        if part not in wanted:
+        yield part, ByTables(tables, item, rule, state), alphabets
+    for part, rule, alphabets in PROVED:
+        yield part, ByValue(value, rule), alphabets
+
+
+# ---- the comparison with what the calls return
+
+TWO_TREES = ("Lifetime", "PathSeparator", "Arrow", "LessEquals", "Bars", "HashBang")
+ANOTHER_SIGN = (("Hash", "Exclamation"), ("LessJoint", "Equals"))
+CALLED = ("pattern", "fn_parameter", "fn_parameters", "entry", "entries")
+
+
+def trees(signs):
+    return sum(2 if sign in TWO_TREES else 1 for sign in signs)
+
+
+class Expected:
+    """What the calls return by the grammar."""
+
+    def __init__(self, reader):
+        self.reader = reader
+
+    def is_whole(self, part, signs):
+        return self.reader.read(("name", part), signs)[0].get(len(signs), 0) == 1
+
+    def front(self, part, signs):
+        """How long the longest front is that some signs could follow, or that is whole, and whether it is whole."""
+        for count in range(len(signs), -1, -1):
+            counts, goes_on = self.reader.read(("name", part), signs[:count])
+            if goes_on or counts.get(count):
+                return count, counts.get(count) == 1
+        raise ValueError("nothing begins " + part)
+
+    def answer(self, part, signs):
+        if part in ("fn_parameters", "entries"):
+            return self.elements(part, {"fn_parameters": "fn_parameter", "entries": "entry"}[part], signs)
+        count, is_whole = self.front(part, signs)
+        if not is_whole:
+            return "fault %d" % trees(signs[:count])
+        parts = {"pattern": lambda signs: [], "fn_parameter": self.parameter, "entry": self.entry}[part](signs[:count])
+        return " ".join(["ok", str(trees(signs[:count]))] + parts)
+
+    def elements(self, part, element, signs):
+        """How many elements an iterator gives, and whether a fault ends them."""
+        left, count = signs, 0
+        while left:
+            size, is_whole = self.front(element, left)
+            if not is_whole or left[size:size + 1] not in ((), ("Comma",)):
+                break
+            left, count = left[size + 1:], count + 1
+        if (not left) != self.is_whole(part, signs):
+            raise ValueError("%s isn't what its elements are: %s" % (part, " ".join(signs)))
+        return ("fault %d" if left else "ok %d") % count
+
+    def parameter(self, signs):
+        at = 0
+        while signs[at:at + 2] == ("Hash", "Brackets"):
+            at += 2
+        rest, found = signs[at:], []
+        if self.is_whole("receiver", rest):
+            found.append((rest, "Receiver", 0))
+        if self.is_whole("dots", rest):
+            found.append(((), "Variadic", 0))
+        for colon in [place for place, sign in enumerate(rest) if sign == "Colon"]:
+            name, end = rest[:colon], rest[colon + 1:]
+            for named, ended, kind in (("receiver", "type", "TypedReceiver"), ("parameter_pattern", "type", "Typed"),
+                                       ("parameter_pattern", "dots", "Variadic")):
+                if self.is_whole(named, name) and self.is_whole(ended, end):
+                    found.append((name, kind, trees(end) if ended == "type" else 0))
+        (name, kind, size), = found
+        return [str(trees(signs[:at])), str(trees(name)), kind, str(size)]
+
+    def entry(self, signs):
+        if self.is_whole("entry_literal", signs):
+            return ["0", "Literal", str(trees(signs))]
+        at = max(count for count in range(len(signs) + 1) if self.is_whole("entry_path", signs[:count]))
+        path, rest = str(trees(signs[:at])), signs[at:]
+        if not rest:
+            return [path, "Path", "0"]
+        return [path, "Value", str(trees(rest[1:]))] if rest[0] == "Equals" else [path, "List", "1"]
+
+
+def lists(reader, part, alphabets, longest):
+    """All fronts of the part up to this length, each with one sign more too, but for those that are other signs."""
+    known = set()
+    for alphabet in alphabets:
+        left = [()]
+        while left:
+            signs = left.pop()
+            if any(pair in ANOTHER_SIGN for pair in zip(signs, signs[1:])):
+                continue
+            known.add(signs)
+            counts, goes_on = reader.read(("name", part), signs)
+            if (goes_on or counts.get(len(signs))) and len(signs) < longest:
+                left += [signs + (sign,) for sign in alphabet.split()]
+    return sorted(known)
+
+
+def compare_code(reader, longest, wanted):
+    package = os.path.join(HERE, "answers")
+    count = wrong = 0
+    with tempfile.TemporaryDirectory() as folder:
+        subprocess.run(["cargo", "build", "--release", "--offline", "--quiet", "-j1", "--manifest-path",
+                        os.path.join(package, "Cargo.toml")], env=dict(os.environ, CARGO_TARGET_DIR=folder), check=True)
+        for part, _, alphabets in PROVED:
+            if part not in CALLED or wanted and part not in wanted:
+                continue
+            asked = lists(reader, part, alphabets, longest)
+            said = subprocess.run([os.path.join(folder, "release", "declarations-answers")], check=True, text=True,
+                                  input="".join("%s %s\n" % (part, " ".join(signs)) for signs in asked),
+                                  stdout=subprocess.PIPE).stdout.splitlines()
+            expected = Expected(reader)
+            whole = 0
+            for signs, answer in zip(asked, said):
+                wished = expected.answer(part, signs)
+                count += 1
+                whole += wished.startswith("ok")
+                if wished != answer:
+                    wrong += 1
+                    print("wrong: %s of %s is %s, not %s" % (part, " ".join(signs), answer, wished))
+                    if wrong > 20:
+                        return 1
+            if len(said) != len(asked):
+                print("wrong: %d answers to %d lists of %s" % (len(said), len(asked), part))
+                wrong += 1
+            print("%s: %d lists, %d of them without a fault" % (part, len(asked), whole))
+    print("%d lists, %d wrong" % (count, wrong))
+    return int(wrong > 0)
+
+
+def main():
+    words = [word for word in sys.argv[1:] if word != "--code"]
+    longest = int(words[0]) if words else 6
+    value = Value()
+    with open(os.path.join(HERE, "grammar.txt")) as file:
+        reader = Reader(grammar(file.read(), names_of(value.classes)))
+    wanted = words[1:]
+    if len(words) < len(sys.argv) - 1:
+        return compare_code(reader, longest, wanted)
+    wrong, count = 0, 0
+    for part, walk, alphabets in parts(Tables(), value):
+        if wanted and part not in wanted:
             continue
         fronts = whole = 0
         for alphabet in alphabets:
-            open_fronts = [((), (item, rule, state, 0))]
+            open_fronts = [((), walk.first)]
             while open_fronts:
                 signs, place = open_fronts.pop()
                 counts, goes_on = reader.read(("name", part), signs)
                 readings = counts.get(len(signs), 0)
                 goes_on |= readings > 0
-                ends = place is not None and tables.ends(place)
+                ends = place is not None and walk.ends(place)
                 if readings != int(ends) or goes_on != (place is not None):
                     wrong += 1
                     print("wrong: %s of %s: %d readings, goes on: %s; the walk is at %s" %
@@ -328,7 +544,7 @@ def main():
                 whole += readings
                 count += 1
                 if place is not None and len(signs) < longest:
-                    open_fronts += [(signs + (sign,), tables.step(place, class_of(sign))) for sign in alphabet.split()]
+                    open_fronts += [(signs + (sign,), walk.step(place, sign)) for sign in alphabet.split()]
         print("%s: %d fronts, %d readings" % (part, fronts, whole))
     print("%d lists, %d wrong" % (count, wrong))
     return int(wrong > 0)

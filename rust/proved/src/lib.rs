@@ -26,20 +26,33 @@
 //!
 //! # A program
 //!
-//! With the feature `items` this program lists the functions of a file, but for those inside of other items, each with
-//! its line and column. Then it builds a stream of their names and prints it.
+//! With the feature `items` this program lists the functions of a file, each with its line and column. Functions inside
+//! of other items are left out ([`AnyItem::body`](items/struct.AnyItem.html) has these items). Then it builds a stream
+//! of the names and prints it. An error is shown with its place.
 //!
 //! ```
 //! # #[cfg(feature = "items")] {
 //! use proved_tokens::items::{parse_file, ItemKind};
-//! use proved_tokens::{SourceMap, TokenStream, TokenTree};
+//! use proved_tokens::{SourceMap, Span, TokenStream, TokenTree};
+//! use std::fmt::Display;
 //!
-//! let text = std::fs::read_to_string("src/pretty_printer.rs")?;
+//! /// The error with its line and column. It has no span if the text ends too early.
+//! fn placed(error: &dyn Display, span: Option<Span>, map: &SourceMap) -> String {
+//!     match span.map(|span| span.start(map)) {
+//!         Some(start) => format!("{}:{}: {error}", start.line, start.column + 1),
+//!         None => format!("at the end: {error}"),
+//!     }
+//! }
+//!
+//! let path = "src/main.rs";
+//! # let path = "src/pretty_printer.rs";
+//! let text = std::fs::read_to_string(path)?;
 //! let mut map = SourceMap::new();
-//! let stream = TokenStream::from_str(&text, &mut map)?;
+//! let stream = TokenStream::from_str(&text, &mut map).map_err(|error| placed(&error, error.span(), &map))?;
+//! let file = parse_file(stream.trees()).map_err(|fault| placed(&fault, fault.span(), &map))?;
 //! let mut names = Vec::new();
-//! for item in parse_file(stream.trees())?.items {
-//!     let item = item?;
+//! for item in file.items {
+//!     let item = item?; // never an error for what `parse_file` gives
 //!     if let (ItemKind::Function, Some(name)) = (item.kind, item.name) {
 //!         let start = name.span().start(&map); // lines count from 1, columns from 0, in characters
 //!         println!("{}:{} {name}", start.line, start.column);
@@ -53,10 +66,33 @@
 //! # Ok::<(), Box<dyn std::error::Error>>(())
 //! ```
 //!
+//! Trees that you make need no text:
+//!
+//! ```
+//! use proved_tokens::{Delimiter, Group, Ident, Literal, Punct, Spacing, Span, TokenStream, TokenTree};
+//!
+//! let name = |text| Ident::new(text, Span::call_site()).map(TokenTree::from);
+//! let (one, two) = (Literal::u8_unsuffixed(1)?, Literal::u8_unsuffixed(2)?);
+//! let sum: [TokenTree; 3] = [one.into(), Punct::new('+', Spacing::Alone).into(), two.into()];
+//! let parameters = Group::new(Delimiter::Parenthesis, TokenStream::new());
+//! let body = Group::new(Delimiter::Brace, sum.into_iter().collect());
+//! let trees = [name("fn")?, name("f")?, parameters.into(), body.into()];
+//! let function: TokenStream = trees.into_iter().collect();
+//! assert_eq!(function.to_string(), "fn f () { 1 + 2 }");
+//! # Ok::<(), Box<dyn std::error::Error>>(())
+//! ```
+//!
 //! # Features
 //!
-//! None of the features above is on by default. Turn on those that you need: `features = ["items", "quote"]`. The one
-//! default feature, `whole`, is what this page describes; the package `proc-macro2` goes without it, to compile faster.
+//! None of the features above is on by default. Turn on those that you need:
+//!
+//! ```toml
+//! [dependencies]
+//! proved-tokens = { path = "../tokens/rust/proved", features = ["items", "quote"] } # where its repository is
+//! ```
+//!
+//! The one default feature, `whole`, is what this page describes; the package `proc-macro2` goes without it, to compile
+//! faster.
 //! To convert streams from and to those of `proc-macro2`, as in a macro, take the package `proved-macros`, which has
 //! this one inside it.
 //!

@@ -10,9 +10,9 @@ use proved_tokens::cursor::TokenBuffer;
 use proved_tokens::error::CompileError;
 use proved_tokens::items::{
     check_entries, compile_error, impl_generics, impl_header, impl_header_where, parse_file, parse_param,
-    parse_parameter, parse_type_item, split_attributes, split_type, split_visibility, type_generics, where_clause,
-    where_clause_with_bound, within_generics, Attributes, Body, Entries, EntryKind, ParamKind, ParameterKind,
-    Parameters,
+    parse_parameter, parse_type_item, split_any_item, split_attribute, split_attributes, split_type, split_visibility,
+    type_generics, where_clause, where_clause_with_bound, within_generics, Attributes, Body, Entries, EntryKind,
+    ItemKind, ParamKind, ParameterKind, Parameters,
 };
 use proved_tokens::print::to_pretty_string;
 use proved_tokens::quote::{Hole, Holes, Quote, Template};
@@ -218,6 +218,18 @@ fn calls_for_lints_and_editors() -> Outcome {
     let text = "/* a /* b */ c";
     let error = explain(text)?.ok_or("it has no error")?;
     assert!(matches!(advice(text, &error)?, Some(Hint::Comments { depth: 1, closed: Some(_) })));
+    Ok(())
+}
+
+#[test]
+fn calls_for_lints_in_bodies() -> Outcome {
+    let stream: TokenStream = "#[a] fn f() {} x".parse()?;
+    let trees = stream.trees();
+    let (item, rest) = split_any_item(trees)?;
+    assert!(item.kind == ItemKind::Function && rest.len() == 1);
+    assert!(split_any_item(rest).is_err());
+    let (attribute, rest) = split_attribute(trees).ok_or("no attribute")?;
+    assert!(attribute.is("a") && rest.len() == 5);
     Ok(())
 }
 
