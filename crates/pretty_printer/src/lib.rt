@@ -15,12 +15,24 @@ ghost use Rattle.quoting.specs.Choice.{HopelessIfNamed};
 ghost use Rattle.quoting.specs.Fault.{IsFaultOf};
 ghost use Rattle.quoting.specs.Respaced.{respaced};
 
+mod angles;
 mod atoms;
 mod chains;
-mod lists;
+mod expressions;
+mod groups;
+mod heads;
+mod items;
+mod limits;
+mod lines;
+mod parts;
 mod printer;
+mod reading;
 mod roles;
-mod widths;
+mod sides;
+mod signs;
+mod spaces;
+mod tree;
+mod words;
 
 use layout::{Chooser, Gap, LayoutError, Place, text_with};
 use printer::Printer;
