@@ -17,7 +17,7 @@ pub fn pair_angles(tree: &mut Tree, index: usize, end: usize) -> Result<(), Allo
                 set_role(tree, matched, Role::Less);
             }
             set_role(tree, later, Role::Greater);
-        } else if ends_types(next, tree.before(index, later)) {
+        } else if ends_types(next, tree.previous(later)) {
             break;
         }
         if tree.angles.is_empty() {
@@ -52,6 +52,7 @@ fn ends_types(atom: &Atom, previous: &Atom) -> bool {
         }
         Kind::Sign(sign) => match sign {
             Sign::Path | Sign::Arrow => false,
+            Sign::One('-') => !matches!(previous.kind, Kind::Sign(Sign::One('<' | ','))),
             Sign::One(mark) => !matches!(
                 mark,
                 ',' | '&' | ':' | '=' | '+' | '?' | '*' | '!' | '$' | '#' | '\''

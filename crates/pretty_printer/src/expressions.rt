@@ -1,5 +1,6 @@
 //! Reads expressions, patterns and types as trees: each operator takes what binds more strongly than itself.
 use crate::atoms::{Atom, Kind, Role, Sign};
+use crate::roles::awaits_operand;
 use crate::tree::{Form, NOWHERE, Tree};
 use crate::words::Word;
 use std::alloc::AllocError;
@@ -53,13 +54,21 @@ impl Tree {
         self.controls = 0;
         self.operand = NO_OPERAND;
         for index in first..end {
-            self.take(first, end, index)?;
+            self.take(index)?;
         }
         self.reduce(WEAKEST, end)?;
-        self.take_operand(end)
+        let node = self.take_operand(end)?;
+        if node != NOWHERE && self.node(node).first == first {
+            return Ok(node);
+        }
+        // Only a text that is no Rust begins with what belongs to nothing.
+        let all = self.push_node(Form::Plain, first, end)?;
+        self.link(all, NOWHERE, node);
+        self.finish(all, end);
+        Ok(all)
     }
 
-    fn take(&mut self, first: usize, end: usize, index: usize) -> Result<(), AllocError> {
+    fn take(&mut self, index: usize) -> Result<(), AllocError> {
         let own = *self.atom(index);
         if self.operand.depth > 0 || own.role == Role::Less {
             if own.role == Role::Less {
@@ -70,12 +79,10 @@ impl Tree {
             self.go_on(index, &own);
             return Ok(());
         }
-        let previous = *self.before(first, index);
-        let next = *self.after(end, index);
         if self.operand.start == NOWHERE {
-            self.begin(index, &own, &previous, &next)
+            self.begin(index, &own)
         } else {
-            self.take_next(index, &own, &previous, &next)
+            self.take_next(index, &own)
         }
     }
 
@@ -101,19 +108,14 @@ impl Tree {
     }
 
     // Begins an operand with the atom, or what takes one.
-    fn begin(
-        &mut self,
-        index: usize,
-        own: &Atom,
-        previous: &Atom,
-        next: &Atom,
-    ) -> Result<(), AllocError> {
+    fn begin(&mut self, index: usize, own: &Atom) -> Result<(), AllocError> {
+        let previous = self.previous(index);
         match own.kind {
             Kind::Sign(_) => match own.role {
                 Role::Before => self.open_before(index, BEFORE),
                 Role::Range => self.open_before(index, RANGE),
-                Role::BarOpen => self.open(Form::Closure, index, WEAKEST),
-                Role::BarClose if own.is_or() => self.open(Form::Closure, index, WEAKEST),
+                Role::BarOpen => self.open_closure(index),
+                Role::BarClose if own.is_or() => self.open_closure(index),
                 Role::BarClose => Ok(()),
                 Role::Colon if previous.is_word(Word::Lifetime) && self.awaits_block() => Ok(()),
                 // The rest of an operator such as `>>`.
@@ -123,8 +125,10 @@ impl Tree {
                     Ok(())
                 }
             },
-            Kind::Word(word) => self.begin_word(index, word, own, previous, next),
-            _ if own.is_body() && self.awaits_block() => self.take_block(index, own, next),
+            Kind::Word(word) => self.begin_word(index, word, own),
+            _ if own.is_body() && self.awaits_block() && !awaits_operand(previous) => {
+                self.take_block(index, own)
+            }
             _ => {
                 self.go_on(index, own);
                 Ok(())
@@ -133,21 +137,18 @@ impl Tree {
     }
 
     // Begins with a word.
-    fn begin_word(
-        &mut self,
-        index: usize,
-        word: Word,
-        own: &Atom,
-        previous: &Atom,
-        next: &Atom,
-    ) -> Result<(), AllocError> {
+    fn begin_word(&mut self, index: usize, word: Word, own: &Atom) -> Result<(), AllocError> {
+        let previous = self.previous(index);
+        let next = self.next(index);
         match word {
             Word::If | Word::Match | Word::While | Word::For | Word::Loop => {
                 let labelled = previous.role == Role::Colon && self.awaits_block();
-                if previous.is_word(Word::Else) || labelled || next.is_mark('<') {
-                    return Ok(());
+                if next.is_mark('<') {
+                    self.go_on(index, own);
+                } else if !previous.is_word(Word::Else) && !labelled {
+                    self.open_control(index)?;
                 }
-                self.open_control(index)
+                Ok(())
             }
             Word::Lifetime if next.role == Role::Colon => self.open_control(index),
             Word::Else => Ok(()),
@@ -189,6 +190,21 @@ impl Tree {
         self.open(Form::Plain, index, strength)
     }
 
+    // Opens a closure, which may have begun with `move`.
+    fn open_closure(&mut self, index: usize) -> Result<(), AllocError> {
+        let moved = self.previous(index).is_word(Word::Move);
+        if !(moved && self.top_form() == Form::Plain) {
+            return self.open(Form::Closure, index, WEAKEST);
+        }
+        self.set_top(WEAKEST, NOWHERE);
+        if let Some(top) = self.opens.last() {
+            if let Some(own) = self.nodes.get_mut(top.node) {
+                own.form = Form::Closure;
+            }
+        }
+        Ok(())
+    }
+
     // What the last open node is, or a leaf.
     fn top_form(&self) -> Form {
         match self.opens.last() {
@@ -203,18 +219,13 @@ impl Tree {
     }
 
     // Goes on after an operand with the atom.
-    fn take_next(
-        &mut self,
-        index: usize,
-        own: &Atom,
-        previous: &Atom,
-        next: &Atom,
-    ) -> Result<(), AllocError> {
-        let strength = strength_of(own, previous, next);
+    fn take_next(&mut self, index: usize, own: &Atom) -> Result<(), AllocError> {
+        let previous = self.previous(index);
+        let strength = strength_of(own, previous, self.next(index));
         match own.kind {
             Kind::Group(_) => {
                 if own.is_body() && self.controls > 0 && previous.role != Role::Bang {
-                    return self.take_block(index, own, next);
+                    return self.take_block(index, own);
                 }
                 let call = own.role == Role::Plain && previous.is_group();
                 let looks_up = own.is_bracket() && previous.role != Role::Bang;
@@ -371,7 +382,7 @@ impl Tree {
     }
 
     // Takes the block of the last `if`, `match` or loop. Without `else` it ends.
-    fn take_block(&mut self, index: usize, own: &Atom, next: &Atom) -> Result<(), AllocError> {
+    fn take_block(&mut self, index: usize, own: &Atom) -> Result<(), AllocError> {
         for _ in 0..self.opens.len() {
             if self.awaits_block() {
                 break;
@@ -381,7 +392,7 @@ impl Tree {
         self.attach(index)?;
         self.add_child(own.node);
         self.operand.start = index;
-        if next.is_word(Word::Else) {
+        if self.next(index).is_word(Word::Else) {
             self.attach(index.saturating_add(1))
         } else {
             self.reduce_one(index.saturating_add(1))

@@ -1,7 +1,7 @@
 //! Breaks the lines of groups: which parts begin a line.
 use crate::atoms::Role;
 use crate::lines::{Lines, Step, Task, WIDTH, deeper};
-use crate::tree::{Form, NO_HEAD, NOWHERE, Node};
+use crate::tree::{NO_HEAD, NOWHERE, Node};
 use crate::words::Word;
 use layout::Gap;
 use std::alloc::AllocError;
@@ -58,8 +58,9 @@ impl Lines {
                 self.column = self.column.saturating_add(1);
             }
         }
-        let more = if last.form == Form::Control { task.tail.min(1) } else { 0 };
-        self.lay(part, task.indent, more.saturating_add(1))
+        // The only argument that is a call too is over its limit: so it isn't on one line either.
+        let tail = if self.tree.is_call(part) { WIDTH } else { task.tail };
+        self.lay(part, task.indent, tail.saturating_add(1))
     }
 
     /// Leaves the parts of a group, each on a line or as many as fit.
@@ -118,7 +119,8 @@ impl Lines {
         while child != NOWHERE {
             let part = self.tree.node(child);
             let end = self.end_of(part);
-            if self.tree.width(part.first, end) > SHORT || !self.is_simple(part.first, end) {
+            let short = self.tree.width(part.first, end) <= SHORT;
+            if !short || self.tree.is_tall(part.first, end) || !self.is_simple(part.first, end) {
                 return false;
             }
             child = part.next;
@@ -139,7 +141,7 @@ impl Lines {
             let mark = matches!(own.role, Role::Dot | Role::Before | Role::After);
             let only = self.tree.node(own.node);
             let looks_up = own.is_bracket() && only.until <= only.from.saturating_add(1);
-            if own.tall || !(own.is_any_word() || mark || looks_up) {
+            if !(own.is_any_word() || mark || looks_up && !own.tall) {
                 return false;
             }
         }

@@ -28,6 +28,7 @@ impl Lines {
         } else {
             (end.first, 2)
         };
+        let tail = tail.saturating_add(self.tail_of_trait(own));
         if must || !self.fit(own.first, stop, tail) {
             return self.begin(task, own, Step::Broken);
         }
@@ -41,6 +42,23 @@ impl Lines {
             tail: task.tail,
         })?;
         Ok(())
+    }
+
+    // How much less than a line the head of a trait with bounds has: what stands before `trait`, and four columns.
+    fn tail_of_trait(&self, own: &Node) -> usize {
+        for index in own.first..own.end {
+            let atom = self.tree.atom(index);
+            if atom.is_word(Word::Trait) {
+                let colon = self.tree.find_role(index, own.end, Role::Colon);
+                let has_bounds = self.previous(colon).role != Role::Less && colon < own.end;
+                let before = self.tree.distance(own.first, index);
+                return if has_bounds { before.saturating_add(4) } else { 0 };
+            }
+            if atom.is_word(Word::Impl) || atom.is_word(Word::Struct) || atom.is_brace() {
+                break;
+            }
+        }
+        0
     }
 
     // Whether a child is the bounds or the body of an item.
@@ -73,17 +91,30 @@ impl Lines {
             self.leave(task, Step::Broken, &child)?;
             return self.lay_lines(task.child, task.indent);
         }
-        let below = self.previous(child.first).role == Role::Colon
-            || self.tree.atom(child.first).is_word(Word::For);
-        if below && own.form == Form::Item {
+        let bounds = self.previous(child.first).role == Role::Colon;
+        let impls = self.is_impl(task, own, &child);
+        let next = self.tree.node(child.next);
+        let body = child.next != NOWHERE && next.form != Form::Bounds && self.is_end(own, next);
+        let tail = if impls { body as usize * 2 } else { self.tail_of(task, own, &child) };
+        self.lead(own, child.first);
+        if own.form == Form::Item && (bounds || impls && !self.fits(&child, tail)) {
             self.line(child.first, deeper(task.indent));
-            self.leave(task, Step::Apart, &child)?;
-        } else {
-            self.lead(own, child.first);
-            self.leave(task, Step::Broken, &child)?;
         }
-        let tail = self.tail_of(task, own, &child);
+        let step = if bounds || impls { Step::Apart } else { Step::Broken };
+        self.leave(task, step, &child)?;
         self.lay(task.child, task.indent, tail)
+    }
+
+    // Whether a child is the trait or the type of an impl.
+    fn is_impl(&self, task: Task, own: &Node, child: &Node) -> bool {
+        let angle = self.tree.node(own.child);
+        let word = if angle.form == Form::Generics {
+            angle.first
+        } else {
+            angle.first.max(1)
+        };
+        let _ = (task, child);
+        own.form == Form::Item && self.previous(word).is_word(Word::Impl)
     }
 
     // The parameters between angles: on this line if what comes up to the next opener fits too, or each on a line.
@@ -102,7 +133,12 @@ impl Lines {
             self.put(child.first, child.end);
             return Ok(());
         }
-        let inner = deeper(task.indent);
+        let indent = if self.previous(child.first).is_word(Word::Impl) {
+            deeper(task.indent)
+        } else {
+            task.indent
+        };
+        let inner = deeper(indent);
         let mut at = child.child;
         let mut past = child.first.saturating_add(1);
         self.column = self.column.saturating_add(1);
@@ -113,7 +149,7 @@ impl Lines {
             past = part.end;
             at = part.next;
         }
-        self.line(past, task.indent);
+        self.line(past, indent);
         self.put(past, child.end);
         Ok(())
     }
@@ -156,7 +192,8 @@ impl Lines {
     // The body of an item. After bounds, and after a head of several lines, that of an empty one is two lines.
     fn next_body(&mut self, task: Task, own: &Node, child: &Node) -> Result<(), AllocError> {
         self.write(own, task.at, child.first);
-        if task.step == Step::Apart {
+        let room = self.column.saturating_add(2) <= WIDTH;
+        if task.step == Step::Apart || !room {
             self.line(child.first, task.indent);
         } else {
             self.lead(own, child.first);

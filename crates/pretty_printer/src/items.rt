@@ -20,7 +20,7 @@ impl Tree {
         end: usize,
     ) -> Result<Option<usize>, AllocError> {
         let own = *self.atom(at);
-        let next = *self.after(end, at);
+        let next = *self.next(at);
         let Kind::Word(word) = own.kind else {
             return Ok(None);
         };
@@ -106,7 +106,7 @@ impl Tree {
     fn find_for(&self, from: usize, end: usize) -> usize {
         for index in from..end {
             let own = self.atom(index);
-            if own.is_word(Word::For) && self.after(end, index).role != Role::Less {
+            if own.is_word(Word::For) && self.next(index).role != Role::Less {
                 return index;
             }
         }
@@ -177,7 +177,7 @@ impl Tree {
         let body = self.atom(own.end.saturating_sub(1));
         let impls = self.atom(own.first).is_word(Word::Impl)
             || self.atom(own.first.saturating_add(1)).is_word(Word::Impl);
-        let comma = self.before(only.first, only.end).role == Role::Comma;
+        let comma = self.previous(only.end).role == Role::Comma;
         impls && only.next == NOWHERE && !comma && body.is_brace() && !body.is_full()
     }
 
@@ -188,7 +188,7 @@ impl Tree {
         let mut last = NOWHERE;
         while start < end {
             let past = self.part_end(start, end, false);
-            let comma = self.before(start, past).role == Role::Comma;
+            let comma = self.previous(past).role == Role::Comma;
             let stop = if comma { past - 1 } else { past };
             let bound = self.push_node(Form::Plain, start, past)?;
             let colon = self.find_role(start, stop, Role::Colon);

@@ -96,6 +96,10 @@ impl Tree {
         }
         let braces = self.atom(own.first).is_brace();
         self.place(own.from, own.until);
+        if self.atom(own.first).role == Role::Variants && self.is_tall(own.from, own.until) {
+            self.spread(own.from, own.until);
+            self.place(own.from, own.until);
+        }
         self.read_parts(group, braces)?;
         let padded = self.is_padded(&own);
         let inner = self.width(own.from, own.until);
@@ -130,16 +134,16 @@ impl Tree {
         own.until == own.from.saturating_add(1)
             && inner.is_brace()
             && inner.is_full()
-            && self.before(0, own.first).is_arm()
+            && self.previous(own.first).is_arm()
     }
 
     // Whether a group whose parts are read needs several lines.
     fn needs_lines(&self, group: usize, inner: usize) -> bool {
         let own = self.node(group);
         let atom = self.atom(own.first);
-        let comma = self.before(own.from, own.until).is_mark(',');
-        let bang = self.before(0, own.first).role == Role::Bang;
-        let mut must = atom.is_brace() && matches!(atom.role, Role::Block | Role::Variants);
+        let comma = self.previous(own.until).is_mark(',');
+        let bang = self.previous(own.first).role == Role::Bang;
+        let mut must = atom.is_brace() && matches!(atom.role, Role::Block | Role::Inner | Role::Variants);
         let mut count: usize = 0;
         let mut child = own.child;
         while child != NOWHERE {
@@ -151,7 +155,7 @@ impl Tree {
         let single = atom.role == Role::Tuple && count == 1;
         let loose = matches!(atom.role, Role::Repeated | Role::Attribute | Role::Meta)
             || single
-            || bang && atom.is_round();
+            || bang;
         must || comma && !loose
             || inner.saturating_sub(comma as usize) > self.limit(own, atom, bang, count)
     }
@@ -165,7 +169,7 @@ impl Tree {
             Role::Plain | Role::Tuple => {}
             _ => return usize::MAX,
         }
-        let previous = self.before(0, own.first);
+        let previous = self.previous(own.first);
         let next = self.atom(own.end);
         let pattern = next.is_arm()
             || next.is_mark('=')
@@ -193,11 +197,11 @@ impl Tree {
         false
     }
 
-    // Whether a part is a call of a path or of a macro.
-    fn is_call(&self, part: usize) -> bool {
+    /// Whether a part is a call of a path or of a macro.
+    pub fn is_call(&self, part: usize) -> bool {
         let own = self.node(self.value_of(part));
         let call = self.node(own.child);
-        let name = self.before(own.first, call.first);
+        let name = self.previous(call.first);
         own.form == Form::Plain
             && call.form == Form::Group
             && call.next == NOWHERE
@@ -241,10 +245,10 @@ impl Tree {
         if atom.is_brace() || own.child == NOWHERE || loose {
             return NO_HEAD;
         }
-        let bang = self.before(0, own.first).role == Role::Bang;
+        let bang = self.previous(own.first).role == Role::Bang;
         let part = self.last_child(group);
         let last = *self.node(part);
-        let comma = self.before(own.from, own.until).role == Role::Comma;
+        let comma = self.previous(own.until).role == Role::Comma;
         if comma && !bang || self.is_tall(own.from, last.first) {
             return NO_HEAD;
         }
@@ -364,7 +368,7 @@ impl Tree {
     fn choice_end(&self, index: usize, end: usize) -> usize {
         for later in index..end {
             let own = self.atom(later);
-            if own.is_body() && !self.after(end, later).is_word(Word::Else) {
+            if own.is_body() && !self.next(later).is_word(Word::Else) {
                 return later.saturating_add(1);
             }
         }
@@ -372,7 +376,7 @@ impl Tree {
     }
 
     // Makes blocks of the branches of the `if` of this index, which end before `past`, where they are too wide for one
-    // line. Answers whether it did.
+    // line. Answers whether it did. If a variant of an enum needs several lines, each with fields has.
     fn spread(&mut self, index: usize, past: usize) -> bool {
         if !self.is_tall(index, past) && self.width(index, past) <= BRANCHES {
             return false;
@@ -382,6 +386,8 @@ impl Tree {
                 if own.role == Role::Branch {
                     own.role = Role::Block;
                     own.tall = own.tall || own.is_full();
+                } else if own.role == Role::Variant {
+                    own.tall = own.is_full();
                 }
             }
         }

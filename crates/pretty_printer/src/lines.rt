@@ -148,7 +148,7 @@ impl Lines {
 
     // Lays out a node, on one line if it fits.
     fn lay_node(&mut self, task: Task, own: &Node) -> Result<(), AllocError> {
-        if self.fits(own, task.tail) {
+        if own.form != Form::Item && self.fits(own, task.tail) {
             self.put(own.first, own.end);
             return Ok(());
         }
@@ -265,7 +265,7 @@ impl Lines {
 
     /// Begins a line by this gap.
     pub fn break_line(&mut self, index: usize, gap: Gap, column: usize) {
-        if self.tree.before(0, index).glued {
+        if self.tree.previous(index).glued {
             return;
         }
         if let Some(atom) = self.tree.atoms.get_mut(index) {
@@ -288,7 +288,7 @@ impl Lines {
 
     /// The atom before this one.
     pub fn previous(&self, index: usize) -> &Atom {
-        self.tree.before(0, index)
+        self.tree.previous(index)
     }
 }
 

@@ -61,7 +61,7 @@ impl Tree {
             }
             in_where = in_where || own.is_word(Word::Where);
             let comma = comma && !(block && in_where);
-            let ends = comma || block && ends_statement(own, self.after(end, index), signs_only);
+            let ends = comma || block && ends_statement(own, self.next(index), signs_only);
             if ends && !own.glued {
                 return index.saturating_add(1);
             }
@@ -77,7 +77,7 @@ impl Tree {
         end: usize,
         block: bool,
     ) -> Result<usize, AllocError> {
-        let last = self.before(first, end);
+        let last = self.previous(end);
         let stop = if last.ends_part() { end - 1 } else { end };
         if stop <= first {
             return self.push_node(Form::Leaf, first, end);
@@ -94,7 +94,7 @@ impl Tree {
         }
         let name = self.atom(at);
         let named = name.is_any_word() && !name.is_word(Word::Lifetime);
-        if block && named && self.after(stop, at).role == Role::Colon {
+        if block && named && self.next(at).role == Role::Colon {
             return self.read_sides(Form::Field, first, at.saturating_add(2), stop, end);
         }
         self.read_sides(Form::Plain, first, first, stop, end)
@@ -126,8 +126,8 @@ impl Tree {
     fn past_front(&self, first: usize, stop: usize) -> usize {
         for index in first..stop {
             let own = self.atom(index);
-            let next = self.after(stop, index);
-            let previous = self.before(first, index);
+            let next = self.next(index);
+            let previous = self.previous(index);
             let before_fn = matches!(
                 next.kind,
                 Kind::Word(
@@ -200,7 +200,7 @@ impl Tree {
 
     /// Reads a `let`, a constant or an alias: what is at `at` on, `=` and its right side.
     pub fn read_let(&mut self, first: usize, at: usize, end: usize) -> Result<usize, AllocError> {
-        let last = self.before(first, end);
+        let last = self.previous(end);
         let mut stop = if last.ends_part() { end - 1 } else { end };
         let node = self.push_node(Form::Let, first, end)?;
         let equals = self.find_equals(at, stop);
@@ -241,7 +241,8 @@ impl Tree {
 
 // Whether a statement or an attribute ends with the atom. `signs_only` says that only operators stand before it.
 fn ends_statement(own: &Atom, next: &Atom, signs_only: bool) -> bool {
-    if own.is_brace() && (own.is_body() || own.role == Role::Expression) {
+    let block = own.is_body() && own.role != Role::Inner;
+    if own.is_brace() && (block || own.role == Role::Expression) {
         let goes_on = matches!(
             next.role,
             Role::Comma

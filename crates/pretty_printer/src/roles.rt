@@ -21,6 +21,7 @@ pub fn assign_roles(
         in_bars: false,
         head: Head::Nothing,
         last: Head::Nothing,
+        outer: 0,
         depth: 0,
         inside,
     };
@@ -30,7 +31,7 @@ pub fn assign_roles(
         if open.is_mark('<') && open.role == Role::Plain {
             pair_angles(tree, index, end)?;
         }
-        state.take(tree, first, end, index);
+        state.take(tree, index);
     }
     Ok(())
 }
@@ -62,6 +63,8 @@ pub struct State {
     pub in_bars: bool,
     pub head: Head,
     pub last: Head,
+    /// How many `if`, `match` and loops wait for their braces besides.
+    pub outer: usize,
     /// How many `<` are open.
     pub depth: usize,
     /// The role of the list's group.
@@ -70,10 +73,10 @@ pub struct State {
 
 impl State {
     // Gives the atom of this index its role, and says what stands before it on one line.
-    fn take(&mut self, tree: &mut Tree, first: usize, end: usize, index: usize) {
+    fn take(&mut self, tree: &mut Tree, index: usize) {
         let own = tree.atom(index);
-        let previous = tree.before(first, index);
-        let next = tree.after(end, index);
+        let previous = tree.previous(index);
+        let next = tree.next(index);
         let mut role = own.role;
         match own.kind {
             Kind::Word(word) => {
@@ -84,9 +87,12 @@ impl State {
                 }
             }
             Kind::Group(delimiter) => {
-                let earlier = tree.before(first, index.saturating_sub(1));
+                let earlier = tree.previous(index.saturating_sub(1));
                 role = self.group_role(delimiter, own, previous, earlier, next);
-                if self.start < NO_START && self.ends(tree, index, role, next) {
+                let begins = index == self.start.saturating_add(1);
+                let block = begins && previous.is_word(Word::Unsafe);
+                let operand = awaits_operand(previous) && !block;
+                if self.start < NO_START && !operand && self.ends(tree, index, role, next) {
                     self.start = index.saturating_add(1);
                 }
             }
@@ -101,7 +107,7 @@ impl State {
             }
             Kind::Nothing => {}
         }
-        let spaced = index > first && wants_space(tree, first, index, previous, own, role);
+        let spaced = !previous.is_nothing() && wants_space(tree, index, previous, own, role);
         if let Some(changed) = tree.atoms.get_mut(index) {
             changed.role = role;
             changed.gap = if spaced { Gap::Space } else { Gap::Nothing };
@@ -125,6 +131,9 @@ impl State {
             || previous.is_word(Word::Return)
             || previous.is_word(Word::Break);
         let after_else = previous.is_word(Word::Else);
+        if matches!(self.head, Head::Other | Head::Branch) && !after_else {
+            self.outer = self.outer.saturating_add(1);
+        }
         self.head = if word == Word::If && after_else {
             self.last
         } else if word == Word::Else && self.last == Head::Branch {
@@ -166,15 +175,22 @@ impl State {
         let goes_on = next.is_mark('=')
             || next.is_mark('|')
             || next.is_mark(':')
-            || next.is_word(Word::In);
+            || next.is_word(Word::In)
+            || awaits_operand(previous);
         if self.head != Head::Nothing && (self.is_in_item() || !goes_on) {
             let role = match self.head {
                 Head::Branch if own.role != Role::Block => Role::Branch,
                 Head::Enum => Role::Variants,
+                _ if self.outer > 0 => Role::Inner,
                 _ => Role::Block,
             };
             self.last = self.head;
-            self.head = Head::Nothing;
+            self.head = if self.outer > 0 {
+                Head::Other
+            } else {
+                Head::Nothing
+            };
+            self.outer = self.outer.saturating_sub(1);
             return role;
         }
         if own.role == Role::Block
@@ -229,7 +245,8 @@ impl State {
         if !matches!(role, Role::Block | Role::Variants | Role::Expression) {
             return false;
         }
-        if next.is_word(Word::Else) || next.is_mark('.') || next.is_mark('?') {
+        let goes_on = next.is_word(Word::Else) || next.is_mark('.') || next.is_mark('?');
+        if goes_on || self.head == Head::Other {
             return false;
         }
         let first = tree.atom(self.start);
@@ -252,9 +269,7 @@ impl State {
                 | Word::Pub => true,
                 // As `unsafe` and `async move`, or before `fn`.
                 Word::Unsafe | Word::Async | Word::Const => passed < 3 || self.last == Head::Fn,
-                Word::Name | Word::MacroRules => {
-                    tree.after(index, self.start).role == Role::Bang
-                }
+                Word::Name | Word::MacroRules => tree.next(self.start).role == Role::Bang,
                 _ => false,
             },
             _ => false,
@@ -273,4 +288,13 @@ fn head_of(word: Word) -> Option<Head> {
         Word::Else => Head::Else,
         _ => return None,
     })
+}
+
+/// Whether braces after the atom are an operand, and no body.
+pub fn awaits_operand(previous: &Atom) -> bool {
+    let asks = matches!(
+        previous.kind,
+        Kind::Word(Word::If | Word::While | Word::Match | Word::In | Word::Unsafe)
+    );
+    asks || previous.role == Role::Between
 }

@@ -1,5 +1,5 @@
 //! What operators mean where they stand.
-use crate::atoms::{Atom, Role, Sign};
+use crate::atoms::{Atom, Kind, Role, Sign};
 use crate::roles::{Head, NO_START, State};
 use crate::words::Word;
 
@@ -20,6 +20,7 @@ impl State {
         let comma_ends = mark == ',' && self.depth == 0 && !self.is_in_item();
         if mark == ';' || matches!(sign, Sign::Arm) || comma_ends {
             self.head = Head::Nothing;
+            self.outer = 0;
             if self.start < NO_START {
                 self.start = index.saturating_add(1);
             }
@@ -35,6 +36,9 @@ impl State {
         if mark == '!' {
             return if previous.is_mark('#') {
                 Role::Hash
+            } else if matches!(previous.kind, Kind::Sign(Sign::Arrow)) {
+                // The type of what never returns.
+                Role::Plain
             } else if previous.is_any_word()
                 && (value && !next.is_sign() || previous.is_word(Word::MacroRules))
             {

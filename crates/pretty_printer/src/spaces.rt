@@ -8,7 +8,6 @@ use crate::words::Word;
 #[inline(always)]
 pub fn wants_space(
     tree: &Tree,
-    first: usize,
     index: usize,
     previous: &Atom,
     next: &Atom,
@@ -34,7 +33,7 @@ pub fn wants_space(
     if previous.is_sign() && previous.role != Role::Greater && previous.role != Role::After {
         return match previous.role {
             Role::Colon => {
-                let dollar = tree.before(first, index.saturating_sub(2));
+                let dollar = tree.atom(index.saturating_sub(2));
                 !(dollar.is_mark('$') && next.is_word(Word::Fragment))
             }
             Role::Before
@@ -58,7 +57,7 @@ pub fn wants_space(
     }
     if next.is_list() {
         let tight = previous.is_word(Word::Fn)
-            || previous.is_word(Word::Pub)
+            || previous.is_word(Word::Pub) && next.is_round()
             || previous.is_word(Word::Await)
             || previous.is_word(Word::MacroRules);
         return previous.is_keyword() && !tight

@@ -120,23 +120,14 @@ impl Tree {
         }
     }
 
-    /// The atom before this index in what begins at `first`.
-    pub fn before(&self, first: usize, index: usize) -> &Atom {
-        if index > first {
-            self.atom(index - 1)
-        } else {
-            &NOTHING
-        }
+    /// The atom before this one in its list.
+    pub fn previous(&self, index: usize) -> &Atom {
+        self.atom(index.saturating_sub(1))
     }
 
-    /// The atom after this index in what ends before `end`.
-    pub fn after(&self, end: usize, index: usize) -> &Atom {
-        let next = index.saturating_add(1);
-        if next < end {
-            self.atom(next)
-        } else {
-            &NOTHING
-        }
+    /// The atom after this one in its list.
+    pub fn next(&self, index: usize) -> &Atom {
+        self.atom(index.saturating_add(1))
     }
 
     /// The node of this index.

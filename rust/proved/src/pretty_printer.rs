@@ -7,12 +7,24 @@
 
 use crate::shim::prelude::TryClone;
 
+mod angles;
 mod atoms;
 mod chains;
-mod lists;
+mod expressions;
+mod groups;
+mod heads;
+mod items;
+mod limits;
+mod lines;
+mod parts;
 mod printer;
+mod reading;
 mod roles;
-mod widths;
+mod sides;
+mod signs;
+mod spaces;
+mod tree;
+mod words;
 
 use crate::layout::{Chooser, Gap, LayoutError, Place, text_with};
 use printer::Printer;

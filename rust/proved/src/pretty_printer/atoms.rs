@@ -1,11 +1,9 @@
 // Made from crates/pretty_printer/src/atoms.rt by rust/erase: change that file, not this one.
-//! What lines are made of: words, operators and groups, list after list.
+//! What lines are made of: words, operators and groups.
 
-use crate::shim::prelude::Grow;
-
-use crate::pm_token::parts::{is_raw, name_of};
-use crate::proc_macro2::{Delimiter, Ident, Punct, Spacing, TokenTree};
-use crate::shim::alloc::AllocError;
+use crate::pretty_printer::words::Word;
+use crate::layout::Gap;
+use crate::proc_macro2::Delimiter;
 
 /// What an atom is.
 #[derive(Clone, Copy)]
@@ -15,46 +13,6 @@ pub enum Kind {
     Word(Word),
     Sign(Sign),
     Group(Delimiter),
-}
-
-/// A name, a keyword, a literal or a lifetime.
-#[derive(Clone, Copy, PartialEq)]
-pub enum Word {
-    Name,
-    /// The name of a kind of fragment in a macro's matcher, as `expr`.
-    Fragment,
-    /// The name of a macro that formats text: the number of its arguments up to the format string.
-    Format1,
-    Format2,
-    Format3,
-    Literal,
-    String,
-    Lifetime,
-    /// A keyword that no rule names.
-    Keyword,
-    As,
-    Await,
-    Break,
-    Else,
-    Enum,
-    Extern,
-    Fn,
-    For,
-    If,
-    Impl,
-    In,
-    Let,
-    Loop,
-    MacroRules,
-    Match,
-    Mod,
-    Pub,
-    Return,
-    Struct,
-    Trait,
-    Union,
-    Where,
-    While,
 }
 
 /// An operator, of one mark or of several.
@@ -73,8 +31,10 @@ pub enum Sign {
     Or,
     /// `..`, `..=` and `...`
     Range,
+    /// `==`, `!=`, `<=` and `>=`
+    Compare,
     /// Any other, as `+=`.
-    Other,
+    Assign,
 }
 
 /// What an atom means where it stands.
@@ -105,111 +65,90 @@ pub enum Role {
     /// The `|` that begins and ends a closure's parameters.
     BarOpen,
     BarClose,
+    /// An `if` that gives a value.
+    Choice,
     /// A group that a macro repeats.
     Repeated,
-    /// The brackets of an attribute.
+    /// The brackets of an attribute, and parentheses in one.
     Attribute,
+    Meta,
+    /// The parameters of a function.
+    Params,
     /// Parentheses that call nothing.
     Tuple,
     /// The braces of a `use`.
     Use,
     /// A branch of an `if` that gives a value.
     Branch,
-    /// Statements, items or fields.
+    /// Statements, items or fields. Until roles are given: braces with `;` or `=>`.
     Block,
-    /// The fields of a struct's literal.
+    /// The variants of an enum.
+    Variants,
+    /// The fields of a struct's literal, and those of a variant.
     Fields,
+    Variant,
     /// Braces that are something else.
     Expression,
 }
 
-/// The column of no line.
-pub const NO_LINE: usize = usize::MAX;
-
 /// A word, an operator or a group. Its fields stand in the order of their sizes, so that none is padded.
 #[derive(Clone, Copy)]
 pub struct Atom {
-    /// How many tokens it has. A group counts as its opener.
-    pub tokens: usize,
     /// How many characters it has, where a group is on one line.
     pub width: usize,
     /// The characters before it in its list, where the list is on one line.
     pub offset: usize,
     /// How many before it in its list need several lines.
     pub tall_before: usize,
-    /// Where a part of a list begins, the index after its last atom, and `plain`, whether it is on one line if it is
-    /// short. Else 0 and false.
-    pub part_end: usize,
-    /// Of a group: the indexes of its first atom and after its last.
-    pub first: usize,
-    pub end: usize,
-    /// Of a group: how many parts it has.
-    pub parts: usize,
-    /// Of an operator before which a line breaks, the column at which that line begins: what comes later in the
-    /// expression stands as far in. Else `NO_LINE`.
-    pub line: usize,
+    /// Of a group: the index of its node.
+    pub node: usize,
+    /// What stands before it: at first on one line, and once lines are broken in the text.
+    pub gap: Gap,
     pub kind: Kind,
     pub role: Role,
     /// Whether its last mark is Joint, so that no gap may follow.
     pub glued: bool,
-    /// Whether a space stands before it, where its list is on one line.
-    pub spaced: bool,
     /// Whether it needs several lines.
     pub tall: bool,
-    pub plain: bool,
-    /// Of a group in braces: whether it has `;` or `=>`, and whether it has `..`.
-    pub statements: bool,
-    pub rest: bool,
-    /// Whether an `if` begins here that gives a value.
-    pub begins_branches: bool,
 }
 
 /// No atom.
 pub static NOTHING: Atom = Atom {
-    tokens: 0,
     width: 0,
     offset: 0,
     tall_before: 0,
-    part_end: 0,
-    first: 0,
-    end: 0,
-    parts: 0,
-    line: NO_LINE,
+    node: 0,
+    gap: Gap::Nothing,
     kind: Kind::Nothing,
     role: Role::Plain,
     glued: false,
-    spaced: false,
     tall: false,
-    plain: false,
-    statements: false,
-    rest: false,
-    begins_branches: false,
 };
 
 impl Atom {
     /// An atom with no role yet.
     #[cfg_attr(not(debug_assertions), inline(always))]
-    pub fn new(kind: Kind, tokens: usize, glued: bool, width: usize) -> Atom {
+    pub fn new(kind: Kind, glued: bool, width: usize) -> Atom {
         // Each field is set once, where the atom is to stand.
         Atom {
-            tokens,
             width,
             offset: 0,
             tall_before: 0,
-            part_end: 0,
-            first: 0,
-            end: 0,
-            parts: 0,
-            line: NO_LINE,
+            node: 0,
+            gap: Gap::Nothing,
             kind,
             role: Role::Plain,
             glued,
-            spaced: false,
             tall: false,
-            plain: false,
-            statements: false,
-            rest: false,
-            begins_branches: false,
+        }
+    }
+
+    /// How many tokens it has. A group counts as its opener.
+    pub fn tokens(&self) -> usize {
+        match self.kind {
+            Kind::Word(Word::Lifetime) => 2,
+            Kind::Sign(_) => self.width,
+            _ => 1,
         }
     }
 
@@ -238,10 +177,6 @@ impl Atom {
 
     pub fn is_sign(&self) -> bool {
         matches!(self.kind, Kind::Sign(_))
-    }
-
-    pub fn is_and(&self) -> bool {
-        matches!(self.kind, Kind::Sign(Sign::And))
     }
 
     pub fn is_or(&self) -> bool {
@@ -274,14 +209,27 @@ impl Atom {
 
     /// A group that is no brace.
     pub fn is_list(&self) -> bool {
-        match self.kind {
-            Kind::Group(_) => !self.is_brace(),
-            _ => false,
-        }
+        self.is_group() && !self.is_brace()
     }
 
-    pub fn is_empty(&self) -> bool {
-        self.first >= self.end
+    /// Whether it is a group with atoms, in a list that is measured.
+    pub fn is_full(&self) -> bool {
+        self.is_group() && self.width > 2
+    }
+
+    /// Whether it is the braces of a head such as `if a`, or of an item.
+    pub fn is_body(&self) -> bool {
+        matches!(self.role, Role::Block | Role::Variants | Role::Branch)
+    }
+
+    /// Whether a space stands before it on one line.
+    pub fn is_spaced(&self) -> bool {
+        matches!(self.gap, Gap::Space)
+    }
+
+    /// Whether it ends a part of a list.
+    pub fn ends_part(&self) -> bool {
+        matches!(self.role, Role::Comma | Role::Semicolon)
     }
 
     /// Whether it is a keyword.
@@ -290,6 +238,7 @@ impl Atom {
             Kind::Word(word) => match word {
                 Word::Name
                 | Word::Fragment
+                | Word::Derive
                 | Word::Format1
                 | Word::Format2
                 | Word::Format3
@@ -310,315 +259,5 @@ impl Atom {
             Kind::Group(_) => self.role != Role::Attribute,
             _ => self.role == Role::Greater || self.role == Role::After,
         }
-    }
-}
-
-/// A group whose atoms aren't there yet.
-#[derive(Clone, Copy)]
-pub struct Unread<'a> {
-    /// The index of its own atom.
-    pub index: usize,
-    pub trees: &'a [TokenTree],
-}
-
-/// The atoms of these trees, after the others, and their groups after the others.
-pub fn push_list<'a>(
-    atoms: &mut Vec<Atom>,
-    groups: &mut Vec<Unread<'a>>,
-    trees: &'a [TokenTree],
-) -> Result<(), AllocError> {
-    let mut passed: usize = 0;
-    for index in 0..trees.len() {
-        if passed > 0 {
-            passed -= 1;
-            continue;
-        }
-        let Some(tree) = trees.get(index) else {
-            break;
-        };
-        let atom = match tree {
-            TokenTree::Group(group) => {
-                let inside = group.stream_ref().trees();
-                groups.push_fallibly(Unread {
-                    index: atoms.len(),
-                    trees: inside,
-                })?;
-                group_atom(group.delimiter(), inside)
-            }
-            TokenTree::Ident(ident) => {
-                let word = if is_raw(ident) {
-                    Word::Name
-                } else {
-                    word_of(name_of(ident))
-                };
-                Atom::new(Kind::Word(word), 1, false, width_of(ident))
-            }
-            TokenTree::Literal(literal) => {
-                let word = if literal.text().starts_with("\"") {
-                    Word::String
-                } else {
-                    Word::Literal
-                };
-                Atom::new(Kind::Word(word), 1, false, first_line(literal.text()))
-            }
-            TokenTree::Punct(punct) => mark_atom(punct, trees, index),
-        };
-        passed = atom.tokens.saturating_sub(1);
-        atoms.push_fallibly(atom)?;
-    }
-    Ok(())
-}
-
-// The group of these trees.
-fn group_atom(delimiter: Delimiter, trees: &[TokenTree]) -> Atom {
-    let mut atom = Atom::new(Kind::Group(delimiter), 1, false, 2);
-    // Only of braces it is asked.
-    if delimiter != Delimiter::Brace {
-        return atom;
-    }
-    let mut passed: usize = 0;
-    for index in 0..trees.len() {
-        if passed > 0 {
-            passed -= 1;
-            continue;
-        }
-        if let Some(TokenTree::Punct(punct)) = trees.get(index) {
-            let inner = operator(punct, trees, index);
-            passed = inner.marks.saturating_sub(1);
-            match inner.sign {
-                Sign::One(';') | Sign::Arm => atom.statements = true,
-                Sign::Range => atom.rest = true,
-                _ => {}
-            }
-        }
-    }
-    atom
-}
-
-// How many characters a text has.
-fn char_count(text: &str) -> usize {
-    // Most texts are of ASCII, whose bytes are its characters.
-    if text.is_ascii() {
-        text.len()
-    } else {
-        text.chars().count()
-    }
-}
-
-// How many characters an identifier has.
-fn width_of(ident: &Ident) -> usize {
-    let front: usize = if is_raw(ident) { 2 } else { 0 };
-    char_count(name_of(ident)).saturating_add(front)
-}
-
-// How many characters stand on the first line of a text.
-fn first_line(text: &str) -> usize {
-    match text.split_once('\n') {
-        Some((line, _)) => char_count(line),
-        None => char_count(text),
-    }
-}
-
-// The lifetime or the operator that begins with this mark, which is the tree of this index.
-fn mark_atom(punct: &Punct, trees: &[TokenTree], index: usize) -> Atom {
-    if punct.as_char() != '\'' {
-        let own = operator(punct, trees, index);
-        return Atom::new(Kind::Sign(own.sign), own.marks, own.glued, own.marks);
-    }
-    match trees.get(index.saturating_add(1)) {
-        Some(TokenTree::Ident(ident)) => {
-            let width = width_of(ident).saturating_add(1);
-            Atom::new(Kind::Word(Word::Lifetime), 2, false, width)
-        }
-        _ => Atom::new(Kind::Sign(Sign::One('\'')), 1, true, 1),
-    }
-}
-
-// An operator, of how many marks it is, and whether the last is Joint.
-#[derive(Clone, Copy)]
-struct Marks {
-    sign: Sign,
-    marks: usize,
-    glued: bool,
-}
-
-// The operator that begins with this mark, which is the tree of this index.
-#[cfg_attr(not(debug_assertions), inline(always))]
-fn operator(punct: &Punct, trees: &[TokenTree], index: usize) -> Marks {
-    let second_index = index.saturating_add(1);
-    let first = punct.as_char();
-    let first_joint = is_joint(punct);
-    let one = Marks {
-        sign: Sign::One(first),
-        marks: 1,
-        glued: first_joint,
-    };
-    if !first_joint {
-        return one;
-    }
-    let Some(second_punct) = mark_at(trees, second_index) else {
-        return one;
-    };
-    let second = second_punct.as_char();
-    let second_joint = is_joint(second_punct);
-    if first == '.' && second == '.' && second_joint {
-        if let Some(third_punct) = mark_at(trees, second_index.saturating_add(1)) {
-            let third = third_punct.as_char();
-            if third == '.' || third == '=' {
-                return Marks {
-                    sign: Sign::Range,
-                    marks: 3,
-                    glued: is_joint(third_punct),
-                };
-            }
-        }
-    }
-    match pair(first, second) {
-        Some(sign) => Marks {
-            sign,
-            marks: 2,
-            glued: second_joint,
-        },
-        None => one,
-    }
-}
-
-// The operator of two marks.
-fn pair(first: char, second: char) -> Option<Sign> {
-    match (first, second) {
-        (':', ':') => Some(Sign::Path),
-        ('-', '>') => Some(Sign::Arrow),
-        ('=', '>') => Some(Sign::Arm),
-        ('&', '&') => Some(Sign::And),
-        ('|', '|') => Some(Sign::Or),
-        ('.', '.') => Some(Sign::Range),
-        (_, '=') => match first {
-            '=' | '!' | '<' | '>' | '+' | '-' | '*' | '/' | '%' | '^' | '&' | '|' => {
-                Some(Sign::Other)
-            }
-            _ => None,
-        },
-        _ => None,
-    }
-}
-
-fn is_joint(punct: &Punct) -> bool {
-    punct.spacing() == Spacing::Joint
-}
-
-// The mark of this index, if it is one that an operator may go on with.
-fn mark_at<'a>(trees: &'a [TokenTree], index: usize) -> Option<&'a Punct> {
-    match trees.get(index) {
-        Some(TokenTree::Punct(punct)) if punct.as_char() != '\'' => Some(punct),
-        _ => None,
-    }
-}
-
-// What an identifier of this text is.
-fn word_of(text: &str) -> Word {
-    // Few words begin alike, and most names are as long as none of these.
-    let Some(first) = text.as_bytes().first() else {
-        return Word::Name;
-    };
-    match *first {
-        b'a' => match text {
-            "as" => Word::As,
-            "await" => Word::Await,
-            "async" => Word::Keyword,
-            "assert_eq" | "assert_ne" => Word::Format3,
-            _ => Word::Name,
-        },
-        b'b' => match text {
-            "break" => Word::Break,
-            "block" => Word::Fragment,
-            _ => Word::Name,
-        },
-        b'c' => match text {
-            "const" | "continue" => Word::Keyword,
-            _ => Word::Name,
-        },
-        b'd' => match text {
-            "dyn" => Word::Keyword,
-            "debug_assert" => Word::Format2,
-            _ => Word::Name,
-        },
-        b'e' => match text {
-            "else" => Word::Else,
-            "enum" => Word::Enum,
-            "extern" => Word::Extern,
-            "expr" => Word::Fragment,
-            "eprint" | "eprintln" => Word::Format1,
-            _ => Word::Name,
-        },
-        b'f' => match text {
-            "fn" => Word::Fn,
-            "for" => Word::For,
-            "format" => Word::Format1,
-            _ => Word::Name,
-        },
-        b'i' => match text {
-            "if" => Word::If,
-            "in" => Word::In,
-            "impl" => Word::Impl,
-            "ident" | "item" => Word::Fragment,
-            _ => Word::Name,
-        },
-        b'l' => match text {
-            "let" => Word::Let,
-            "loop" => Word::Loop,
-            "lifetime" | "literal" => Word::Fragment,
-            _ => Word::Name,
-        },
-        b'm' => match text {
-            "macro_rules" => Word::MacroRules,
-            "match" => Word::Match,
-            "mod" => Word::Mod,
-            "move" | "mut" => Word::Keyword,
-            "meta" => Word::Fragment,
-            _ => Word::Name,
-        },
-        b'p' => match text {
-            "pub" => Word::Pub,
-            "pat" | "path" => Word::Fragment,
-            "panic" | "print" | "println" => Word::Format1,
-            _ => Word::Name,
-        },
-        b'r' => match text {
-            "return" => Word::Return,
-            "ref" => Word::Keyword,
-            _ => Word::Name,
-        },
-        b's' => match text {
-            "struct" => Word::Struct,
-            "static" => Word::Keyword,
-            "stmt" => Word::Fragment,
-            _ => Word::Name,
-        },
-        b't' => match text {
-            "trait" => Word::Trait,
-            "type" => Word::Keyword,
-            "tt" | "ty" => Word::Fragment,
-            _ => Word::Name,
-        },
-        b'u' => match text {
-            "union" => Word::Union,
-            "unsafe" | "use" => Word::Keyword,
-            _ => Word::Name,
-        },
-        b'v' => match text {
-            "vis" => Word::Fragment,
-            _ => Word::Name,
-        },
-        b'w' => match text {
-            "where" => Word::Where,
-            "while" => Word::While,
-            "write" | "writeln" => Word::Format2,
-            _ => Word::Name,
-        },
-        b'y' => match text {
-            "yield" => Word::Keyword,
-            _ => Word::Name,
-        },
-        _ => Word::Name,
     }
 }

@@ -1,21 +1,22 @@
 // Made from crates/pretty_printer/src/roles.rt by rust/erase: change that file, not this one.
-//! What operators and groups mean where they stand.
+//! What words and groups mean where they stand.
 
-use crate::shim::prelude::Grow;
-
-use crate::pretty_printer::atoms::{Atom, Kind, Role, Sign, Word};
-use crate::pretty_printer::lists::{after, atom, before, set_role};
-use crate::pretty_printer::widths::wants_space;
+use crate::pretty_printer::angles::pair_angles;
+use crate::pretty_printer::atoms::{Atom, Kind, Role};
+use crate::pretty_printer::spaces::wants_space;
+use crate::pretty_printer::tree::Tree;
+use crate::pretty_printer::words::Word;
+use crate::layout::Gap;
 use crate::proc_macro2::Delimiter;
 use crate::shim::alloc::AllocError;
 
-/// Gives the atoms of a list their roles. `block` says whether it may have statements. `opens` is for indexes.
+/// Gives the atoms of a list their roles. `inside` is the role of its group.
 pub fn assign_roles(
-    atoms: &mut Vec<Atom>,
-    opens: &mut Vec<usize>,
+    tree: &mut Tree,
     first: usize,
     end: usize,
     block: bool,
+    inside: Role,
 ) -> Result<(), AllocError> {
     let mut state = State {
         start: if block { first } else { NO_START },
@@ -23,123 +24,74 @@ pub fn assign_roles(
         head: Head::Nothing,
         last: Head::Nothing,
         depth: 0,
+        inside,
     };
     for index in first..end {
         // Roles before it stand, and those after it are asked by no other: the angles may be paired as they come.
-        let open = atom(atoms.as_slice(), index);
+        let open = tree.atom(index);
         if open.is_mark('<') && open.role == Role::Plain {
-            pair_angles(atoms, opens, index, end)?;
+            pair_angles(tree, index, end)?;
         }
-        state.take(atoms, first, end, index);
+        state.take(tree, index);
     }
     Ok(())
 }
 
-// Finds the `<` and `>` that enclose types, from this `<` on.
-fn pair_angles(
-    atoms: &mut Vec<Atom>,
-    opens: &mut Vec<usize>,
-    index: usize,
-    end: usize,
-) -> Result<(), AllocError> {
-    opens.clear();
-    opens.push_fallibly(index)?;
-    for later in index.saturating_add(1)..end {
-        let next = atom(atoms.as_slice(), later);
-        if next.is_mark('<') {
-            opens.push_fallibly(later)?;
-        } else if next.is_mark('>') {
-            if let Some(matched) = opens.pop() {
-                set_role(atoms, matched, Role::Less);
-            }
-            set_role(atoms, later, Role::Greater);
-        } else if ends_types(&next, before(atoms.as_slice(), index, later)) {
-            break;
-        }
-        if opens.is_empty() {
-            break;
-        }
-    }
-    for place in 0..opens.len() {
-        if let Some(unmatched) = opens.get(place) {
-            set_role(atoms, *unmatched, Role::Between);
-        }
-    }
-    Ok(())
-}
-
-// Whether no type goes on with the atom, which stands after this one.
-fn ends_types(atom: &Atom, previous: &Atom) -> bool {
-    match atom.kind {
-        Kind::Word(word) => matches!(
-            word,
-            Word::String | Word::If | Word::Let | Word::Match | Word::Else
-        ),
-        // Braces may be the whole of an argument, as in `f::<{ N }>()`.
-        Kind::Group(_) => {
-            atom.is_brace() && !matches!(previous.kind, Kind::Sign(Sign::One('<' | ',' | '=')))
-        }
-        Kind::Sign(sign) => match sign {
-            Sign::Path | Sign::Arrow => false,
-            Sign::One(mark) => !matches!(
-                mark,
-                ',' | '&' | ':' | '=' | '+' | '?' | '*' | '!' | '$' | '#' | '\''
-            ),
-            _ => true,
-        },
-        Kind::Nothing => true,
-    }
-}
-
-// What the next braces belong to.
+/// What the next braces belong to.
 #[derive(Clone, Copy, PartialEq)]
-enum Head {
+pub enum Head {
     Nothing,
     Fn,
     Impl,
-    // Any other item.
+    Enum,
+    /// Any other item.
     Item,
     Else,
-    // An `if` that gives a value, and its `else`.
+    /// An `if` that gives a value, and its `else`.
     Branch,
-    // `if`, `for`, `while`, `loop` or `match`.
+    /// `if`, `for`, `while`, `loop` or `match`.
     Other,
 }
 
-// No statement begins.
-const NO_START: usize = usize::MAX;
+/// No statement begins.
+pub const NO_START: usize = usize::MAX;
 
-// What was read of a list.
+/// What was read of a list.
 #[derive(Clone, Copy)]
-struct State {
-    // Where the statement or the arm begins. Right after braces that end one, the index of the atom after them.
-    start: usize,
-    in_bars: bool,
-    head: Head,
-    last: Head,
-    // How many `<` are open.
-    depth: usize,
+pub struct State {
+    /// Where the statement or the arm begins. Right after braces that end one, the index of the atom after them.
+    pub start: usize,
+    pub in_bars: bool,
+    pub head: Head,
+    pub last: Head,
+    /// How many `<` are open.
+    pub depth: usize,
+    /// The role of the list's group.
+    pub inside: Role,
 }
 
 impl State {
-    // Gives the atom of this index its role, and says whether a space stands before it.
-    fn take(&mut self, atoms: &mut Vec<Atom>, first: usize, end: usize, index: usize) {
-        let own = atom(atoms.as_slice(), index);
-        let previous = before(atoms.as_slice(), first, index);
-        let mut begins = false;
+    // Gives the atom of this index its role, and says what stands before it on one line.
+    fn take(&mut self, tree: &mut Tree, index: usize) {
+        let own = tree.atom(index);
+        let previous = tree.previous(index);
+        let next = tree.next(index);
         let mut role = own.role;
         match own.kind {
             Kind::Word(word) => {
                 if let Some(head) = head_of(word) {
-                    let next = after(atoms.as_slice(), end, index);
-                    begins = self.take_head(word, head, previous, next);
+                    if self.take_head(word, head, previous, next) {
+                        role = Role::Choice;
+                    }
                 }
             }
             Kind::Group(delimiter) => {
-                let earlier = before(atoms.as_slice(), first, index.saturating_sub(1));
-                let next = after(atoms.as_slice(), end, index);
+                let earlier = tree.previous(index.saturating_sub(1));
                 role = self.group_role(delimiter, own, previous, earlier, next);
-                if self.start < NO_START && self.ends(atoms.as_slice(), index, role, next) {
+                let begins = index == self.start.saturating_add(1);
+                let block = begins && previous.is_word(Word::Unsafe);
+                let operand = awaits_operand(previous) && !block;
+                if self.start < NO_START && !operand && self.ends(tree, index, role, next) {
                     self.start = index.saturating_add(1);
                 }
             }
@@ -150,23 +102,20 @@ impl State {
                     Role::Greater => self.depth = self.depth.saturating_sub(1),
                     _ => {}
                 }
-                let next = after(atoms.as_slice(), end, index);
                 role = self.sign_role(sign, own.role, previous, next, index);
             }
             Kind::Nothing => {}
         }
-        let spaced = index > first
-            && wants_space(atoms.as_slice(), first, index, previous, own, role);
-        if let Some(changed) = atoms.get_mut(index) {
+        let spaced = !previous.is_nothing() && wants_space(tree, index, previous, own, role);
+        if let Some(changed) = tree.atoms.get_mut(index) {
             changed.role = role;
-            changed.spaced = spaced;
-            changed.begins_branches = begins;
+            changed.gap = if spaced { Gap::Space } else { Gap::Nothing };
         }
     }
 
     // Whether an `if` begins that gives a value, at this word, with which `head` begins.
     fn take_head(&mut self, word: Word, head: Head, previous: &Atom, next: &Atom) -> bool {
-        let item = matches!(head, Head::Fn | Head::Impl | Head::Item);
+        let item = matches!(head, Head::Fn | Head::Impl | Head::Enum | Head::Item);
         if word == Word::For && (self.head == Head::Impl || next.is_mark('<')) {
             return false;
         }
@@ -176,7 +125,10 @@ impl State {
         let after_sign = previous.is_sign()
             && previous.role != Role::Greater
             && previous.role != Role::Semicolon;
-        let inside = after_sign || previous.is_word(Word::Return) || previous.is_word(Word::Break);
+        let inside = after_sign
+            || previous.is_nothing() && self.start == NO_START
+            || previous.is_word(Word::Return)
+            || previous.is_word(Word::Break);
         let after_else = previous.is_word(Word::Else);
         self.head = if word == Word::If && after_else {
             self.last
@@ -190,8 +142,12 @@ impl State {
         self.head == Head::Branch && word == Word::If && !after_else
     }
 
-    fn is_in_item(&self) -> bool {
-        matches!(self.head, Head::Fn | Head::Impl | Head::Item)
+    /// Whether an item began whose braces are to come.
+    pub fn is_in_item(&self) -> bool {
+        matches!(
+            self.head,
+            Head::Fn | Head::Impl | Head::Enum | Head::Item
+        )
     }
 
     fn group_role(
@@ -203,17 +159,7 @@ impl State {
         next: &Atom,
     ) -> Role {
         if delimiter != Delimiter::Brace {
-            if previous.is_mark('$') {
-                return Role::Repeated;
-            }
-            let hash = previous.is_mark('#') || previous.is_mark('!') && earlier.is_mark('#');
-            if delimiter == Delimiter::Bracket && hash {
-                return Role::Attribute;
-            }
-            if delimiter == Delimiter::Parenthesis && !previous.is_value() {
-                return Role::Tuple;
-            }
-            return Role::Plain;
+            return self.list_role(delimiter, previous, earlier);
         }
         if previous.is_path() {
             return Role::Use;
@@ -225,18 +171,19 @@ impl State {
         let goes_on = next.is_mark('=')
             || next.is_mark('|')
             || next.is_mark(':')
-            || next.is_word(Word::In);
+            || next.is_word(Word::In)
+            || awaits_operand(previous);
         if self.head != Head::Nothing && (self.is_in_item() || !goes_on) {
-            let role = if self.head == Head::Branch && !own.statements {
-                Role::Branch
-            } else {
-                Role::Block
+            let role = match self.head {
+                Head::Branch if own.role != Role::Block => Role::Branch,
+                Head::Enum => Role::Variants,
+                _ => Role::Block,
             };
             self.last = self.head;
             self.head = Head::Nothing;
             return role;
         }
-        if own.statements
+        if own.role == Role::Block
             || previous.role == Role::Attribute
             || previous.is_arm()
             || previous.is_mark('!')
@@ -246,26 +193,52 @@ impl State {
             return Role::Block;
         }
         let name = previous.is_any_word() && !previous.is_keyword();
-        if name || previous.role == Role::Greater {
+        if self.inside == Role::Variants {
+            Role::Variant
+        } else if name || previous.role == Role::Greater {
             Role::Fields
         } else {
             Role::Expression
         }
     }
 
+    // The role of a group that is no braces.
+    fn list_role(&self, delimiter: Delimiter, previous: &Atom, earlier: &Atom) -> Role {
+        let hash = previous.is_mark('#') || previous.is_mark('!') && earlier.is_mark('#');
+        if previous.is_mark('$') {
+            return Role::Repeated;
+        }
+        if delimiter == Delimiter::Bracket && hash {
+            return Role::Attribute;
+        }
+        if delimiter != Delimiter::Parenthesis {
+            return Role::Plain;
+        }
+        let named = previous.is_any_word() && earlier.is_word(Word::Fn);
+        if self.head == Head::Fn && (named || previous.role == Role::Greater) {
+            Role::Params
+        } else if matches!(self.inside, Role::Attribute | Role::Meta) {
+            Role::Meta
+        } else if previous.is_value() || previous.role == Role::Bang {
+            Role::Plain
+        } else {
+            Role::Tuple
+        }
+    }
+
     // Whether a statement, an arm or an attribute ends with the group of this index, which is to have this role.
-    fn ends(&self, atoms: &[Atom], index: usize, role: Role, next: &Atom) -> bool {
+    fn ends(&self, tree: &Tree, index: usize, role: Role, next: &Atom) -> bool {
         let passed = index.saturating_sub(self.start);
         if role == Role::Attribute {
             return passed < 3;
         }
-        if role != Role::Block && role != Role::Expression {
+        if !matches!(role, Role::Block | Role::Variants | Role::Expression) {
             return false;
         }
         if next.is_word(Word::Else) || next.is_mark('.') || next.is_mark('?') {
             return false;
         }
-        let first = atom(atoms, self.start);
+        let first = tree.atom(self.start);
         match first.kind {
             Kind::Group(_) => passed == 0,
             Kind::Word(word) => match word {
@@ -284,84 +257,11 @@ impl State {
                 | Word::Extern
                 | Word::Pub => true,
                 // As `unsafe` and `async move`, or before `fn`.
-                Word::Keyword => passed < 3 || self.last == Head::Fn,
-                Word::Name | Word::MacroRules => after(atoms, index, self.start).role == Role::Bang,
+                Word::Unsafe | Word::Async | Word::Const => passed < 3 || self.last == Head::Fn,
+                Word::Name | Word::MacroRules => tree.next(self.start).role == Role::Bang,
                 _ => false,
             },
             _ => false,
-        }
-    }
-
-    fn sign_role(
-        &mut self,
-        sign: Sign,
-        role: Role,
-        previous: &Atom,
-        next: &Atom,
-        index: usize,
-    ) -> Role {
-        let mark = match sign {
-            Sign::One(mark) => mark,
-            _ => ' ',
-        };
-        let comma_ends = mark == ',' && self.depth == 0 && !self.is_in_item();
-        if mark == ';' || matches!(sign, Sign::Arm) || comma_ends {
-            self.head = Head::Nothing;
-            if self.start < NO_START {
-                self.start = index.saturating_add(1);
-            }
-        }
-        let repeated = previous.role == Role::Repeated || previous.role == Role::Separator;
-        if repeated && matches!(mark, '*' | '+' | '?') {
-            return Role::After;
-        }
-        if repeated && matches!(mark, ',' | ';' | '|') {
-            return Role::Separator;
-        }
-        let value = previous.is_value() && !(index == self.start && previous.is_brace());
-        if mark == '!' {
-            return if previous.is_mark('#') {
-                Role::Hash
-            } else if previous.is_any_word()
-                && (value && !next.is_sign() || previous.is_word(Word::MacroRules))
-            {
-                Role::Bang
-            } else {
-                Role::Before
-            };
-        }
-        if mark == '|' || matches!(sign, Sign::Or) {
-            let found = if mark == '|' && self.in_bars {
-                Role::BarClose
-            } else if value {
-                Role::Between
-            } else if mark == '|' {
-                Role::BarOpen
-            } else {
-                Role::BarClose
-            };
-            self.in_bars = found == Role::BarOpen;
-            return found;
-        }
-        if role != Role::Plain {
-            return role;
-        }
-        match sign {
-            Sign::Path => Role::Path,
-            Sign::Range => Role::Range,
-            Sign::And => side(value),
-            Sign::One(c) => match c {
-                ':' => Role::Colon,
-                ',' => Role::Comma,
-                ';' => Role::Semicolon,
-                '.' => Role::Dot,
-                '#' => Role::Hash,
-                '$' | '~' => Role::Before,
-                '?' if value => Role::After,
-                '-' | '*' | '&' | '@' | '?' => side(value),
-                _ => Role::Between,
-            },
-            _ => Role::Between,
         }
     }
 }
@@ -371,16 +271,19 @@ fn head_of(word: Word) -> Option<Head> {
     Some(match word {
         Word::Fn => Head::Fn,
         Word::Impl => Head::Impl,
-        Word::Trait | Word::Mod | Word::Struct | Word::Enum | Word::Union | Word::Extern => {
-            Head::Item
-        }
+        Word::Enum => Head::Enum,
+        Word::Trait | Word::Mod | Word::Struct | Word::Union | Word::Extern => Head::Item,
         Word::For | Word::While | Word::Loop | Word::Match | Word::If => Head::Other,
         Word::Else => Head::Else,
         _ => return None,
     })
 }
 
-// Of an operator that has two sides after a value.
-fn side(value: bool) -> Role {
-    if value { Role::Between } else { Role::Before }
+/// Whether braces after the atom are an operand, and no body.
+pub fn awaits_operand(previous: &Atom) -> bool {
+    let asks = matches!(
+        previous.kind,
+        Kind::Word(Word::If | Word::While | Word::Match | Word::In | Word::Unsafe)
+    );
+    asks || previous.role == Role::Between
 }

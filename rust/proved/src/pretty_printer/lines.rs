@@ -1,0 +1,301 @@
+// Made from crates/pretty_printer/src/lines.rt by rust/erase: change that file, not this one.
+//! Breaks the lines of a part: from the outside in, by a list of what is left to do.
+
+use crate::shim::prelude::Grow;
+
+use crate::pretty_printer::atoms::{Atom, Role};
+use crate::pretty_printer::tree::{Form, NOWHERE, Node, Tree};
+use crate::layout::Gap;
+use crate::shim::alloc::AllocError;
+
+/// How many columns a line has.
+pub const WIDTH: usize = 100;
+
+/// How far in a block stands.
+pub const TAB: usize = 4;
+
+/// No line begins further in, so that a text that is nested deeply takes room in proportion to its length.
+const DEEPEST: usize = 60;
+
+/// What is to be done.
+#[derive(Clone, Copy, PartialEq)]
+pub enum Step {
+    /// A node. What stands before it is written.
+    Lay,
+    /// The next child of a node, after one that is on one line.
+    Next,
+    /// After one that is not.
+    Broken,
+    /// The body of an item, on a line of its own.
+    Apart,
+    /// The next call of a chain, the next pattern, or the next bound.
+    Line,
+    /// The next part of a list, each on a line.
+    Part,
+    /// As many as fit on each line.
+    Fill,
+    /// Those before and those after the format string on one line.
+    Format,
+    /// As many as fit, but paths and what follows them each on a line.
+    Import,
+    /// The closer of a list, on a line, or on that of the last part.
+    Close,
+    Shut,
+}
+
+/// A step that is left: the children of `node` from `child` on, where the atoms before `at` are written.
+#[derive(Clone, Copy)]
+pub struct Task {
+    pub step: Step,
+    pub node: usize,
+    pub child: usize,
+    pub at: usize,
+    /// Where the lines of what it is in begin.
+    pub indent: usize,
+    /// How many characters have to follow it on its line.
+    pub tail: usize,
+}
+
+/// A tree whose lines are broken.
+pub struct Lines {
+    pub tree: Tree,
+    pub tasks: Vec<Task>,
+    /// How many characters the line has.
+    pub column: usize,
+    /// Whether they are all spaces, and whether they are all closers.
+    pub is_fresh: bool,
+    pub is_shut: bool,
+}
+
+impl Lines {
+    /// Of no atoms.
+    pub fn new() -> Lines {
+        Lines {
+            tree: Tree::new(),
+            tasks: Vec::new(),
+            column: 0,
+            is_fresh: true,
+            is_shut: false,
+        }
+    }
+
+    /// Breaks the lines of a node, which begins a line.
+    pub fn lay_all(&mut self, node: usize) -> Result<(), AllocError> {
+        self.column = 0;
+        self.is_fresh = true;
+        self.is_shut = false;
+        self.tasks.clear();
+        self.lay(node, 0, 0)?;
+        // Each step is taken once for each child of a node at most, so that it ends long before.
+        for _ in 0..usize::MAX {
+            match self.tasks.pop() {
+                Some(task) => self.step(task)?,
+                None => break,
+            }
+        }
+        Ok(())
+    }
+
+    /// Leaves a node to be laid out next.
+    pub fn lay(&mut self, node: usize, indent: usize, tail: usize) -> Result<(), AllocError> {
+        self.tasks.push_fallibly(Task {
+            step: Step::Lay,
+            node,
+            child: NOWHERE,
+            at: NOWHERE,
+            indent,
+            tail,
+        })?;
+        Ok(())
+    }
+
+    /// Leaves the children after `child` to be laid out later by this step.
+    pub fn leave(&mut self, task: Task, step: Step, child: &Node) -> Result<(), AllocError> {
+        self.tasks.push_fallibly(Task {
+            step,
+            node: task.node,
+            child: child.next,
+            at: child.end,
+            indent: task.indent,
+            tail: task.tail,
+        })?;
+        Ok(())
+    }
+
+    fn step(&mut self, task: Task) -> Result<(), AllocError> {
+        let own = *self.tree.node(task.node);
+        match task.step {
+            Step::Lay => self.lay_node(task, &own),
+            Step::Part | Step::Fill | Step::Format | Step::Import => self.next_part(task, &own),
+            Step::Close => {
+                self.close(task.node, task.indent);
+                Ok(())
+            }
+            Step::Shut => {
+                self.column = self.column.saturating_add(1);
+                self.is_fresh = false;
+                Ok(())
+            }
+            _ => match own.form {
+                Form::Chain => self.next_call(task, &own),
+                Form::Operators => self.next_operand(task, &own),
+                Form::Assign | Form::Let | Form::Field => self.next_side(task, &own),
+                Form::Control => self.next_of_control(task, &own),
+                Form::Arm => self.next_of_arm(task, &own),
+                Form::Function | Form::Item => self.next_of_item(task, &own),
+                Form::Bounds => self.next_bound(task, &own),
+                _ => self.next_plain(task, &own),
+            },
+        }
+    }
+
+    // Lays out a node, on one line if it fits.
+    fn lay_node(&mut self, task: Task, own: &Node) -> Result<(), AllocError> {
+        if own.form != Form::Item && self.fits(own, task.tail) {
+            self.put(own.first, own.end);
+            return Ok(());
+        }
+        match own.form {
+            Form::Unread => {
+                let node = self.tree.read_part(own.first, own.end, false)?;
+                self.lay(node, task.indent, task.tail)
+            }
+            Form::Leaf => {
+                self.put(own.first, own.end);
+                Ok(())
+            }
+            Form::Group => self.lay_group(task, own),
+            Form::Chain => self.lay_chain(task, own),
+            Form::Operators => self.lay_operators(task, own),
+            Form::Arm => self.lay_arm(task, own),
+            Form::Function | Form::Item => self.lay_item(task, own),
+            _ => self.begin(task, own, Step::Next),
+        }
+    }
+
+    /// Leaves all of a node to be laid out by this step, child after child.
+    pub fn begin(&mut self, task: Task, own: &Node, step: Step) -> Result<(), AllocError> {
+        self.tasks.push_fallibly(Task {
+            step,
+            node: task.node,
+            child: own.child,
+            at: own.first,
+            indent: task.indent,
+            tail: task.tail,
+        })?;
+        Ok(())
+    }
+
+    // The next child of a node whose atoms are on one line.
+    fn next_plain(&mut self, task: Task, own: &Node) -> Result<(), AllocError> {
+        if task.child == NOWHERE {
+            self.write(own, task.at, own.end);
+            return Ok(());
+        }
+        let child = *self.tree.node(task.child);
+        self.write(own, task.at, child.first);
+        self.lead(own, child.first);
+        let tail = self.tail_of(task, own, &child);
+        self.leave(task, Step::Next, &child)?;
+        self.lay(task.child, task.indent, tail)
+    }
+
+    /// How many characters have to follow a child on its line: up to the next child's opener, or to the end.
+    pub fn tail_of(&self, task: Task, own: &Node, child: &Node) -> usize {
+        if child.next == NOWHERE {
+            return self.rest(child.end, own.end).saturating_add(task.tail);
+        }
+        let next = self.tree.node(child.next).first;
+        self.rest(child.end, next.saturating_add(1))
+            .saturating_sub(self.tree.atom(next).width)
+            .saturating_add(1)
+    }
+
+    /// How many characters these atoms take after what stands before them.
+    pub fn rest(&self, from: usize, end: usize) -> usize {
+        if end <= from {
+            return 0;
+        }
+        self.tree
+            .width(from, end)
+            .saturating_add(self.tree.atom(from).is_spaced() as usize)
+    }
+
+    /// Whether a node fits on the line, with so many characters after it.
+    pub fn fits(&self, own: &Node, tail: usize) -> bool {
+        !own.must && self.fit(own.first, own.end, tail)
+    }
+
+    /// Whether these atoms do.
+    pub fn fit(&self, from: usize, end: usize, tail: usize) -> bool {
+        let width = self.tree.width(from, end).saturating_add(tail);
+        !self.tree.is_tall(from, end) && self.column.saturating_add(width) <= WIDTH
+    }
+
+    /// Writes atoms on this line. What stands before them is written.
+    pub fn put(&mut self, from: usize, end: usize) {
+        if end <= from {
+            return;
+        }
+        self.column = self.column.saturating_add(self.tree.width(from, end));
+        self.is_fresh = false;
+        if self.is_shut {
+            for index in from..end {
+                self.is_shut = self.is_shut && self.tree.atom(index).role == Role::After;
+            }
+        }
+    }
+
+    /// Writes the space before an atom of a node that isn't its first.
+    pub fn lead(&mut self, own: &Node, index: usize) {
+        if index > own.first && self.tree.atom(index).is_spaced() {
+            self.column = self.column.saturating_add(1);
+        }
+    }
+
+    /// Writes atoms of a node, with what stands before them.
+    pub fn write(&mut self, own: &Node, from: usize, end: usize) {
+        if from < end {
+            self.lead(own, from);
+            self.put(from, end);
+        }
+    }
+
+    /// Begins a line before an atom, if it may be parted from what stands before it.
+    pub fn line(&mut self, index: usize, column: usize) {
+        self.break_line(index, Gap::Line(column), column);
+    }
+
+    /// Begins a line by this gap.
+    pub fn break_line(&mut self, index: usize, gap: Gap, column: usize) {
+        if self.tree.previous(index).glued {
+            return;
+        }
+        if let Some(atom) = self.tree.atoms.get_mut(index) {
+            atom.gap = gap;
+        }
+        self.column = column;
+        self.is_fresh = true;
+        self.is_shut = false;
+    }
+
+    /// Writes the closer of a group on a line of its own.
+    pub fn close(&mut self, group: usize, column: usize) {
+        if let Some(node) = self.tree.nodes.get_mut(group) {
+            node.close = Gap::Line(column);
+        }
+        self.column = column.saturating_add(1);
+        self.is_fresh = false;
+        self.is_shut = true;
+    }
+
+    /// The atom before this one.
+    pub fn previous(&self, index: usize) -> &Atom {
+        self.tree.previous(index)
+    }
+}
+
+/// The column of what is inside something that begins at this one.
+pub fn deeper(column: usize) -> usize {
+    column.saturating_add(TAB).min(DEEPEST)
+}

@@ -1,0 +1,71 @@
+// Made from crates/pretty_printer/src/spaces.rt by rust/erase: change that file, not this one.
+//! Where spaces stand between the atoms of a line.
+
+use crate::pretty_printer::atoms::{Atom, Role};
+use crate::pretty_printer::tree::Tree;
+use crate::pretty_printer::words::Word;
+
+/// Whether a space looks well before the atom of this index, which is to have this role, and which isn't the first of
+/// its list.
+#[cfg_attr(not(debug_assertions), inline(always))]
+pub fn wants_space(
+    tree: &Tree,
+    index: usize,
+    previous: &Atom,
+    next: &Atom,
+    role: Role,
+) -> bool {
+    if previous.glued {
+        return false;
+    }
+    if next.is_sign() {
+        match role {
+            Role::Comma
+            | Role::Semicolon
+            | Role::Dot
+            | Role::Colon
+            | Role::Greater
+            | Role::Bang
+            | Role::After
+            | Role::Separator => return false,
+            Role::BarClose if next.is_mark('|') => return false,
+            _ => {}
+        }
+    }
+    if previous.is_sign() && previous.role != Role::Greater && previous.role != Role::After {
+        return match previous.role {
+            Role::Colon => {
+                let dollar = tree.atom(index.saturating_sub(2));
+                !(dollar.is_mark('$') && next.is_word(Word::Fragment))
+            }
+            Role::Before
+            | Role::Path
+            | Role::Less
+            | Role::Hash
+            | Role::Dot
+            | Role::Range
+            | Role::BarOpen
+            | Role::Separator => false,
+            Role::Bang => !next.is_list(),
+            _ => true,
+        };
+    }
+    if next.is_sign() && matches!(role, Role::Path | Role::Range | Role::Less) {
+        let opens = role == Role::Less
+            && (previous.is_word(Word::Impl)
+                || previous.is_word(Word::For)
+                || previous.is_word(Word::Fn));
+        return previous.is_keyword() && !opens;
+    }
+    if next.is_list() {
+        let tight = previous.is_word(Word::Fn)
+            || previous.is_word(Word::Pub)
+            || previous.is_word(Word::Await)
+            || previous.is_word(Word::MacroRules);
+        return previous.is_keyword() && !tight
+            || previous.is_word(Word::Lifetime)
+            || previous.is_brace()
+            || previous.role == Role::Attribute;
+    }
+    true
+}

@@ -1,0 +1,225 @@
+// Made from crates/pretty_printer/src/tree.rt by rust/erase: change that file, not this one.
+//! The trees that the atoms of lists are read as.
+
+use crate::shim::prelude::Grow;
+
+use crate::pretty_printer::atoms::{Atom, NOTHING, Role};
+use crate::pretty_printer::expressions::{NO_OPERAND, Open, Operand};
+use crate::layout::Gap;
+use crate::shim::alloc::AllocError;
+
+/// No index.
+pub const NOWHERE: usize = usize::MAX;
+
+/// The width of no line.
+pub const NO_HEAD: usize = usize::MAX;
+
+/// What a node is.
+#[derive(Clone, Copy, PartialEq)]
+pub enum Form {
+    /// A short part of a list, in which nothing was looked for yet.
+    Unread,
+    /// Atoms on one line.
+    Leaf,
+    /// A group. Its children are its parts.
+    Group,
+    /// Atoms on one line, except in what the children are: as `a::b(c)?`, `&a` and `a = 1;`.
+    Plain,
+    /// A root, and what is called of it: each begins with a dot.
+    Chain,
+    /// Operands with one operator between them.
+    Operators,
+    /// `a..b`
+    Range,
+    /// `a = b`
+    Assign,
+    /// `let a = b`, without its semicolon, and what comes after `else`.
+    Let,
+    /// `a: b` in braces.
+    Field,
+    /// The parameters, if there are any, and the body.
+    Closure,
+    /// `if`, `match` and loops: what is asked, and blocks.
+    Control,
+    /// The pattern, its guard, and the body.
+    Arm,
+    /// An item with parameters, and any other that has a body or bounds: what `Items` says.
+    Function,
+    Item,
+    /// `<` to `>`, with a child for each parameter.
+    Generics,
+    /// `where` and each bound.
+    Bounds,
+    /// A list of imports.
+    Import,
+}
+
+/// Atoms that stand one after another in a list, or a group.
+#[derive(Clone, Copy)]
+pub struct Node {
+    pub form: Form,
+    /// The index of its first atom, and that after its last.
+    pub first: usize,
+    pub end: usize,
+    /// Its first child, and the next child of the same node, or `NOWHERE`.
+    pub child: usize,
+    pub next: usize,
+    /// Of a group: the index of its list's first atom, and that after its last.
+    pub from: usize,
+    pub until: usize,
+    /// The width of its first line if it may go on over the next lines with the line on which it begins, or `NO_HEAD`.
+    pub head: usize,
+    /// Whether it needs several lines.
+    pub must: bool,
+    /// What stands before the closer of a group.
+    pub close: Gap,
+}
+
+/// The atoms and nodes of lists.
+pub struct Tree {
+    pub atoms: Vec<Atom>,
+    pub nodes: Vec<Node>,
+    /// What is read of an expression: nodes that take more children, and the operand at its end.
+    pub opens: Vec<Open>,
+    pub operand: Operand,
+    /// How many of `opens` are `Control`.
+    pub controls: usize,
+    /// For indexes.
+    pub angles: Vec<usize>,
+}
+
+/// No node.
+pub static NO_NODE: Node = Node {
+    form: Form::Leaf,
+    first: 0,
+    end: 0,
+    child: NOWHERE,
+    next: NOWHERE,
+    from: 0,
+    until: 0,
+    head: NO_HEAD,
+    must: false,
+    close: Gap::Nothing,
+};
+
+impl Tree {
+    /// No atoms.
+    pub fn new() -> Tree {
+        Tree {
+            atoms: Vec::new(),
+            nodes: Vec::new(),
+            opens: Vec::new(),
+            operand: NO_OPERAND,
+            controls: 0,
+            angles: Vec::new(),
+        }
+    }
+
+    /// The atom of this index.
+    pub fn atom(&self, index: usize) -> &Atom {
+        match self.atoms.get(index) {
+            Some(atom) => atom,
+            None => &NOTHING,
+        }
+    }
+
+    /// The atom before this one in its list.
+    pub fn previous(&self, index: usize) -> &Atom {
+        self.atom(index.saturating_sub(1))
+    }
+
+    /// The atom after this one in its list.
+    pub fn next(&self, index: usize) -> &Atom {
+        self.atom(index.saturating_add(1))
+    }
+
+    /// The node of this index.
+    pub fn node(&self, index: usize) -> &Node {
+        match self.nodes.get(index) {
+            Some(node) => node,
+            None => &NO_NODE,
+        }
+    }
+
+    /// A new group with no list yet.
+    pub fn push_group(&mut self) -> Result<usize, AllocError> {
+        let first = self.atoms.len();
+        let group = self.push_node(Form::Group, first, first.saturating_add(1))?;
+        Ok(group)
+    }
+
+    /// A new node without children.
+    pub fn push_node(&mut self, form: Form, first: usize, end: usize) -> Result<usize, AllocError> {
+        let index = self.nodes.len();
+        self.nodes.push_fallibly(Node {
+            form,
+            first,
+            end,
+            child: NOWHERE,
+            next: NOWHERE,
+            from: 0,
+            until: 0,
+            head: NO_HEAD,
+            must: false,
+            close: Gap::Nothing,
+        })?;
+        Ok(index)
+    }
+
+    /// Makes `child` the next child of a node, after the child `last`, if it has any.
+    pub fn link(&mut self, node: usize, last: usize, child: usize) {
+        if last != NOWHERE {
+            if let Some(own) = self.nodes.get_mut(last) {
+                own.next = child;
+            }
+        } else if let Some(own) = self.nodes.get_mut(node) {
+            own.child = child;
+        }
+    }
+
+    /// How many characters stand between the beginnings of two atoms on one line.
+    pub fn distance(&self, from: usize, to: usize) -> usize {
+        self.atom(to).offset.saturating_sub(self.atom(from).offset)
+    }
+
+    /// How many characters the atoms from `from` on and before `end` take on one line.
+    pub fn width(&self, from: usize, end: usize) -> usize {
+        if end <= from {
+            return 0;
+        }
+        self.distance(from, end - 1)
+            .saturating_add(self.atom(end - 1).width)
+    }
+
+    /// Whether one of them needs several lines.
+    pub fn is_tall(&self, from: usize, end: usize) -> bool {
+        if end <= from {
+            return false;
+        }
+        let last = self.atom(end - 1);
+        last.tall || last.tall_before > self.atom(from).tall_before
+    }
+
+    /// The first atom with this role from `from` on and before `end`, or `end`.
+    pub fn find_role(&self, from: usize, end: usize, role: Role) -> usize {
+        for index in from..end {
+            if self.atom(index).role == role {
+                return index;
+            }
+        }
+        end
+    }
+
+    /// Whether a node is a call of several that begin with a dot.
+    pub fn last_child(&self, node: usize) -> usize {
+        let mut last = self.node(node).child;
+        for _ in 0..self.nodes.len() {
+            let next = self.node(last).next;
+            if next == NOWHERE {
+                break;
+            }
+            last = next;
+        }
+        last
+    }
+}
