@@ -91,13 +91,13 @@ impl Lines {
         }
         let child = *self.tree.node(task.child);
         let inner = deeper(task.indent);
-        let tail = if child.end == own.end { task.tail } else { 0 };
+        let tail = task.tail;
         self.leave(task, task.step, &child)?;
-        if child.first == own.first {
-            return self.lay(task.child, task.indent, tail);
-        }
         if task.step == Step::Line {
             return self.next_pattern(task, own, &child);
+        }
+        if child.first == own.first {
+            return self.lay(task.child, task.indent, tail);
         }
         if self.column > inner {
             self.line(task.at, inner);
@@ -111,10 +111,10 @@ impl Lines {
 
     // The next pattern of several: on a line, but short ones as many as fit.
     fn next_pattern(&mut self, task: Task, own: &Node, child: &Node) -> Result<(), AllocError> {
-        let more = if child.end == own.end { 5 } else { 0 };
-        let tail = more.max(1);
-        let fills = task.tail == NOWHERE;
-        if fills && self.fit(task.at, child.end, tail) {
+        if child.first == own.first {
+            return self.lay(task.child, task.indent, 3);
+        }
+        if task.tail == NOWHERE && self.fit(task.at, child.end, 6) {
             self.write(own, task.at, child.first);
         } else {
             self.line(task.at, task.indent);

@@ -1,7 +1,7 @@
 //! Breaks the lines of groups: which parts begin a line.
 use crate::atoms::Role;
 use crate::lines::{Lines, Step, Task, WIDTH, deeper};
-use crate::tree::{NO_HEAD, NOWHERE, Node};
+use crate::tree::{Form, NO_HEAD, NOWHERE, Node};
 use crate::words::Word;
 use layout::Gap;
 use std::alloc::AllocError;
@@ -57,6 +57,14 @@ impl Lines {
             if self.tree.atom(last.first).is_spaced() {
                 self.column = self.column.saturating_add(1);
             }
+        }
+        let head = self.tree.head_inside(task.node);
+        let tuple = self.tree.atom(own.first).role == Role::Tuple;
+        if last.form == Form::Chain && head > 0 && !tuple {
+            // A chain that goes on has all but its last call on this line.
+            let call = self.tree.last_child(part);
+            self.put(last.first, self.tree.node(call).first);
+            return self.lay(call, task.indent, task.tail.saturating_add(1));
         }
         // The only argument that is a call too is over its limit: so it isn't on one line either.
         let tail = if self.tree.is_call(part) { WIDTH } else { task.tail };

@@ -283,7 +283,8 @@ impl Tree {
         let chain = value.form == Form::Chain;
         let root = self.atom(value.first);
         let named = root.is_any_word() || root.role == Role::Before;
-        if (short || bang) && chain && atom.is_round() && !single && named {
+        let several = self.node(self.node(value.child).next).next != NOWHERE;
+        if (short || bang) && chain && several && atom.is_round() && !single && named {
             return 0;
         }
         let open = matches!(value.form, Form::Operators | Form::Range | Form::Assign);

@@ -82,6 +82,8 @@ pub enum Role {
     Branch,
     /// Statements, items or fields. Until roles are given: braces with `;` or `=>`.
     Block,
+    /// The block of an `if`, a `match` or a loop that another asks.
+    Inner,
     /// The variants of an enum.
     Variants,
     /// The fields of a struct's literal, and those of a variant.
@@ -219,7 +221,10 @@ impl Atom {
 
     /// Whether it is the braces of a head such as `if a`, or of an item.
     pub fn is_body(&self) -> bool {
-        matches!(self.role, Role::Block | Role::Variants | Role::Branch)
+        matches!(
+            self.role,
+            Role::Block | Role::Inner | Role::Variants | Role::Branch
+        )
     }
 
     /// Whether a space stands before it on one line.

@@ -145,7 +145,7 @@ impl Tree {
         let atom = self.atom(own.first);
         let comma = self.previous(own.until).is_mark(',');
         let bang = self.previous(own.first).role == Role::Bang;
-        let mut must = atom.is_brace() && matches!(atom.role, Role::Block | Role::Variants);
+        let mut must = atom.is_brace() && matches!(atom.role, Role::Block | Role::Inner | Role::Variants);
         let mut count: usize = 0;
         let mut child = own.child;
         while child != NOWHERE {

@@ -243,7 +243,8 @@ impl Tree {
 
 // Whether a statement or an attribute ends with the atom. `signs_only` says that only operators stand before it.
 fn ends_statement(own: &Atom, next: &Atom, signs_only: bool) -> bool {
-    if own.is_brace() && (own.is_body() || own.role == Role::Expression) {
+    let block = own.is_body() && own.role != Role::Inner;
+    if own.is_brace() && (block || own.role == Role::Expression) {
         let goes_on = matches!(
             next.role,
             Role::Comma

@@ -23,6 +23,7 @@ pub fn assign_roles(
         in_bars: false,
         head: Head::Nothing,
         last: Head::Nothing,
+        outer: 0,
         depth: 0,
         inside,
     };
@@ -64,6 +65,8 @@ pub struct State {
     pub in_bars: bool,
     pub head: Head,
     pub last: Head,
+    /// How many `if`, `match` and loops wait for their braces besides.
+    pub outer: usize,
     /// How many `<` are open.
     pub depth: usize,
     /// The role of the list's group.
@@ -130,6 +133,9 @@ impl State {
             || previous.is_word(Word::Return)
             || previous.is_word(Word::Break);
         let after_else = previous.is_word(Word::Else);
+        if matches!(self.head, Head::Other | Head::Branch) && !after_else {
+            self.outer = self.outer.saturating_add(1);
+        }
         self.head = if word == Word::If && after_else {
             self.last
         } else if word == Word::Else && self.last == Head::Branch {
@@ -177,10 +183,16 @@ impl State {
             let role = match self.head {
                 Head::Branch if own.role != Role::Block => Role::Branch,
                 Head::Enum => Role::Variants,
+                _ if self.outer > 0 => Role::Inner,
                 _ => Role::Block,
             };
             self.last = self.head;
-            self.head = Head::Nothing;
+            self.head = if self.outer > 0 {
+                Head::Other
+            } else {
+                Head::Nothing
+            };
+            self.outer = self.outer.saturating_sub(1);
             return role;
         }
         if own.role == Role::Block
@@ -235,7 +247,8 @@ impl State {
         if !matches!(role, Role::Block | Role::Variants | Role::Expression) {
             return false;
         }
-        if next.is_word(Word::Else) || next.is_mark('.') || next.is_mark('?') {
+        let goes_on = next.is_word(Word::Else) || next.is_mark('.') || next.is_mark('?');
+        if goes_on || self.head == Head::Other {
             return false;
         }
         let first = tree.atom(self.start);

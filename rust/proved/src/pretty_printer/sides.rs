@@ -163,15 +163,13 @@ impl Lines {
         let guarded = self.previous(next.first).is_word(Word::If);
         let brace = self.tree.atom(next.first).is_brace();
         let tail = if guarded { 0 } else { 4 + brace as usize };
-        if self.fits(&pattern, tail) {
-            self.put(pattern.first, pattern.end);
-            return self.leave(task, Step::Next, &pattern);
-        }
-        self.leave(task, Step::Broken, &pattern)?;
         let bar = self.tree.node(pattern.child).end;
-        if pattern.form != Form::Operators || !self.tree.atom(bar).is_mark('|') {
+        let bars = pattern.form == Form::Operators && self.tree.atom(bar).is_mark('|');
+        if self.fits(&pattern, tail) || !bars {
+            self.leave(task, Step::Next, &pattern)?;
             return self.lay(own.child, task.indent, tail.min(3));
         }
+        self.leave(task, Step::Broken, &pattern)?;
         let short = self.are_plain(&pattern);
         let mut patterns = task;
         patterns.node = own.child;
@@ -197,24 +195,13 @@ impl Lines {
             return Ok(());
         }
         let child = *self.tree.node(task.child);
-        let word = child.first.saturating_sub(1);
-        if self.tree.atom(word).is_word(Word::If) {
-            let spaced = self.rest(task.at, child.end).saturating_add(5);
-            if !child.must && self.column.saturating_add(spaced) <= WIDTH {
-                self.write(own, task.at, child.end);
-                return self.leave(task, task.step, &child);
-            }
-            let inner = deeper(task.indent);
-            self.line(word, inner);
-            self.put(word, child.first);
-            self.lead(own, child.first);
-            self.leave(task, Step::Broken, &child)?;
-            return self.lay(task.child, inner, 5);
+        if self.previous(child.first).is_word(Word::If) {
+            return self.next_guard(task, own, &child);
         }
         self.write(own, task.at, child.first);
         let brace = self.tree.atom(child.first).is_full() && self.tree.atom(child.first).is_brace();
         let block = child.form == Form::Group && brace;
-        if task.step == Step::Broken && block {
+        if task.step == Step::Apart && block {
             self.line(child.first, task.indent);
         } else {
             self.lead(own, child.first);
@@ -222,5 +209,27 @@ impl Lines {
         let tail = self.rest(child.end, own.end).saturating_add(task.tail);
         self.leave(task, Step::Next, &child)?;
         self.lay(task.child, task.indent, tail)
+    }
+
+    // A guard: on the line of its pattern if it fits, or if that is short, else on the next.
+    fn next_guard(&mut self, task: Task, own: &Node, child: &Node) -> Result<(), AllocError> {
+        let width = self.rest(task.at, child.end).saturating_add(5);
+        let fits = self.column.saturating_add(width) <= WIDTH && task.step == Step::Next;
+        if fits && !child.must {
+            self.write(own, task.at, child.end);
+            return self.leave(task, Step::Next, child);
+        }
+        if self.column <= deeper(task.indent) && !self.is_shut {
+            self.write(own, task.at, child.first);
+            self.lead(own, child.first);
+            self.leave(task, Step::Apart, child)?;
+            return self.lay(task.child, task.indent, 5);
+        }
+        let inner = deeper(task.indent);
+        self.line(task.at, inner);
+        self.put(task.at, child.first);
+        self.lead(own, child.first);
+        self.leave(task, Step::Apart, child)?;
+        self.lay(task.child, inner, 5)
     }
 }

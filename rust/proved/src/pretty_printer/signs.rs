@@ -22,6 +22,7 @@ impl State {
         let comma_ends = mark == ',' && self.depth == 0 && !self.is_in_item();
         if mark == ';' || matches!(sign, Sign::Arm) || comma_ends {
             self.head = Head::Nothing;
+            self.outer = 0;
             if self.start < NO_START {
                 self.start = index.saturating_add(1);
             }

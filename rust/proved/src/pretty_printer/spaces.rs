@@ -59,7 +59,7 @@ pub fn wants_space(
     }
     if next.is_list() {
         let tight = previous.is_word(Word::Fn)
-            || previous.is_word(Word::Pub)
+            || previous.is_word(Word::Pub) && next.is_round()
             || previous.is_word(Word::Await)
             || previous.is_word(Word::MacroRules);
         return previous.is_keyword() && !tight
