@@ -2,16 +2,17 @@
 use crate::atoms::{Atom, Kind, Role, Sign};
 use crate::tree::Tree;
 use crate::words::Word;
-use std::alloc::AllocError;
 
 /// Finds the `<` and `>` that enclose types, from this `<` on.
-pub fn pair_angles(tree: &mut Tree, index: usize, end: usize) -> Result<(), AllocError> {
+pub fn pair_angles(tree: &mut Tree, index: usize, end: usize) {
     tree.angles.clear();
-    tree.angles.push(index)?;
+    let pushed = tree.angles.push(index);
+    tree.check(pushed);
     for later in index.saturating_add(1)..end {
         let next = tree.atom(later);
         if next.is_mark('<') {
-            tree.angles.push(later)?;
+            let pushed = tree.angles.push(later);
+            tree.check(pushed);
         } else if next.is_mark('>') {
             if let Some(matched) = tree.angles.pop() {
                 set_role(tree, matched, Role::Less);
@@ -29,7 +30,6 @@ pub fn pair_angles(tree: &mut Tree, index: usize, end: usize) -> Result<(), Allo
             set_role(tree, unmatched, Role::Between);
         }
     }
-    Ok(())
 }
 
 // Gives the atom this role.

@@ -3,14 +3,18 @@ use crate::atoms::{Atom, Kind, Role, Sign};
 use crate::roles::awaits_operand;
 use crate::tree::{Form, NOWHERE, Tree};
 use crate::words::Word;
-use std::alloc::AllocError;
 
 /// How strongly what takes an operand binds. Nothing after the operand ends what binds with `WEAKEST`.
 pub const WEAKEST: usize = 0;
+
 const ASSIGN: usize = 1;
+
 const RANGE: usize = 2;
+
 const AND: usize = 4;
+
 const CAST: usize = 12;
+
 const BEFORE: usize = 13;
 
 /// A node that takes another operand.
@@ -49,26 +53,26 @@ pub const NO_OPERAND: Operand = Operand {
 
 impl Tree {
     /// Reads these atoms, of which there is one at least, and answers their node.
-    pub fn read_expression(&mut self, first: usize, end: usize) -> Result<usize, AllocError> {
+    pub fn read_expression(&mut self, first: usize, end: usize) -> usize {
         self.opens.clear();
         self.controls = 0;
         self.operand = NO_OPERAND;
         for index in first..end {
-            self.take(index)?;
+            self.take(index);
         }
-        self.reduce(WEAKEST, end)?;
-        let node = self.take_operand(end)?;
+        self.reduce(WEAKEST, end);
+        let node = self.take_operand(end);
         if node != NOWHERE && self.node(node).first == first {
-            return Ok(node);
+            return node;
         }
         // Only a text that is no Rust begins with what belongs to nothing.
-        let all = self.push_node(Form::Plain, first, end)?;
+        let all = self.push_node(Form::Plain, first, end);
         self.link(all, NOWHERE, node);
         self.finish(all, end);
-        Ok(all)
+        all
     }
 
-    fn take(&mut self, index: usize) -> Result<(), AllocError> {
+    fn take(&mut self, index: usize) {
         let own = *self.atom(index);
         if self.operand.depth > 0 || own.role == Role::Less {
             if own.role == Role::Less {
@@ -77,7 +81,7 @@ impl Tree {
                 self.operand.depth = self.operand.depth.saturating_sub(1);
             }
             self.go_on(index, &own);
-            return Ok(());
+            return;
         }
         if self.operand.start == NOWHERE {
             self.begin(index, &own)
@@ -108,7 +112,7 @@ impl Tree {
     }
 
     // Begins an operand with the atom, or what takes one.
-    fn begin(&mut self, index: usize, own: &Atom) -> Result<(), AllocError> {
+    fn begin(&mut self, index: usize, own: &Atom) {
         let previous = self.previous(index);
         match own.kind {
             Kind::Sign(_) => match own.role {
@@ -116,13 +120,12 @@ impl Tree {
                 Role::Range => self.open_before(index, RANGE),
                 Role::BarOpen => self.open_closure(index),
                 Role::BarClose if own.is_or() => self.open_closure(index),
-                Role::BarClose => Ok(()),
-                Role::Colon if previous.is_word(Word::Lifetime) && self.awaits_block() => Ok(()),
+                Role::BarClose => {}
+                Role::Colon if previous.is_word(Word::Lifetime) && self.awaits_block() => {}
                 // The rest of an operator such as `>>`.
-                Role::Between if previous.glued && previous.is_sign() => Ok(()),
+                Role::Between if previous.glued && previous.is_sign() => {}
                 _ => {
                     self.go_on(index, own);
-                    Ok(())
                 }
             },
             Kind::Word(word) => self.begin_word(index, word, own),
@@ -131,13 +134,12 @@ impl Tree {
             }
             _ => {
                 self.go_on(index, own);
-                Ok(())
             }
         }
     }
 
     // Begins with a word.
-    fn begin_word(&mut self, index: usize, word: Word, own: &Atom) -> Result<(), AllocError> {
+    fn begin_word(&mut self, index: usize, word: Word, own: &Atom) {
         let previous = self.previous(index);
         let next = self.next(index);
         match word {
@@ -146,12 +148,11 @@ impl Tree {
                 if next.is_mark('<') {
                     self.go_on(index, own);
                 } else if !previous.is_word(Word::Else) && !labelled {
-                    self.open_control(index)?;
+                    self.open_control(index);
                 }
-                Ok(())
             }
             Word::Lifetime if next.role == Role::Colon => self.open_control(index),
-            Word::Else => Ok(()),
+            Word::Else => {}
             Word::Let => self.open(Form::Let, index, WEAKEST),
             Word::Return | Word::Break => self.open_before(index, WEAKEST),
             Word::Async | Word::Const | Word::Move | Word::Mut | Word::Unsafe => {
@@ -159,39 +160,38 @@ impl Tree {
             }
             _ => {
                 self.go_on(index, own);
-                Ok(())
             }
         }
     }
 
-    fn open(&mut self, form: Form, index: usize, strength: usize) -> Result<(), AllocError> {
-        let node = self.push_node(form, index, index)?;
-        self.opens.push(Open {
+    fn open(&mut self, form: Form, index: usize, strength: usize) {
+        let node = self.push_node(form, index, index);
+        let pushed = self.opens.push(Open {
             node,
             strength,
             last: NOWHERE,
-        })?;
-        Ok(())
+        });
+        self.check(pushed);
     }
 
-    fn open_control(&mut self, index: usize) -> Result<(), AllocError> {
+    fn open_control(&mut self, index: usize) {
         self.controls = self.controls.saturating_add(1);
         self.open(Form::Control, index, WEAKEST)
     }
 
     // Opens what stands before its only operand. Several are one node.
-    fn open_before(&mut self, index: usize, strength: usize) -> Result<(), AllocError> {
+    fn open_before(&mut self, index: usize, strength: usize) {
         if let Some(top) = self.opens.last() {
             let same = top.strength == strength && top.last == NOWHERE;
             if same && self.node(top.node).form == Form::Plain {
-                return Ok(());
+                return;
             }
         }
         self.open(Form::Plain, index, strength)
     }
 
     // Opens a closure, which may have begun with `move`.
-    fn open_closure(&mut self, index: usize) -> Result<(), AllocError> {
+    fn open_closure(&mut self, index: usize) {
         let moved = self.previous(index).is_word(Word::Move);
         if !(moved && self.top_form() == Form::Plain) {
             return self.open(Form::Closure, index, WEAKEST);
@@ -202,7 +202,6 @@ impl Tree {
                 own.form = Form::Closure;
             }
         }
-        Ok(())
     }
 
     // What the last open node is, or a leaf.
@@ -219,7 +218,7 @@ impl Tree {
     }
 
     // Goes on after an operand with the atom.
-    fn take_next(&mut self, index: usize, own: &Atom) -> Result<(), AllocError> {
+    fn take_next(&mut self, index: usize, own: &Atom) {
         let previous = self.previous(index);
         let strength = strength_of(own, previous, self.next(index));
         match own.kind {
@@ -230,15 +229,15 @@ impl Tree {
                 let call = own.role == Role::Plain && previous.is_group();
                 let looks_up = own.is_bracket() && previous.role != Role::Bang;
                 if self.operand.chain != NOWHERE && (call || looks_up) {
-                    self.wrap(index)?;
+                    self.wrap(index);
                 }
             }
             Kind::Word(Word::As) => {
-                self.reduce(CAST, index)?;
-                self.wrap(index)?;
+                self.reduce(CAST, index);
+                self.wrap(index);
             }
             Kind::Word(Word::In) => {
-                self.reduce(ASSIGN, index)?;
+                self.reduce(ASSIGN, index);
                 if self.awaits_block() {
                     return self.attach(index);
                 }
@@ -247,7 +246,7 @@ impl Tree {
                 return self.take_dot(index);
             }
             Kind::Sign(_) if own.role == Role::BarClose => {
-                self.reduce(ASSIGN, index)?;
+                self.reduce(ASSIGN, index);
                 if self.top_form() == Form::Closure {
                     return self.attach(index);
                 }
@@ -256,17 +255,16 @@ impl Tree {
             _ => {}
         }
         self.go_on(index, own);
-        Ok(())
     }
 
     // Ends a call of a chain before this dot.
-    fn take_dot(&mut self, index: usize) -> Result<(), AllocError> {
-        let call = self.take_call(index)?;
+    fn take_dot(&mut self, index: usize) {
+        let call = self.take_call(index);
         let mut chain = self.operand.chain;
         let last = self.operand.call;
         if chain == NOWHERE {
             let first = self.node(call).first;
-            chain = self.push_node(Form::Chain, first, index)?;
+            chain = self.push_node(Form::Chain, first, index);
         }
         self.link(chain, last, call);
         self.operand = Operand {
@@ -277,14 +275,12 @@ impl Tree {
             call,
             depth: 0,
         };
-        Ok(())
     }
 
     // Makes the operand a node within a new one.
-    fn wrap(&mut self, index: usize) -> Result<(), AllocError> {
-        let node = self.take_operand(index)?;
+    fn wrap(&mut self, index: usize) {
+        let node = self.take_operand(index);
         self.set_operand(node);
-        Ok(())
     }
 
     fn set_operand(&mut self, node: usize) {
@@ -295,7 +291,7 @@ impl Tree {
     }
 
     // The node of the last call of the operand, or of all of it if it is no chain.
-    fn take_call(&mut self, end: usize) -> Result<usize, AllocError> {
+    fn take_call(&mut self, end: usize) -> usize {
         let operand = self.operand;
         let only = self.node(operand.child);
         if operand.child != NOWHERE
@@ -303,50 +299,49 @@ impl Tree {
             && only.first == operand.start
             && only.end == end
         {
-            return Ok(operand.child);
+            return operand.child;
         }
         let form = if operand.child == NOWHERE {
             Form::Leaf
         } else {
             Form::Plain
         };
-        let node = self.push_node(form, operand.start, end)?;
+        let node = self.push_node(form, operand.start, end);
         self.link(node, NOWHERE, operand.child);
         self.finish(node, end);
-        Ok(node)
+        node
     }
 
     // The node of the operand. Another is awaited then.
-    fn take_operand(&mut self, end: usize) -> Result<usize, AllocError> {
+    fn take_operand(&mut self, end: usize) -> usize {
         if self.operand.start == NOWHERE {
-            return Ok(NOWHERE);
+            return NOWHERE;
         }
-        let call = self.take_call(end)?;
+        let call = self.take_call(end);
         let chain = self.operand.chain;
         let last = self.operand.call;
         self.operand = NO_OPERAND;
         if chain == NOWHERE {
-            return Ok(call);
+            return call;
         }
         self.link(chain, last, call);
         self.finish(chain, end);
-        Ok(chain)
+        chain
     }
 
     // Ends the nodes that bind as strongly as this or more: the operand is what the first of them is.
-    fn reduce(&mut self, strength: usize, end: usize) -> Result<(), AllocError> {
+    fn reduce(&mut self, strength: usize, end: usize) {
         for _ in 0..self.opens.len() {
             match self.opens.last() {
-                Some(top) if top.strength >= strength => self.reduce_one(end)?,
+                Some(top) if top.strength >= strength => self.reduce_one(end),
                 _ => break,
             }
         }
-        Ok(())
     }
 
     // Ends the last open node.
-    fn reduce_one(&mut self, end: usize) -> Result<(), AllocError> {
-        let child = self.take_operand(end)?;
+    fn reduce_one(&mut self, end: usize) {
+        let child = self.take_operand(end);
         if let Some(top) = self.opens.pop() {
             if child != NOWHERE {
                 self.link(top.node, top.last, child);
@@ -357,19 +352,17 @@ impl Tree {
             self.finish(top.node, end);
             self.set_operand(top.node);
         }
-        Ok(())
     }
 
     // Makes the operand the next child of the last open node.
-    fn attach(&mut self, end: usize) -> Result<(), AllocError> {
-        let child = self.take_operand(end)?;
+    fn attach(&mut self, end: usize) {
+        let child = self.take_operand(end);
         if let Some(top) = self.opens.last().copied() {
             if child != NOWHERE {
                 self.link(top.node, top.last, child);
                 self.set_top(top.strength, child);
             }
         }
-        Ok(())
     }
 
     // Changes the last open node.
@@ -382,14 +375,14 @@ impl Tree {
     }
 
     // Takes the block of the last `if`, `match` or loop. Without `else` it ends.
-    fn take_block(&mut self, index: usize, own: &Atom) -> Result<(), AllocError> {
+    fn take_block(&mut self, index: usize, own: &Atom) {
         for _ in 0..self.opens.len() {
             if self.awaits_block() {
                 break;
             }
-            self.reduce_one(index)?;
+            self.reduce_one(index);
         }
-        self.attach(index)?;
+        self.attach(index);
         self.add_child(own.node);
         self.operand.start = index;
         if self.next(index).is_word(Word::Else) {
@@ -400,16 +393,16 @@ impl Tree {
     }
 
     // Goes on after an operator of two sides.
-    fn take_operator(&mut self, index: usize, strength: usize) -> Result<(), AllocError> {
-        self.reduce(strength.saturating_add(1), index)?;
+    fn take_operator(&mut self, index: usize, strength: usize) {
+        self.reduce(strength.saturating_add(1), index);
         let top = self.opens.last().copied();
         if let Some(top) = top {
             let own = self.node(top.node);
             if strength == ASSIGN && own.form == Form::Let && top.last == NOWHERE {
-                self.attach(index)?;
+                self.attach(index);
                 let last = self.opens.last().map(|open| open.last).unwrap_or(NOWHERE);
                 self.set_top(AND, last);
-                return Ok(());
+                return;
             }
             if top.strength == strength && own.form == Form::Operators {
                 let mark = self.node(own.child).end;
@@ -419,21 +412,20 @@ impl Tree {
             }
         }
         if strength != ASSIGN {
-            self.reduce(strength, index)?;
+            self.reduce(strength, index);
         }
         let form = match strength {
             ASSIGN => Form::Assign,
             RANGE => Form::Range,
             _ => Form::Operators,
         };
-        let child = self.take_operand(index)?;
+        let child = self.take_operand(index);
         let first = self.node(child).first;
-        self.open(form, first, strength)?;
+        self.open(form, first, strength);
         if let Some(top) = self.opens.last().copied() {
             self.link(top.node, NOWHERE, child);
         }
         self.set_top(strength, child);
-        Ok(())
     }
 }
 

@@ -3,7 +3,6 @@ use crate::atoms::{Atom, Role};
 use crate::tree::{Form, NO_HEAD, NOWHERE, Node, Tree};
 use crate::words::Word;
 use layout::Gap;
-use std::alloc::AllocError;
 
 /// The most characters on one line: of a chain of calls, and of the arguments of a call.
 pub const CALL: usize = 60;
@@ -13,6 +12,7 @@ const META: usize = 70;
 const BRANCHES: usize = 50;
 /// Of a struct's literal and of a variant's fields.
 const FIELDS: usize = 18;
+
 const VARIANT: usize = 35;
 /// The name of what is called is short: its only argument may go on with its line.
 pub const SHORT_NAME: usize = 4;
@@ -89,10 +89,10 @@ impl Tree {
     }
 
     /// Measures a group: its list, and then itself.
-    pub fn measure_group(&mut self, group: usize) -> Result<(), AllocError> {
+    pub fn measure_group(&mut self, group: usize) {
         let own = *self.node(group);
         if own.from >= own.until {
-            return Ok(());
+            return;
         }
         let braces = self.atom(own.first).is_brace();
         self.place(own.from, own.until);
@@ -100,7 +100,7 @@ impl Tree {
             self.spread(own.from, own.until);
             self.place(own.from, own.until);
         }
-        self.read_parts(group, braces)?;
+        self.read_parts(group, braces);
         let padded = self.is_padded(&own);
         let inner = self.width(own.from, own.until);
         let around = if padded { 4 } else { 2 };
@@ -119,7 +119,6 @@ impl Tree {
             node.must = must;
             node.head = head;
         }
-        Ok(())
     }
 
     // Whether a space stands within the delimiters: in braces, but for `{{ .. }}` after `=>`.
@@ -143,7 +142,8 @@ impl Tree {
         let atom = self.atom(own.first);
         let comma = self.previous(own.until).is_mark(',');
         let bang = self.previous(own.first).role == Role::Bang;
-        let mut must = atom.is_brace() && matches!(atom.role, Role::Block | Role::Inner | Role::Variants);
+        let mut must = atom.is_brace()
+            && matches!(atom.role, Role::Block | Role::Inner | Role::Variants);
         let mut count: usize = 0;
         let mut child = own.child;
         while child != NOWHERE {
@@ -157,11 +157,11 @@ impl Tree {
             || single
             || bang;
         must || comma && !loose
-            || inner.saturating_sub(comma as usize) > self.limit(own, atom, bang, count)
+            || inner.saturating_sub(comma as usize) > self.limit(own, atom, count)
     }
 
     // How wide the list of a group is at most on one line.
-    fn limit(&self, own: &Node, atom: &Atom, bang: bool, count: usize) -> usize {
+    fn limit(&self, own: &Node, atom: &Atom, count: usize) -> usize {
         match atom.role {
             Role::Fields => return FIELDS,
             Role::Variant => return VARIANT,
@@ -177,24 +177,15 @@ impl Tree {
             || next.is_word(Word::If)
             || previous.is_word(Word::Let);
         let looks_up = atom.is_bracket() && previous.is_value();
-        if pattern || looks_up || bang && self.is_odd(own, atom) {
+        if pattern || looks_up {
             return usize::MAX;
         }
         let nested = count == 1 && atom.role == Role::Plain && self.is_call(own.child);
-        if count > 1 || nested { CALL } else { usize::MAX }
-    }
-
-    // Whether the arguments of a macro are none of a call.
-    fn is_odd(&self, own: &Node, atom: &Atom) -> bool {
-        for index in own.from..own.until {
-            let inner = self.atom(index);
-            let semicolon = inner.role == Role::Semicolon && !atom.is_bracket();
-            let mark = inner.is_mark('@') || inner.is_mark('$');
-            if inner.role == Role::Colon || inner.is_arm() || semicolon || mark {
-                return true;
-            }
+        if count > 1 || nested {
+            CALL
+        } else {
+            usize::MAX
         }
-        false
     }
 
     /// Whether a part is a call of a path or of a macro.

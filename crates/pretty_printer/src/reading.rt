@@ -1,6 +1,6 @@
 //! Reads the trees of a list as atoms.
 use crate::atoms::{Atom, Kind, NOTHING, Role, Sign};
-use crate::tree::Tree;
+use crate::tree::{Form, Tree};
 use crate::words::{Word, word_of};
 use pm_token::parts::{is_raw, name_of};
 use proc_macro2::{Delimiter, Ident, Punct, Spacing, TokenTree};
@@ -34,7 +34,8 @@ pub fn push_list<'a>(
         let atom = match next {
             TokenTree::Group(group) => {
                 let inside = group.stream_ref().trees();
-                let node = tree.push_group()?;
+                let own = tree.atoms.len();
+                let node = tree.push_node(Form::Group, own, own.saturating_add(1));
                 groups.push(Unread {
                     node,
                     trees: inside,

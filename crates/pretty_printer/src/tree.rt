@@ -31,17 +31,15 @@ pub enum Form {
     Assign,
     /// `let a = b`, without its semicolon, and what comes after `else`.
     Let,
-    /// `a: b` in braces.
-    Field,
     /// The parameters, if there are any, and the body.
     Closure,
     /// `if`, `match` and loops: what is asked, and blocks.
     Control,
     /// The pattern, its guard, and the body.
     Arm,
-    /// An item with parameters, and any other that has a body or bounds: what `Items` says.
-    Function,
+    /// Its generics, its parameters, types, bounds and the body.
     Item,
+    Impl,
     /// `<` to `>`, with a child for each parameter.
     Generics,
     /// `where` and each bound.
@@ -83,6 +81,8 @@ pub struct Tree {
     pub controls: usize,
     /// For indexes.
     pub angles: Vec<usize>,
+    /// Set once memory ran out.
+    pub failure: Option<AllocError>,
 }
 
 /// No node.
@@ -109,6 +109,7 @@ impl Tree {
             operand: NO_OPERAND,
             controls: 0,
             angles: Vec::new(alloc),
+            failure: None,
         }
     }
 
@@ -138,17 +139,17 @@ impl Tree {
         }
     }
 
-    /// A new group with no list yet.
-    pub fn push_group(&mut self) -> Result<usize, AllocError> {
-        let first = self.atoms.len();
-        let group = self.push_node(Form::Group, first, first.saturating_add(1))?;
-        Ok(group)
+    /// Takes note of a failure.
+    pub fn check(&mut self, pushed: Result<(), AllocError>) {
+        if let Err(error) = pushed {
+            self.failure = Some(error);
+        }
     }
 
     /// A new node without children.
-    pub fn push_node(&mut self, form: Form, first: usize, end: usize) -> Result<usize, AllocError> {
+    pub fn push_node(&mut self, form: Form, first: usize, end: usize) -> usize {
         let index = self.nodes.len();
-        self.nodes.push(Node {
+        let pushed = self.nodes.push(Node {
             form,
             first,
             end,
@@ -159,8 +160,9 @@ impl Tree {
             head: NO_HEAD,
             must: false,
             close: Gap::Nothing,
-        })?;
-        Ok(index)
+        });
+        self.check(pushed);
+        index
     }
 
     /// Makes `child` the next child of a node, after the child `last`, if it has any.
