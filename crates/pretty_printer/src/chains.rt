@@ -6,7 +6,7 @@ use crate::tree::{NO_HEAD, Node};
 impl Lines {
     /// A chain that isn't on one line.
     pub fn lay_chain(&mut self, task: Task, own: &Node) {
-        let last = self.tree.last_child(task.node);
+        let last = own.last;
         let call = *self.tree.node(last);
         if self.goes_on(task, own, &call) {
             self.put(own.first, call.first);
@@ -34,7 +34,7 @@ impl Lines {
         let before = self.tree.distance(own.first, call.first);
         let width = self.tree.width(call.first, call.end);
         let room = WIDTH.saturating_sub(self.column.saturating_add(task.tail));
-        let several = self.tree.node(self.tree.node(own.child).next).end != own.end;
+        let several = self.tree.node(own.child).next != own.last;
         let room = if several { room.min(CALL) } else { room };
         let alone = deeper(task.indent).saturating_add(width);
         let fits_alone = !call.must && alone.saturating_add(task.tail) <= WIDTH;
@@ -57,7 +57,7 @@ impl Lines {
 
     /// Operands that aren't on one line: the last one opens if what stands before it is short.
     pub fn lay_operators(&mut self, task: Task, own: &Node) {
-        let last = self.tree.last_child(task.node);
+        let last = own.last;
         let operand = *self.tree.node(last);
         let before = self.tree.distance(own.first, operand.first);
         let begins = self.tree.atom(operand.first);

@@ -20,7 +20,7 @@ impl Lines {
             self.open(Step::Shut, task);
             return self.lay(own.child, task.indent, task.tail.saturating_add(1));
         }
-        let head = self.tree.head_inside(task.node);
+        let head = self.tree.head_inside(own);
         let width = self.column.saturating_add(1).saturating_add(head);
         if head != NO_HEAD && width <= WIDTH {
             return self.lay_open(task, own, head);
@@ -38,7 +38,7 @@ impl Lines {
 
     // The last part goes on over the next lines, as if no delimiters were there.
     fn lay_open(&mut self, task: Task, own: &Node, head: usize) {
-        let part = self.tree.last_child(task.node);
+        let part = own.last;
         let last = *self.tree.node(part);
         self.open(Step::Shut, task);
         self.put(own.from, last.first);
@@ -46,9 +46,8 @@ impl Lines {
         let tuple = self.tree.atom(own.first).role == Role::Tuple;
         if last.form == Form::Chain && head > 0 && !tuple {
             // A chain that goes on has all but its last call on this line.
-            let call = self.tree.last_child(part);
-            self.put(last.first, self.tree.node(call).first);
-            return self.lay(call, task.indent, task.tail.saturating_add(1));
+            self.put(last.first, self.tree.node(last.last).first);
+            return self.lay(last.last, task.indent, task.tail.saturating_add(1));
         }
         // The only argument that is a call too is over its limit: so it isn't on one line either.
         let tail = if self.tree.is_call(part) {

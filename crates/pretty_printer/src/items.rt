@@ -1,6 +1,6 @@
 //! Reads items: their heads, bounds and bodies.
 use crate::atoms::{Kind, Role};
-use crate::tree::{Form, NOWHERE, Tree};
+use crate::tree::{Form, Tree};
 use crate::words::Word;
 
 impl Tree {
@@ -42,30 +42,26 @@ impl Tree {
         };
         let head = self.find_word(at, stop, Word::Where);
         let mut from = at.saturating_add(2).saturating_sub(impls as usize);
-        let mut child = NOWHERE;
         if self.atom(from).role == Role::Less {
-            child = self.read_generics(from, head);
-            self.link(node, NOWHERE, child);
-            from = self.node(child).end;
+            let generics = self.read_generics(from, head);
+            self.append(node, generics);
+            from = self.node(generics).end;
         }
         if self.atom(from).role == Role::Params {
-            let params = self.atom(from).node;
-            self.link(node, child, params);
-            child = params;
+            self.append(node, self.atom(from).node);
         }
         if matches!(self.atom(from).role, Role::Params | Role::Colon) {
             from = from.saturating_add(1);
         }
         let split = self.find_for(from, head);
-        child = self.read_child(node, child, from, split);
-        child = self.read_child(node, child, split, head);
+        self.read_child(node, from, split);
+        self.read_child(node, split, head);
         if head < stop {
             let bounds = self.read_bounds(head, stop);
-            self.link(node, child, bounds);
-            child = bounds;
+            self.append(node, bounds);
         }
         if body {
-            self.link(node, child, self.atom(last).node);
+            self.append(node, self.atom(last).node);
         }
         self.finish(node, end);
         node
@@ -95,7 +91,6 @@ impl Tree {
     fn read_generics(&mut self, less: usize, end: usize) -> usize {
         let generics = self.push_node(Form::Generics, less, end);
         let mut depth: usize = 0;
-        let mut last = NOWHERE;
         let mut start = less.saturating_add(1);
         for index in less..end {
             let role = self.atom(index).role;
@@ -109,8 +104,7 @@ impl Tree {
             let stop = index.saturating_add(comma as usize);
             if (depth == 0 || depth == 1 && comma) && start < stop {
                 let child = self.push_node(Form::Leaf, start, stop);
-                self.link(generics, last, child);
-                last = child;
+                self.append(generics, child);
                 start = past;
             }
             if depth == 0 {
@@ -126,7 +120,6 @@ impl Tree {
     fn read_bounds(&mut self, first: usize, end: usize) -> usize {
         let node = self.push_node(Form::Bounds, first, end);
         let mut start = first.saturating_add(1);
-        let mut last = NOWHERE;
         let mut lone = self.atom(end).is_brace() && !self.atom(end).is_full();
         while start < end {
             let past = self.part_end(start, end, false);
@@ -134,11 +127,10 @@ impl Tree {
             let stop = past.saturating_sub(comma as usize);
             let bound = self.push_node(Form::Plain, start, past);
             let colon = self.find_role(start, stop, Role::Colon);
-            self.read_child(bound, NOWHERE, colon.saturating_add(1), stop);
+            self.read_child(bound, colon.saturating_add(1), stop);
             self.finish(bound, past);
-            self.link(node, last, bound);
-            lone = lone && last == NOWHERE && !comma;
-            last = bound;
+            self.append(node, bound);
+            lone = lone && past == end && !comma;
             start = past;
         }
         self.finish(node, end);

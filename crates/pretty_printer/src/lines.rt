@@ -218,10 +218,11 @@ impl Lines {
         }
         self.column = self.column.saturating_add(self.tree.width(from, end));
         self.is_fresh = false;
-        if self.is_shut {
-            for index in from..end {
-                self.is_shut = self.is_shut && self.tree.atom(index).role == Role::After;
+        for index in from..end {
+            if !self.is_shut {
+                break;
             }
+            self.is_shut = self.tree.atom(index).role == Role::After;
         }
     }
 
@@ -250,9 +251,7 @@ impl Lines {
         if self.tree.previous(index).glued {
             return;
         }
-        if let Some(atom) = self.tree.atoms.get_mut(index) {
-            atom.gap = gap;
-        }
+        self.tree.set_gap(index, gap);
         self.column = column;
         self.is_fresh = true;
         self.is_shut = false;
@@ -266,9 +265,8 @@ impl Lines {
 
     /// Writes the closer of a group on a line of its own.
     pub fn close(&mut self, group: usize, column: usize) {
-        if let Some(node) = self.tree.nodes.get_mut(group) {
-            node.close = Gap::Line(column);
-        }
+        let end = self.tree.node(group).until;
+        self.tree.set_gap(end, Gap::Line(column));
         self.column = column.saturating_add(1);
         self.is_fresh = false;
         self.is_shut = true;

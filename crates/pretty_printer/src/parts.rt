@@ -1,6 +1,6 @@
 //! The parts of lists: statements, items, arms, fields and arguments.
 use crate::atoms::{Atom, Kind, Role};
-use crate::tree::{Form, NOWHERE, Tree};
+use crate::tree::{Form, Tree};
 use crate::words::Word;
 
 /// No part is read that is this short: no rule breaks its line.
@@ -11,7 +11,6 @@ impl Tree {
     pub fn read_parts(&mut self, group: usize, block: bool) {
         let own = *self.node(group);
         let mut start = own.from;
-        let mut last = NOWHERE;
         while start < own.until {
             let end = self.part_end(start, own.until, block);
             let long = self.is_tall(start, end) || self.width(start, end) > SHORT;
@@ -21,8 +20,7 @@ impl Tree {
             } else {
                 self.push_node(Form::Unread, start, end)
             };
-            self.link(group, last, part);
-            last = part;
+            self.append(group, part);
             start = end;
         }
     }
@@ -93,7 +91,7 @@ impl Tree {
             return child;
         }
         let node = self.push_node(Form::Plain, first, end);
-        self.link(node, NOWHERE, child);
+        self.append(node, child);
         self.finish(node, end);
         node
     }
@@ -144,22 +142,19 @@ impl Tree {
                 guard = index;
             }
         }
-        let mut last = self.read_child(node, NOWHERE, first, guard);
-        last = self.read_child(node, last, guard.saturating_add(1), arrow);
-        self.read_child(node, last, arrow.saturating_add(1), stop);
+        self.read_child(node, first, guard);
+        self.read_child(node, guard.saturating_add(1), arrow);
+        self.read_child(node, arrow.saturating_add(1), stop);
         self.finish(node, end);
         node
     }
 
-    /// Reads these atoms, if there are any, as a child of a node after the one that was its last, and answers which is
-    /// now.
-    pub fn read_child(&mut self, node: usize, last: usize, from: usize, end: usize) -> usize {
-        if from >= end {
-            return last;
+    /// Reads these atoms, if there are any, as a child of a node.
+    pub fn read_child(&mut self, node: usize, from: usize, end: usize) {
+        if from < end {
+            let child = self.read_expression(from, end);
+            self.append(node, child);
         }
-        let child = self.read_expression(from, end);
-        self.link(node, last, child);
-        child
     }
 
     /// Reads a `let`, a constant or an alias: what is at `at` on, `=` and its right side.
@@ -168,7 +163,7 @@ impl Tree {
         let mut stop = if last.ends_part() { end - 1 } else { end };
         let node = self.push_node(Form::Let, first, end);
         let equals = self.find_equals(at, stop);
-        let child = self.read_child(node, NOWHERE, at.saturating_add(1), equals);
+        self.read_child(node, at.saturating_add(1), equals);
         let right = equals.saturating_add(1);
         let block = stop.saturating_sub(1);
         let other = block.saturating_sub(1);
@@ -177,9 +172,9 @@ impl Tree {
         if has_else {
             stop = other;
         }
-        let child = self.read_child(node, child, right, stop);
+        self.read_child(node, right, stop);
         if has_else {
-            self.link(node, child, self.atom(block).node);
+            self.append(node, self.atom(block).node);
         }
         self.finish(node, end);
         node

@@ -49,7 +49,7 @@ impl<'a> Printer<'a> {
         let mut groups = Vec::new(alloc);
         push_list(&mut lines.tree, &mut groups, stream.trees())?;
         let first = 1;
-        let end = lines.tree.atoms.len();
+        let end = lines.tree.atoms.len().saturating_sub(1);
         assign_roles(&mut lines.tree, first, end, true, Role::Block);
         let part = lines.tree.nodes.len();
         let mut start = first;
@@ -57,12 +57,14 @@ impl<'a> Printer<'a> {
         while start < end {
             let past = lines.tree.part_end(start, end, true);
             let next = lines.tree.push_node(Form::Unread, start, past);
-            lines.tree.link(NOWHERE, last, next);
+            if let Some(node) = lines.tree.nodes.get_mut(last) {
+                node.next = next;
+            }
             last = next;
             start = past;
         }
         let top = Top {
-            atoms: end,
+            atoms: end.saturating_add(1),
             nodes: lines.tree.nodes.len(),
             groups: groups.len(),
         };
@@ -109,7 +111,7 @@ impl<'a> Printer<'a> {
     fn step(&mut self) -> Gap {
         let index = self.list.at;
         if index >= self.list.end {
-            let gap = self.lines.tree.node(self.list.group).close;
+            let gap = self.lines.tree.atom(index).gap;
             if let Some(outer) = self.outer.pop() {
                 self.list = outer;
             }
@@ -157,9 +159,7 @@ impl<'a> Printer<'a> {
         } else {
             Gap::Line(0)
         };
-        if let Some(atom) = self.lines.tree.atoms.get_mut(part.first) {
-            atom.gap = gap;
-        }
+        self.lines.tree.set_gap(part.first, gap);
         self.last_part = self.part;
         self.part = part.next;
     }
@@ -199,10 +199,10 @@ impl<'a> Printer<'a> {
     // Reads the list of a group.
     fn read_group(&mut self, group: Unread<'a>) {
         let tree = &mut self.lines.tree;
-        let first = tree.atoms.len().saturating_add(1);
+        let first = tree.atoms.len();
         let pushed = push_list(tree, &mut self.groups, group.trees);
         tree.check(pushed);
-        let end = tree.atoms.len();
+        let end = tree.atoms.len().saturating_sub(1);
         let own = tree.atom(tree.node(group.node).first);
         let block = own.is_brace();
         let role = own.role;

@@ -21,8 +21,6 @@ pub fn push_list<'a>(
     trees: &'a [TokenTree],
 ) -> Result<(), AllocError> {
     let mut passed: usize = 0;
-    // What stands before a list is no atom.
-    tree.atoms.push(NOTHING)?;
     for index in 0..trees.len() {
         if passed > 0 {
             passed -= 1;
@@ -56,7 +54,8 @@ pub fn push_list<'a>(
         passed = atom.tokens().saturating_sub(1);
         tree.atoms.push(atom)?;
     }
-    Ok(())
+    // What stands after a list has the gap before its closer.
+    tree.atoms.push(NOTHING)
 }
 
 // The group of these trees, which has this node.

@@ -191,7 +191,7 @@ impl State {
         {
             return Role::Block;
         }
-        let name = previous.is_any_word() && !previous.is_keyword();
+        let name = previous.is_name();
         if self.inside == Role::Variants {
             Role::Variant
         } else if name || previous.role == Role::Greater {
