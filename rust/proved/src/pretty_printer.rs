@@ -16,6 +16,7 @@ mod heads;
 mod items;
 mod limits;
 mod lines;
+mod lists;
 mod parts;
 mod printer;
 mod reading;

@@ -6,16 +6,17 @@ use crate::shim::prelude::Grow;
 use crate::pretty_printer::atoms::{Atom, Kind, Role, Sign};
 use crate::pretty_printer::tree::Tree;
 use crate::pretty_printer::words::Word;
-use crate::shim::alloc::AllocError;
 
 /// Finds the `<` and `>` that enclose types, from this `<` on.
-pub fn pair_angles(tree: &mut Tree, index: usize, end: usize) -> Result<(), AllocError> {
+pub fn pair_angles(tree: &mut Tree, index: usize, end: usize) {
     tree.angles.clear();
-    tree.angles.push_fallibly(index)?;
+    let pushed = tree.angles.push_fallibly(index);
+    tree.check(pushed);
     for later in index.saturating_add(1)..end {
         let next = tree.atom(later);
         if next.is_mark('<') {
-            tree.angles.push_fallibly(later)?;
+            let pushed = tree.angles.push_fallibly(later);
+            tree.check(pushed);
         } else if next.is_mark('>') {
             if let Some(matched) = tree.angles.pop() {
                 set_role(tree, matched, Role::Less);
@@ -33,7 +34,6 @@ pub fn pair_angles(tree: &mut Tree, index: usize, end: usize) -> Result<(), Allo
             set_role(tree, unmatched, Role::Between);
         }
     }
-    Ok(())
 }
 
 // Gives the atom this role.

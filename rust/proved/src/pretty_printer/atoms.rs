@@ -165,6 +165,11 @@ impl Atom {
         }
     }
 
+    /// Whether it is a word, and no keyword.
+    pub fn is_name(&self) -> bool {
+        self.is_any_word() && !self.is_keyword()
+    }
+
     pub fn is_any_word(&self) -> bool {
         matches!(self.kind, Kind::Word(_))
     }

@@ -3,126 +3,95 @@
 
 use crate::pretty_printer::limits::CALL;
 use crate::pretty_printer::lines::{Lines, Step, TAB, Task, WIDTH, deeper};
-use crate::pretty_printer::tree::{NO_HEAD, NOWHERE, Node};
-use crate::shim::alloc::AllocError;
+use crate::pretty_printer::tree::{NO_HEAD, Node};
 
 impl Lines {
     /// A chain that isn't on one line.
-    pub fn lay_chain(&mut self, task: Task, own: &Node) -> Result<(), AllocError> {
-        let last = self.tree.last_child(task.node);
-        let first_of_last = self.tree.node(last).first;
-        if self.last_goes_on(task, own, last) {
-            self.put(own.first, first_of_last);
+    pub fn lay_chain(&mut self, task: Task, own: &Node) {
+        let last = own.last;
+        let call = *self.tree.node(last);
+        if self.goes_on(task, own, &call) {
+            self.put(own.first, call.first);
             return self.lay(last, task.indent, task.tail);
         }
         // The calls of a short root that begins a line come with it.
         let mut joined = own.child;
-        if self.is_fresh {
-            for _ in own.first..own.end {
-                let next = self.tree.node(self.tree.node(joined).next).first;
-                if joined == last || self.tree.distance(own.first, next) > TAB {
-                    break;
-                }
-                joined = self.tree.node(joined).next;
+        for _ in own.first..own.end {
+            let next = self.tree.node(joined).next;
+            let before = self.tree.distance(own.first, self.tree.node(next).first);
+            if !self.is_fresh || joined == last || before > TAB {
+                break;
             }
+            joined = next;
         }
         let root = *self.tree.node(joined);
         self.put(own.first, root.first);
-        self.leave(task, Step::Next, &root)?;
+        self.leave(Step::Next, task, &root);
         let tail = if joined == last { task.tail } else { 0 };
-        self.lay(joined, task.indent, tail)
+        self.lay(joined, task.indent, tail);
     }
 
     // Whether all but the last call of a chain is on this line, and the last begins there.
-    fn last_goes_on(&self, task: Task, own: &Node, last: usize) -> bool {
-        let call = self.tree.node(last);
-        if self.tree.is_tall(own.first, call.first) {
-            return false;
-        }
+    fn goes_on(&self, task: Task, own: &Node, call: &Node) -> bool {
         let before = self.tree.distance(own.first, call.first);
-        let whole = before.saturating_add(self.tree.width(call.first, call.end));
+        let width = self.tree.width(call.first, call.end);
         let room = WIDTH.saturating_sub(self.column.saturating_add(task.tail));
-        let single = self.tree.node(own.child).next == last;
-        let room = if single { room } else { room.min(CALL) };
-        if call.head == NO_HEAD {
-            return whole <= room;
-        }
-        let alone = deeper(task.indent)
-            .saturating_add(self.tree.width(call.first, call.end))
-            .saturating_add(task.tail);
-        let fits_alone = !call.must && alone <= WIDTH;
-        before.saturating_add(call.head) <= room && (!fits_alone || whole <= room)
+        let several = self.tree.node(own.child).next != own.last;
+        let room = if several { room.min(CALL) } else { room };
+        let alone = deeper(task.indent).saturating_add(width);
+        let fits_alone = !call.must && alone.saturating_add(task.tail) <= WIDTH;
+        let fits = before.saturating_add(width) <= room;
+        let head = call.head != NO_HEAD && before.saturating_add(call.head) <= room;
+        !self.tree.is_tall(own.first, call.first) && (fits || head && !fits_alone)
     }
 
     /// The next call of a chain, on a line. The lines of calls stand further in, unless a line of closers ends the root.
-    pub fn next_call(&mut self, task: Task, own: &Node) -> Result<(), AllocError> {
-        if task.child == NOWHERE {
-            return Ok(());
-        }
-        let child = *self.tree.node(task.child);
+    pub fn next_call(&mut self, task: Task, own: &Node, child: &Node) {
         let mut rest = task;
         if task.step == Step::Next && !self.is_shut {
             rest.indent = deeper(task.indent);
         }
         self.line(child.first, rest.indent);
-        self.leave(rest, Step::Line, &child)?;
+        self.leave(Step::Line, rest, child);
         let tail = if child.end == own.end { task.tail } else { 0 };
-        self.lay(task.child, rest.indent, tail)
+        self.lay(task.child, rest.indent, tail);
     }
 
-    /// Operands that aren't on one line.
-    pub fn lay_operators(&mut self, task: Task, own: &Node) -> Result<(), AllocError> {
-        let last = self.tree.last_child(task.node);
+    /// Operands that aren't on one line: the last one opens if what stands before it is short.
+    pub fn lay_operators(&mut self, task: Task, own: &Node) {
+        let last = own.last;
         let operand = *self.tree.node(last);
         let before = self.tree.distance(own.first, operand.first);
         let begins = self.tree.atom(operand.first);
         let opens = begins.is_brace() || before <= TAB && !begins.is_round();
-        let fits = self.column.saturating_add(before) <= WIDTH;
-        if opens && fits && !self.tree.is_tall(own.first, operand.first) {
+        if opens && self.fit(own.first, operand.first, 1) {
             self.write(own, own.first, operand.first);
             self.lead(own, operand.first);
             return self.lay(last, task.indent, task.tail);
         }
-        self.begin(task, own, Step::Next)
+        self.begin(Step::Next, task, own);
     }
 
-    /// The next operand, with its operator on a new line. One that is as short as an indentation is followed on its line.
-    pub fn next_operand(&mut self, task: Task, own: &Node) -> Result<(), AllocError> {
-        if task.child == NOWHERE {
-            return Ok(());
-        }
-        let child = *self.tree.node(task.child);
-        let inner = deeper(task.indent);
-        let tail = if child.end == own.end { task.tail } else { 0 };
-        self.leave(task, task.step, &child)?;
+    /// The next operand, with its operator on a new line, if what stands on this one isn't as short as an indentation.
+    /// Patterns stand no further in.
+    pub fn next_operand(&mut self, task: Task, own: &Node, child: &Node) {
+        let pattern = task.step == Step::Line;
+        let inner = if pattern {
+            task.indent
+        } else {
+            deeper(task.indent)
+        };
+        self.leave(task.step, task, child);
         if child.first == own.first {
-            return self.lay(task.child, task.indent, tail);
+            return self.lay(task.child, task.indent, task.tail);
         }
-        if task.step == Step::Line {
-            return self.next_pattern(task, own, &child);
-        }
-        if self.column > inner {
+        if self.column > inner || pattern {
             self.line(task.at, inner);
             self.put(task.at, child.first);
         } else {
             self.write(own, task.at, child.first);
         }
         self.lead(own, child.first);
-        self.lay(task.child, inner, tail)
-    }
-
-    // The next pattern of several: on a line, but short ones as many as fit.
-    fn next_pattern(&mut self, task: Task, own: &Node, child: &Node) -> Result<(), AllocError> {
-        let more = if child.end == own.end { 5 } else { 0 };
-        let tail = more.max(1);
-        let fills = task.tail == NOWHERE;
-        if fills && self.fit(task.at, child.end, tail) {
-            self.write(own, task.at, child.first);
-        } else {
-            self.line(task.at, task.indent);
-            self.put(task.at, child.first);
-        }
-        self.lead(own, child.first);
-        self.lay(task.child, task.indent, 3)
+        self.lay(task.child, inner, task.tail);
     }
 }

@@ -5,439 +5,312 @@ use crate::shim::prelude::Grow;
 
 use crate::pretty_printer::atoms::{Atom, Kind, Role, Sign};
 use crate::pretty_printer::roles::awaits_operand;
-use crate::pretty_printer::tree::{Form, NOWHERE, Tree};
+use crate::pretty_printer::tree::{Form, NOWHERE, Open, Tree};
 use crate::pretty_printer::words::Word;
-use crate::shim::alloc::AllocError;
 
-/// How strongly what takes an operand binds. Nothing after the operand ends what binds with `WEAKEST`.
-pub const WEAKEST: usize = 0;
+/// How strongly what takes an operand binds. Only the end of all ends what binds with `WEAKEST`.
+const WEAKEST: usize = 0;
+
 const ASSIGN: usize = 1;
+
 const RANGE: usize = 2;
+
 const AND: usize = 4;
+
 const CAST: usize = 12;
+
 const BEFORE: usize = 13;
-
-/// A node that takes another operand.
-#[derive(Clone, Copy)]
-pub struct Open {
-    pub node: usize,
-    pub strength: usize,
-    /// Its last child so far, or `NOWHERE`.
-    pub last: usize,
-}
-
-/// What is read of an operand: of a chain of calls, of the call that was read last.
-#[derive(Clone, Copy)]
-pub struct Operand {
-    /// The index of its first atom, or `NOWHERE` if none is read.
-    pub start: usize,
-    /// Its nodes: the first and the last.
-    pub child: usize,
-    pub last: usize,
-    /// The chain, and its last child so far.
-    pub chain: usize,
-    pub call: usize,
-    /// How many `<` are open.
-    pub depth: usize,
-}
-
-/// Nothing is read.
-pub const NO_OPERAND: Operand = Operand {
-    start: NOWHERE,
-    child: NOWHERE,
-    last: NOWHERE,
-    chain: NOWHERE,
-    call: NOWHERE,
-    depth: 0,
-};
 
 impl Tree {
     /// Reads these atoms, of which there is one at least, and answers their node.
-    pub fn read_expression(&mut self, first: usize, end: usize) -> Result<usize, AllocError> {
+    pub fn read_expression(&mut self, first: usize, end: usize) -> usize {
         self.opens.clear();
         self.controls = 0;
-        self.operand = NO_OPERAND;
+        self.operand = NOWHERE;
+        self.chain = NOWHERE;
+        self.depth = 0;
         for index in first..end {
-            self.take(index)?;
+            self.take(index);
         }
-        self.reduce(WEAKEST, end)?;
-        let node = self.take_operand(end)?;
-        if node != NOWHERE && self.node(node).first == first {
-            return Ok(node);
+        self.reduce(WEAKEST, end);
+        let node = self.take_operand(end);
+        if self.node(node).first == first {
+            return node;
         }
         // Only a text that is no Rust begins with what belongs to nothing.
-        let all = self.push_node(Form::Plain, first, end)?;
-        self.link(all, NOWHERE, node);
+        let all = self.push_node(Form::Leaf, first, end);
+        self.append(all, node);
         self.finish(all, end);
-        Ok(all)
+        all
     }
 
-    fn take(&mut self, index: usize) -> Result<(), AllocError> {
+    fn take(&mut self, index: usize) {
         let own = *self.atom(index);
-        if self.operand.depth > 0 || own.role == Role::Less {
-            if own.role == Role::Less {
-                self.operand.depth = self.operand.depth.saturating_add(1);
-            } else if own.role == Role::Greater {
-                self.operand.depth = self.operand.depth.saturating_sub(1);
-            }
-            self.go_on(index, &own);
-            return Ok(());
+        match own.role {
+            Role::Less => self.depth = self.depth.saturating_add(1),
+            Role::Greater => self.depth = self.depth.saturating_sub(1),
+            _ => {}
         }
-        if self.operand.start == NOWHERE {
-            self.begin(index, &own)
+        if self.depth > 0 || own.role == Role::Greater {
+            self.go_on(index, &own);
+        } else if self.operand == NOWHERE {
+            self.begin(index, &own);
         } else {
-            self.take_next(index, &own)
+            self.take_next(index, &own);
         }
     }
 
     // Goes on with the operand, or begins it.
     fn go_on(&mut self, index: usize, own: &Atom) {
-        if self.operand.start == NOWHERE {
-            self.operand.start = index;
+        if self.operand == NOWHERE {
+            self.operand = self.push_node(Form::Leaf, index, index);
         }
         if own.is_full() {
-            self.add_child(own.node);
+            self.append(self.operand, own.node);
         }
-    }
-
-    // Makes a node the next child of the operand.
-    fn add_child(&mut self, child: usize) {
-        let last = self.operand.last;
-        if last == NOWHERE {
-            self.operand.child = child;
-        } else {
-            self.link(NOWHERE, last, child);
-        }
-        self.operand.last = child;
     }
 
     // Begins an operand with the atom, or what takes one.
-    fn begin(&mut self, index: usize, own: &Atom) -> Result<(), AllocError> {
-        let previous = self.previous(index);
+    fn begin(&mut self, index: usize, own: &Atom) {
+        let previous = *self.previous(index);
+        let next = *self.next(index);
+        let label = own.is_word(Word::Lifetime) && next.role == Role::Colon;
+        // The colon of a label, and the rest of an operator such as `>>`.
+        let passed = own.role == Role::Colon && previous.is_word(Word::Lifetime)
+            || own.role == Role::Between && previous.glued
+            || own.role == Role::BarOpen && previous.is_word(Word::Move);
         match own.kind {
+            _ if passed && !self.opens.is_empty() => {}
             Kind::Sign(_) => match own.role {
                 Role::Before => self.open_before(index, BEFORE),
                 Role::Range => self.open_before(index, RANGE),
-                Role::BarOpen => self.open_closure(index),
-                Role::BarClose if own.is_or() => self.open_closure(index),
-                Role::BarClose => Ok(()),
-                Role::Colon if previous.is_word(Word::Lifetime) && self.awaits_block() => Ok(()),
-                // The rest of an operator such as `>>`.
-                Role::Between if previous.glued && previous.is_sign() => Ok(()),
-                _ => {
-                    self.go_on(index, own);
-                    Ok(())
-                }
+                Role::BarOpen => self.open(Form::Closure, index, WEAKEST),
+                Role::BarClose if own.is_or() => self.open(Form::Closure, index, WEAKEST),
+                Role::BarClose => {}
+                _ => self.go_on(index, own),
             },
-            Kind::Word(word) => self.begin_word(index, word, own),
-            _ if own.is_body() && self.awaits_block() && !awaits_operand(previous) => {
-                self.take_block(index, own)
+            Kind::Word(Word::Move) if next.role == Role::BarOpen || next.is_or() => {
+                self.open(Form::Closure, index, WEAKEST);
             }
-            _ => {
-                self.go_on(index, own);
-                Ok(())
+            Kind::Word(_) if label => self.open(Form::Control, index, WEAKEST),
+            Kind::Word(Word::For) if next.is_mark('<') => self.go_on(index, own),
+            Kind::Word(word) => self.begin_word(index, word, own, &previous),
+            _ if own.is_body() && self.awaits_block() && !awaits_operand(&previous) => {
+                self.take_block(index, own);
             }
+            _ => self.go_on(index, own),
         }
     }
 
-    // Begins with a word.
-    fn begin_word(&mut self, index: usize, word: Word, own: &Atom) -> Result<(), AllocError> {
-        let previous = self.previous(index);
-        let next = self.next(index);
+    // Begins an operand with the word, or what takes one.
+    fn begin_word(&mut self, index: usize, word: Word, own: &Atom, previous: &Atom) {
         match word {
             Word::If | Word::Match | Word::While | Word::For | Word::Loop => {
                 let labelled = previous.role == Role::Colon && self.awaits_block();
-                if next.is_mark('<') {
-                    self.go_on(index, own);
-                } else if !previous.is_word(Word::Else) && !labelled {
-                    self.open_control(index)?;
+                if !previous.is_word(Word::Else) && !labelled {
+                    self.open(Form::Control, index, WEAKEST);
                 }
-                Ok(())
             }
-            Word::Lifetime if next.role == Role::Colon => self.open_control(index),
-            Word::Else => Ok(()),
+            Word::Else => {}
             Word::Let => self.open(Form::Let, index, WEAKEST),
             Word::Return | Word::Break => self.open_before(index, WEAKEST),
             Word::Async | Word::Const | Word::Move | Word::Mut | Word::Unsafe => {
-                self.open_before(index, BEFORE)
+                self.open_before(index, BEFORE);
             }
-            _ => {
-                self.go_on(index, own);
-                Ok(())
-            }
+            _ => self.go_on(index, own),
         }
     }
 
-    fn open(&mut self, form: Form, index: usize, strength: usize) -> Result<(), AllocError> {
-        let node = self.push_node(form, index, index)?;
-        self.opens.push_fallibly(Open {
-            node,
-            strength,
-            last: NOWHERE,
-        })?;
-        Ok(())
+    // Opens a node, which takes operands.
+    fn open(&mut self, form: Form, index: usize, strength: usize) {
+        let node = self.push_node(form, index, index);
+        self.controls = self
+            .controls
+            .saturating_add((form == Form::Control) as usize);
+        self.push_open(node, strength);
     }
 
-    fn open_control(&mut self, index: usize) -> Result<(), AllocError> {
-        self.controls = self.controls.saturating_add(1);
-        self.open(Form::Control, index, WEAKEST)
+    fn push_open(&mut self, node: usize, strength: usize) {
+        let pushed = self.opens.push_fallibly(Open { node, strength });
+        self.check(pushed);
     }
 
     // Opens what stands before its only operand. Several are one node.
-    fn open_before(&mut self, index: usize, strength: usize) -> Result<(), AllocError> {
-        if let Some(top) = self.opens.last() {
-            let same = top.strength == strength && top.last == NOWHERE;
-            if same && self.node(top.node).form == Form::Plain {
-                return Ok(());
-            }
+    fn open_before(&mut self, index: usize, strength: usize) {
+        let top = self.top();
+        let own = self.node(top.node);
+        if top.strength != strength || own.form != Form::Plain || own.child != NOWHERE {
+            self.open(Form::Plain, index, strength);
         }
-        self.open(Form::Plain, index, strength)
     }
 
-    // Opens a closure, which may have begun with `move`.
-    fn open_closure(&mut self, index: usize) -> Result<(), AllocError> {
-        let moved = self.previous(index).is_word(Word::Move);
-        if !(moved && self.top_form() == Form::Plain) {
-            return self.open(Form::Closure, index, WEAKEST);
-        }
-        self.set_top(WEAKEST, NOWHERE);
-        if let Some(top) = self.opens.last() {
-            if let Some(own) = self.nodes.get_mut(top.node) {
-                own.form = Form::Closure;
-            }
-        }
-        Ok(())
-    }
-
-    // What the last open node is, or a leaf.
-    fn top_form(&self) -> Form {
+    // The last open node, or none.
+    fn top(&self) -> Open {
         match self.opens.last() {
-            Some(top) => self.node(top.node).form,
-            None => Form::Leaf,
+            Some(top) => *top,
+            None => Open {
+                node: NOWHERE,
+                strength: WEAKEST,
+            },
         }
     }
 
     // Whether the last open node may take a block.
     fn awaits_block(&self) -> bool {
-        self.top_form() == Form::Control
+        self.node(self.top().node).form == Form::Control
     }
 
     // Goes on after an operand with the atom.
-    fn take_next(&mut self, index: usize, own: &Atom) -> Result<(), AllocError> {
-        let previous = self.previous(index);
-        let strength = strength_of(own, previous, self.next(index));
+    fn take_next(&mut self, index: usize, own: &Atom) {
+        let previous = *self.previous(index);
+        let strength = strength_of(own, &previous, self.next(index));
+        let bang = previous.role == Role::Bang;
         match own.kind {
-            Kind::Group(_) => {
-                if own.is_body() && self.controls > 0 && previous.role != Role::Bang {
-                    return self.take_block(index, own);
-                }
-                let call = own.role == Role::Plain && previous.is_group();
-                let looks_up = own.is_bracket() && previous.role != Role::Bang;
-                if self.operand.chain != NOWHERE && (call || looks_up) {
-                    self.wrap(index)?;
+            Kind::Group(_) if own.is_body() && self.controls > 0 && !bang => {
+                return self.take_block(index, own);
+            }
+            // What is looked up in a chain, or called, is its root.
+            Kind::Group(_) if own.is_bracket() && !bang || previous.is_group() => {
+                if self.chain != NOWHERE && own.role == Role::Plain {
+                    let node = self.take_operand(index);
+                    self.set_operand(node);
                 }
             }
             Kind::Word(Word::As) => {
-                self.reduce(CAST, index)?;
-                self.wrap(index)?;
+                self.reduce(CAST, index);
+                let node = self.take_operand(index);
+                self.set_operand(node);
             }
-            Kind::Word(Word::In) => {
-                self.reduce(ASSIGN, index)?;
-                if self.awaits_block() {
-                    return self.attach(index);
-                }
-            }
+            Kind::Word(Word::In) if self.controls > 0 => return self.attach(ASSIGN, index),
             Kind::Sign(_) if own.role == Role::Dot && !previous.glued => {
                 return self.take_dot(index);
             }
-            Kind::Sign(_) if own.role == Role::BarClose => {
-                self.reduce(ASSIGN, index)?;
-                if self.top_form() == Form::Closure {
-                    return self.attach(index);
-                }
-            }
+            Kind::Sign(_) if own.role == Role::BarClose => return self.attach(ASSIGN, index),
             Kind::Sign(_) if strength > WEAKEST => return self.take_operator(index, strength),
             _ => {}
         }
         self.go_on(index, own);
-        Ok(())
     }
 
     // Ends a call of a chain before this dot.
-    fn take_dot(&mut self, index: usize) -> Result<(), AllocError> {
-        let call = self.take_call(index)?;
-        let mut chain = self.operand.chain;
-        let last = self.operand.call;
-        if chain == NOWHERE {
+    fn take_dot(&mut self, index: usize) {
+        let call = self.take_call(index);
+        if self.chain == NOWHERE {
             let first = self.node(call).first;
-            chain = self.push_node(Form::Chain, first, index)?;
+            self.chain = self.push_node(Form::Chain, first, index);
         }
-        self.link(chain, last, call);
-        self.operand = Operand {
-            start: index,
-            child: NOWHERE,
-            last: NOWHERE,
-            chain,
-            call,
-            depth: 0,
-        };
-        Ok(())
+        self.append(self.chain, call);
+        self.operand = self.push_node(Form::Leaf, index, index);
     }
 
-    // Makes the operand a node within a new one.
-    fn wrap(&mut self, index: usize) -> Result<(), AllocError> {
-        let node = self.take_operand(index)?;
-        self.set_operand(node);
-        Ok(())
-    }
-
+    // Begins an operand with a node.
     fn set_operand(&mut self, node: usize) {
-        self.operand = NO_OPERAND;
-        self.operand.start = self.node(node).first;
-        self.operand.child = node;
-        self.operand.last = node;
+        let first = self.node(node).first;
+        self.operand = self.push_node(Form::Leaf, first, first);
+        self.append(self.operand, node);
     }
 
     // The node of the last call of the operand, or of all of it if it is no chain.
-    fn take_call(&mut self, end: usize) -> Result<usize, AllocError> {
-        let operand = self.operand;
-        let only = self.node(operand.child);
-        if operand.child != NOWHERE
-            && operand.child == operand.last
-            && only.first == operand.start
-            && only.end == end
-        {
-            return Ok(operand.child);
+    fn take_call(&mut self, end: usize) -> usize {
+        let node = self.operand;
+        let own = *self.node(node);
+        let only = *self.node(own.child);
+        self.operand = NOWHERE;
+        if own.child != NOWHERE && only.first == own.first && only.end == end {
+            return own.child;
         }
-        let form = if operand.child == NOWHERE {
-            Form::Leaf
-        } else {
-            Form::Plain
-        };
-        let node = self.push_node(form, operand.start, end)?;
-        self.link(node, NOWHERE, operand.child);
         self.finish(node, end);
-        Ok(node)
+        node
     }
 
-    // The node of the operand. Another is awaited then.
-    fn take_operand(&mut self, end: usize) -> Result<usize, AllocError> {
-        if self.operand.start == NOWHERE {
-            return Ok(NOWHERE);
+    // The node of the operand, or `NOWHERE`. Another is awaited then.
+    fn take_operand(&mut self, end: usize) -> usize {
+        let chain = self.chain;
+        self.chain = NOWHERE;
+        if self.operand == NOWHERE {
+            return NOWHERE;
         }
-        let call = self.take_call(end)?;
-        let chain = self.operand.chain;
-        let last = self.operand.call;
-        self.operand = NO_OPERAND;
+        let call = self.take_call(end);
         if chain == NOWHERE {
-            return Ok(call);
+            return call;
         }
-        self.link(chain, last, call);
+        self.append(chain, call);
         self.finish(chain, end);
-        Ok(chain)
+        chain
     }
 
     // Ends the nodes that bind as strongly as this or more: the operand is what the first of them is.
-    fn reduce(&mut self, strength: usize, end: usize) -> Result<(), AllocError> {
+    fn reduce(&mut self, strength: usize, end: usize) {
         for _ in 0..self.opens.len() {
-            match self.opens.last() {
-                Some(top) if top.strength >= strength => self.reduce_one(end)?,
-                _ => break,
+            if self.top().strength < strength {
+                break;
             }
+            self.reduce_one(end);
         }
-        Ok(())
     }
 
     // Ends the last open node.
-    fn reduce_one(&mut self, end: usize) -> Result<(), AllocError> {
-        let child = self.take_operand(end)?;
+    fn reduce_one(&mut self, end: usize) {
+        let child = self.take_operand(end);
         if let Some(top) = self.opens.pop() {
-            if child != NOWHERE {
-                self.link(top.node, top.last, child);
-            }
-            if self.node(top.node).form == Form::Control {
-                self.controls = self.controls.saturating_sub(1);
-            }
+            let control = self.node(top.node).form == Form::Control;
+            self.controls = self.controls.saturating_sub(control as usize);
+            self.append(top.node, child);
             self.finish(top.node, end);
             self.set_operand(top.node);
         }
-        Ok(())
     }
 
-    // Makes the operand the next child of the last open node.
-    fn attach(&mut self, end: usize) -> Result<(), AllocError> {
-        let child = self.take_operand(end)?;
-        if let Some(top) = self.opens.last().copied() {
-            if child != NOWHERE {
-                self.link(top.node, top.last, child);
-                self.set_top(top.strength, child);
-            }
-        }
-        Ok(())
-    }
-
-    // Changes the last open node.
-    fn set_top(&mut self, strength: usize, last: usize) {
-        let count = self.opens.len();
-        if let Some(top) = self.opens.get_mut(count.saturating_sub(1)) {
-            top.strength = strength;
-            top.last = last;
-        }
+    // Ends the nodes that bind as strongly as this, and gives the operand to the last open one.
+    fn attach(&mut self, strength: usize, end: usize) {
+        self.reduce(strength, end);
+        let child = self.take_operand(end);
+        self.append(self.top().node, child);
     }
 
     // Takes the block of the last `if`, `match` or loop. Without `else` it ends.
-    fn take_block(&mut self, index: usize, own: &Atom) -> Result<(), AllocError> {
+    fn take_block(&mut self, index: usize, own: &Atom) {
         for _ in 0..self.opens.len() {
             if self.awaits_block() {
                 break;
             }
-            self.reduce_one(index)?;
+            self.reduce_one(index);
         }
-        self.attach(index)?;
-        self.add_child(own.node);
-        self.operand.start = index;
-        if self.next(index).is_word(Word::Else) {
-            self.attach(index.saturating_add(1))
-        } else {
-            self.reduce_one(index.saturating_add(1))
+        let child = self.take_operand(index);
+        self.append(self.top().node, child);
+        self.append(self.top().node, own.node);
+        if !self.next(index).is_word(Word::Else) {
+            self.reduce_one(index.saturating_add(1));
         }
     }
 
     // Goes on after an operator of two sides.
-    fn take_operator(&mut self, index: usize, strength: usize) -> Result<(), AllocError> {
-        self.reduce(strength.saturating_add(1), index)?;
-        let top = self.opens.last().copied();
-        if let Some(top) = top {
-            let own = self.node(top.node);
-            if strength == ASSIGN && own.form == Form::Let && top.last == NOWHERE {
-                self.attach(index)?;
-                let last = self.opens.last().map(|open| open.last).unwrap_or(NOWHERE);
-                self.set_top(AND, last);
-                return Ok(());
-            }
-            if top.strength == strength && own.form == Form::Operators {
-                let mark = self.node(own.child).end;
-                if is_same(self.atom(mark), self.atom(index)) {
-                    return self.attach(index);
-                }
-            }
+    fn take_operator(&mut self, index: usize, strength: usize) {
+        self.reduce(strength.saturating_add(1), index);
+        let top = self.top();
+        let own = *self.node(top.node);
+        let mark = self.node(own.child).end;
+        if strength == ASSIGN && own.form == Form::Let && own.child == NOWHERE {
+            self.attach(AND, index);
+            self.opens.pop();
+            return self.push_open(top.node, AND);
+        }
+        let same = own.form == Form::Operators && is_same(self.atom(mark), self.atom(index));
+        if same && top.strength == strength {
+            return self.attach(BEFORE, index);
         }
         if strength != ASSIGN {
-            self.reduce(strength, index)?;
+            self.reduce(strength, index);
         }
         let form = match strength {
             ASSIGN => Form::Assign,
             RANGE => Form::Range,
             _ => Form::Operators,
         };
-        let child = self.take_operand(index)?;
+        let child = self.take_operand(index);
         let first = self.node(child).first;
-        self.open(form, first, strength)?;
-        if let Some(top) = self.opens.last().copied() {
-            self.link(top.node, NOWHERE, child);
-        }
-        self.set_top(strength, child);
-        Ok(())
+        self.open(form, first, strength);
+        self.append(self.top().node, child);
     }
 }
 
@@ -452,21 +325,14 @@ fn is_same(a: &Atom, b: &Atom) -> bool {
 
 // How strongly an operator binds. What is none has `WEAKEST`.
 fn strength_of(own: &Atom, previous: &Atom, next: &Atom) -> usize {
-    let Kind::Sign(sign) = own.kind else {
-        return WEAKEST;
-    };
-    if own.role == Role::Range {
-        return RANGE;
-    }
-    if own.role != Role::Between || previous.glued && previous.is_sign() {
-        return WEAKEST;
-    }
-    match sign {
-        Sign::Assign => ASSIGN,
-        Sign::Or => 3,
-        Sign::And => AND,
-        Sign::Compare => 5,
-        Sign::One(mark) => match mark {
+    match own.kind {
+        _ if own.role == Role::Range => RANGE,
+        _ if own.role != Role::Between || previous.glued && previous.is_sign() => WEAKEST,
+        Kind::Sign(Sign::Assign) => ASSIGN,
+        Kind::Sign(Sign::Or) => 3,
+        Kind::Sign(Sign::And) => AND,
+        Kind::Sign(Sign::Compare) => 5,
+        Kind::Sign(Sign::One(mark)) => match mark {
             '=' => ASSIGN,
             '<' | '>' if own.glued && next.is_mark(mark) => 9,
             '<' | '>' => 5,

@@ -1,95 +1,87 @@
 // Made from crates/pretty_printer/src/groups.rt by rust/erase: change that file, not this one.
 //! Breaks the lines of groups: which parts begin a line.
 
-use crate::shim::prelude::Grow;
-
-use crate::pretty_printer::atoms::Role;
+use crate::pretty_printer::atoms::{Kind, Role};
 use crate::pretty_printer::lines::{Lines, Step, Task, WIDTH, deeper};
-use crate::pretty_printer::tree::{NO_HEAD, NOWHERE, Node};
+use crate::pretty_printer::tree::{Form, NO_HEAD, NOWHERE, Node};
 use crate::pretty_printer::words::Word;
 use crate::layout::Gap;
-use crate::shim::alloc::AllocError;
 
 /// How wide an element is at most of which several stand on one line.
 const SHORT: usize = 10;
 
 impl Lines {
     /// A group that isn't on one line. What stands before it is written.
-    pub fn lay_group(&mut self, task: Task, own: &Node) -> Result<(), AllocError> {
+    pub fn lay_group(&mut self, task: Task, own: &Node) {
         let atom = *self.tree.atom(own.first);
         let doc = atom.role == Role::Attribute && own.until.saturating_sub(own.from) == 3;
         if own.child == NOWHERE || doc {
-            self.put(own.first, own.end);
-            return Ok(());
+            return self.put(own.first, own.end);
         }
-        if atom.role == Role::Attribute || self.tree.is_doubled(own) && atom.is_brace() {
-            self.open(task, Step::Shut)?;
-            let tail = task.tail.saturating_add(1);
-            return self.lay(own.child, task.indent, tail);
+        if atom.role == Role::Attribute || self.tree.is_doubled(own) {
+            self.open(Step::Shut, task);
+            return self.lay(own.child, task.indent, task.tail.saturating_add(1));
         }
-        let head = self.tree.head_inside(task.node);
+        let head = self.tree.head_inside(own);
         let width = self.column.saturating_add(1).saturating_add(head);
         if head != NO_HEAD && width <= WIDTH {
-            return self.lay_open(task, own);
+            return self.lay_open(task, own, head);
         }
-        self.lay_lines(task.node, task.indent)
+        self.lay_lines(task.node, task.indent);
     }
 
     // Writes the opener, and leaves the closer.
-    fn open(&mut self, task: Task, step: Step) -> Result<(), AllocError> {
+    fn open(&mut self, step: Step, task: Task) {
         self.column = self.column.saturating_add(1);
         self.is_fresh = false;
         self.is_shut = false;
-        self.tasks.push_fallibly(Task {
-            step,
-            node: task.node,
-            child: NOWHERE,
-            at: NOWHERE,
-            indent: task.indent,
-            tail: 0,
-        })?;
-        Ok(())
+        self.push(step, task, NOWHERE, NOWHERE);
     }
 
     // The last part goes on over the next lines, as if no delimiters were there.
-    fn lay_open(&mut self, task: Task, own: &Node) -> Result<(), AllocError> {
-        let part = self.tree.last_child(task.node);
+    fn lay_open(&mut self, task: Task, own: &Node, head: usize) {
+        let part = own.last;
         let last = *self.tree.node(part);
-        self.open(task, Step::Shut)?;
-        if own.from < last.first {
-            self.put(own.from, last.first);
-            if self.tree.atom(last.first).is_spaced() {
-                self.column = self.column.saturating_add(1);
-            }
+        self.open(Step::Shut, task);
+        self.put(own.from, last.first);
+        self.lead(own, last.first);
+        let tuple = self.tree.atom(own.first).role == Role::Tuple;
+        if last.form == Form::Chain && head > 0 && !tuple {
+            // A chain that goes on has all but its last call on this line.
+            self.put(last.first, self.tree.node(last.last).first);
+            return self.lay(last.last, task.indent, task.tail.saturating_add(1));
         }
         // The only argument that is a call too is over its limit: so it isn't on one line either.
-        let tail = if self.tree.is_call(part) { WIDTH } else { task.tail };
-        self.lay(part, task.indent, tail.saturating_add(1))
+        let tail = if self.tree.is_call(part) {
+            WIDTH
+        } else {
+            task.tail
+        };
+        self.lay(part, task.indent, tail.saturating_add(1));
     }
 
     /// Leaves the parts of a group, each on a line or as many as fit.
-    pub fn lay_lines(&mut self, group: usize, indent: usize) -> Result<(), AllocError> {
+    pub fn lay_lines(&mut self, group: usize, indent: usize) {
         let own = *self.tree.node(group);
         if own.child == NOWHERE {
-            self.put(own.first, own.end);
-            return Ok(());
+            return self.put(own.first, own.end);
         }
+        let step = self.step_of(&own);
         let mut task = Task {
-            step: self.step_of(&own, deeper(indent)),
+            step,
             node: group,
             child: own.child,
             at: NOWHERE,
             indent,
             tail: 0,
         };
-        self.open(task, Step::Close)?;
+        self.open(Step::Close, task);
         task.indent = deeper(indent);
-        self.tasks.push_fallibly(task)?;
-        Ok(())
+        self.push(step, task, own.child, NOWHERE);
     }
 
     // How the parts of a group stand on lines.
-    fn step_of(&self, own: &Node, indent: usize) -> Step {
+    fn step_of(&self, own: &Node) -> Step {
         let atom = self.tree.atom(own.first);
         let name = self.previous(own.first);
         if atom.role == Role::Use && self.is_nested(own) {
@@ -102,14 +94,13 @@ impl Lines {
             return Step::Part;
         }
         let several = self.tree.node(own.child).next != NOWHERE;
-        if several && self.are_short(own) {
-            return Step::Fill;
+        if several && self.are_simple(own, SHORT) {
+            Step::Fill
+        } else if self.before_format(own) > 0 && self.are_simple(own, usize::MAX) {
+            Step::Format
+        } else {
+            Step::Part
         }
-        let before = self.before_format(own);
-        if before > 0 && atom.is_round() && self.is_simple_format(own, before, indent) {
-            return Step::Format;
-        }
-        Step::Part
     }
 
     // Whether an import of a list is a list too.
@@ -117,19 +108,30 @@ impl Lines {
         self.tree.find_role(own.from, own.until, Role::Use) < own.until
     }
 
-    // Whether each part of a list is short and simple.
-    fn are_short(&self, own: &Node) -> bool {
+    // Whether each part of a list is simple, and no wider than that.
+    fn are_simple(&self, own: &Node, most: usize) -> bool {
         let mut child = own.child;
         while child != NOWHERE {
             let part = self.tree.node(child);
             let end = self.end_of(part);
-            let short = self.tree.width(part.first, end) <= SHORT;
-            if !short || self.tree.is_tall(part.first, end) || !self.is_simple(part.first, end) {
+            let wide = self.tree.width(part.first, end) > most;
+            if wide || part.must && most == SHORT || !self.is_simple(part.first, end) {
                 return false;
             }
             child = part.next;
         }
         true
+    }
+
+    // The number of arguments of a macro up to its format string, or 0.
+    fn before_format(&self, own: &Node) -> usize {
+        let bang = self.previous(own.first).role == Role::Bang;
+        match self.previous(own.first.saturating_sub(1)).kind {
+            Kind::Word(Word::Format1) if bang => 1,
+            Kind::Word(Word::Format2) if bang => 2,
+            Kind::Word(Word::Format3) if bang => 3,
+            _ => 0,
+        }
     }
 
     // Where a part ends without its comma.
@@ -152,59 +154,13 @@ impl Lines {
         true
     }
 
-    // The number of arguments of a macro up to its format string, or 0.
-    fn before_format(&self, own: &Node) -> usize {
-        if self.previous(own.first).role != Role::Bang {
-            return 0;
-        }
-        let name = self.previous(own.first.saturating_sub(1));
-        if name.is_word(Word::Format1) {
-            1
-        } else if name.is_word(Word::Format2) {
-            2
-        } else if name.is_word(Word::Format3) {
-            3
-        } else {
-            0
-        }
-    }
-
-    // Whether all arguments are simple, and those before and after the format string are a line each.
-    fn is_simple_format(&self, own: &Node, before: usize, indent: usize) -> bool {
-        let mut child = own.child;
-        let mut number: usize = 0;
-        let mut end_of_first = own.from;
-        let mut end_of_format = own.until;
-        while child != NOWHERE {
-            let part = self.tree.node(child);
-            number = number.saturating_add(1);
-            if number < before {
-                end_of_first = part.end;
-            } else if number == before {
-                end_of_format = part.end;
-            }
-            if !self.is_simple(part.first, self.end_of(part)) {
-                return false;
-            }
-            child = part.next;
-        }
-        let first = self.tree.width(own.from, end_of_first);
-        let rest = self.tree.width(end_of_format, own.until);
-        number >= before && first.max(rest).saturating_add(indent) <= WIDTH
-    }
-
     /// The next part of a group. `at` is the part before it, and `tail` how many there are.
-    pub fn next_part(&mut self, task: Task, own: &Node) -> Result<(), AllocError> {
-        if task.child == NOWHERE {
-            return Ok(());
-        }
-        let part = *self.tree.node(task.child);
-        if self.joins(task, own, &part) {
+    pub fn next_part(&mut self, task: Task, own: &Node, part: &Node) {
+        if self.joins(task, own, part) {
             self.lead(own, part.first);
         } else {
-            let blank = task.at != NOWHERE
-                && task.step == Step::Part
-                && self.parts_items(self.tree.node(task.at), &part);
+            let items = task.at != NOWHERE && task.step == Step::Part;
+            let blank = items && self.parts_items(self.tree.node(task.at), part);
             let gap = if blank {
                 Gap::Blank(task.indent)
             } else {
@@ -212,32 +168,23 @@ impl Lines {
             };
             self.break_line(part.first, gap, task.indent);
         }
-        self.tasks.push_fallibly(Task {
-            step: task.step,
-            node: task.node,
-            child: part.next,
-            at: task.child,
-            indent: task.indent,
-            tail: task.tail.saturating_add(1),
-        })?;
-        self.lay(task.child, task.indent, 0)
+        let mut rest = task;
+        rest.tail = task.tail.saturating_add(1);
+        self.push(task.step, rest, part.next, task.child);
+        self.lay(task.child, task.indent, 0);
     }
 
     // Whether a part goes on with the line of the one before it.
     fn joins(&self, task: Task, own: &Node, part: &Node) -> bool {
-        if task.at == NOWHERE || !self.fits(part, 2) {
-            return false;
-        }
-        match task.step {
-            Step::Import => !self.has_path(part) && !self.has_path(self.tree.node(task.at)),
+        let before = self.before_format(own);
+        let last = self.tree.node(task.at);
+        let may = match task.step {
             Step::Fill => true,
-            Step::Format => {
-                let before = self.before_format(own);
-                let number = task.tail.saturating_add(1);
-                number != before && number != before.saturating_add(1)
-            }
+            Step::Import => !self.has_path(part) && !self.has_path(last),
+            Step::Format => task.tail != before && task.tail.saturating_add(1) != before,
             _ => false,
-        }
+        };
+        may && task.at != NOWHERE && self.fits(part, 2)
     }
 
     // Whether an import of a nested list is a path.
@@ -254,7 +201,8 @@ impl Lines {
         if self.tree.atom(next.first).is_mark('#') {
             return true;
         }
-        let tall = self.tree.is_tall(last.first, last.end) || self.tree.is_tall(next.first, next.end);
+        let tall = self.tree.is_tall(last.first, last.end)
+            || self.tree.is_tall(next.first, next.end);
         tall && self.is_item(next)
     }
 

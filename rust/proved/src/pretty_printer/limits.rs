@@ -1,11 +1,9 @@
 // Made from crates/pretty_printer/src/limits.rt by rust/erase: change that file, not this one.
 //! How wide all is on one line, and what needs several: from the inside out. All of rustfmt's limits are here.
 
-use crate::pretty_printer::atoms::{Atom, Role};
+use crate::pretty_printer::atoms::Role;
 use crate::pretty_printer::tree::{Form, NO_HEAD, NOWHERE, Node, Tree};
 use crate::pretty_printer::words::Word;
-use crate::layout::Gap;
-use crate::shim::alloc::AllocError;
 
 /// The most characters on one line: of a chain of calls, and of the arguments of a call.
 pub const CALL: usize = 60;
@@ -15,6 +13,7 @@ const META: usize = 70;
 const BRANCHES: usize = 50;
 /// Of a struct's literal and of a variant's fields.
 const FIELDS: usize = 18;
+
 const VARIANT: usize = 35;
 /// The name of what is called is short: its only argument may go on with its line.
 pub const SHORT_NAME: usize = 4;
@@ -26,19 +25,19 @@ impl Tree {
         own.end = end;
         own.must = self.is_tall(own.first, end);
         let mut child = own.child;
-        let mut last = NOWHERE;
-        let mut count: usize = 0;
         while child != NOWHERE {
             let next = self.node(child);
             own.must = own.must || next.must;
-            last = child;
             child = next.next;
-            count = count.saturating_add(1);
         }
-        if own.form == Form::Chain && count > 2 && self.width(own.first, end) > CALL {
+        let several = self.node(own.child).next != own.last;
+        if own.form == Form::Chain && several && self.width(own.first, end) > CALL {
             own.must = true;
         }
-        own.head = self.head_of(&own, self.node(last));
+        if own.form == Form::Leaf && own.child != NOWHERE {
+            own.form = Form::Plain;
+        }
+        own.head = self.head_of(&own, self.node(own.last));
         if let Some(node) = self.nodes.get_mut(index) {
             *node = own;
         }
@@ -88,242 +87,6 @@ impl Tree {
             Form::Control => control,
             _ => false,
         }
-    }
-
-    /// Measures a group: its list, and then itself.
-    pub fn measure_group(&mut self, group: usize) -> Result<(), AllocError> {
-        let own = *self.node(group);
-        if own.from >= own.until {
-            return Ok(());
-        }
-        let braces = self.atom(own.first).is_brace();
-        self.place(own.from, own.until);
-        if self.atom(own.first).role == Role::Variants && self.is_tall(own.from, own.until) {
-            self.spread(own.from, own.until);
-            self.place(own.from, own.until);
-        }
-        self.read_parts(group, braces)?;
-        let padded = self.is_padded(&own);
-        let inner = self.width(own.from, own.until);
-        let around = if padded { 4 } else { 2 };
-        let must = self.needs_lines(group, inner);
-        let head = self.head_of_group(group);
-        if let Some(atom) = self.atoms.get_mut(own.first) {
-            atom.width = inner.saturating_add(around);
-            atom.tall = must;
-        }
-        let gap = if padded { Gap::Space } else { Gap::Nothing };
-        if let Some(first) = self.atoms.get_mut(own.from) {
-            first.gap = gap;
-        }
-        if let Some(node) = self.nodes.get_mut(group) {
-            node.close = gap;
-            node.must = must;
-            node.head = head;
-        }
-        Ok(())
-    }
-
-    // Whether a space stands within the delimiters: in braces, but for `{{ .. }}` after `=>`.
-    fn is_padded(&self, own: &Node) -> bool {
-        let atom = self.atom(own.first);
-        atom.is_brace() && atom.role != Role::Use && !self.is_doubled(own)
-    }
-
-    /// Whether a group is braces in braces after `=>`.
-    pub fn is_doubled(&self, own: &Node) -> bool {
-        let inner = self.atom(own.from);
-        own.until == own.from.saturating_add(1)
-            && inner.is_brace()
-            && inner.is_full()
-            && self.previous(own.first).is_arm()
-    }
-
-    // Whether a group whose parts are read needs several lines.
-    fn needs_lines(&self, group: usize, inner: usize) -> bool {
-        let own = self.node(group);
-        let atom = self.atom(own.first);
-        let comma = self.previous(own.until).is_mark(',');
-        let bang = self.previous(own.first).role == Role::Bang;
-        let mut must = atom.is_brace() && matches!(atom.role, Role::Block | Role::Inner | Role::Variants);
-        let mut count: usize = 0;
-        let mut child = own.child;
-        while child != NOWHERE {
-            let part = self.node(child);
-            must = must || part.must || self.is_tall(part.first, part.end);
-            count = count.saturating_add(1);
-            child = part.next;
-        }
-        let single = atom.role == Role::Tuple && count == 1;
-        let loose = matches!(atom.role, Role::Repeated | Role::Attribute | Role::Meta)
-            || single
-            || bang;
-        must || comma && !loose
-            || inner.saturating_sub(comma as usize) > self.limit(own, atom, bang, count)
-    }
-
-    // How wide the list of a group is at most on one line.
-    fn limit(&self, own: &Node, atom: &Atom, bang: bool, count: usize) -> usize {
-        match atom.role {
-            Role::Fields => return FIELDS,
-            Role::Variant => return VARIANT,
-            Role::Meta if count > 1 => return META,
-            Role::Plain | Role::Tuple => {}
-            _ => return usize::MAX,
-        }
-        let previous = self.previous(own.first);
-        let next = self.atom(own.end);
-        let pattern = next.is_arm()
-            || next.is_mark('=')
-            || next.is_mark('|')
-            || next.is_word(Word::If)
-            || previous.is_word(Word::Let);
-        let looks_up = atom.is_bracket() && previous.is_value();
-        if pattern || looks_up || bang && self.is_odd(own, atom) {
-            return usize::MAX;
-        }
-        let nested = count == 1 && atom.role == Role::Plain && self.is_call(own.child);
-        if count > 1 || nested { CALL } else { usize::MAX }
-    }
-
-    // Whether the arguments of a macro are none of a call.
-    fn is_odd(&self, own: &Node, atom: &Atom) -> bool {
-        for index in own.from..own.until {
-            let inner = self.atom(index);
-            let semicolon = inner.role == Role::Semicolon && !atom.is_bracket();
-            let mark = inner.is_mark('@') || inner.is_mark('$');
-            if inner.role == Role::Colon || inner.is_arm() || semicolon || mark {
-                return true;
-            }
-        }
-        false
-    }
-
-    /// Whether a part is a call of a path or of a macro.
-    pub fn is_call(&self, part: usize) -> bool {
-        let own = self.node(self.value_of(part));
-        let call = self.node(own.child);
-        let name = self.previous(call.first);
-        own.form == Form::Plain
-            && call.form == Form::Group
-            && call.next == NOWHERE
-            && !self.atom(call.first).is_brace()
-            && (name.is_any_word() && !name.is_keyword()
-                || matches!(name.role, Role::Bang | Role::Greater))
-    }
-
-    /// The node of a part without its comma.
-    pub fn value_of(&self, part: usize) -> usize {
-        let own = self.node(part);
-        let child = self.node(own.child);
-        let comma = self.atom(own.end.saturating_sub(1)).ends_part();
-        if own.form == Form::Plain && child.first == own.first && comma {
-            own.child
-        } else {
-            part
-        }
-    }
-
-    // The width of the first line of a group that goes on, from its opener on, or `NO_HEAD`.
-    fn head_of_group(&self, group: usize) -> usize {
-        let own = self.node(group);
-        let atom = self.atom(own.first);
-        if atom.role == Role::Repeated || atom.role == Role::Params {
-            return NO_HEAD;
-        }
-        let inside = self.head_inside(group);
-        if inside == NO_HEAD {
-            1
-        } else {
-            inside.saturating_add(1)
-        }
-    }
-
-    /// The width of the first line inside a group whose last part goes on as if no delimiters were there, or `NO_HEAD`.
-    pub fn head_inside(&self, group: usize) -> usize {
-        let own = self.node(group);
-        let atom = self.atom(own.first);
-        let loose = matches!(atom.role, Role::Repeated | Role::Params | Role::Attribute);
-        if atom.is_brace() || own.child == NOWHERE || loose {
-            return NO_HEAD;
-        }
-        let bang = self.previous(own.first).role == Role::Bang;
-        let part = self.last_child(group);
-        let last = *self.node(part);
-        let comma = self.previous(own.until).role == Role::Comma;
-        if comma && !bang || self.is_tall(own.from, last.first) {
-            return NO_HEAD;
-        }
-        let value = *self.node(self.value_of(part));
-        if part == own.child {
-            return self.head_of_only(own, atom, &value, bang);
-        }
-        let block = value.form == Form::Group && self.atom(value.first).is_brace();
-        if value.form == Form::Closure && !self.has_closure(own.child, part) || block {
-            return within(self.distance(own.from, last.first), value.head);
-        }
-        NO_HEAD
-    }
-
-    // Whether one of the parts before this one is a closure.
-    fn has_closure(&self, first: usize, part: usize) -> bool {
-        let mut child = first;
-        while child != part && child != NOWHERE {
-            let own = self.atom(self.node(child).first);
-            if own.role == Role::BarOpen || own.is_or() || own.is_word(Word::Move) {
-                return true;
-            }
-            child = self.node(child).next;
-        }
-        false
-    }
-
-    // Of the only part of a group.
-    fn head_of_only(&self, own: &Node, atom: &Atom, value: &Node, bang: bool) -> usize {
-        let single = atom.role == Role::Tuple;
-        let short = atom.is_round() && self.name_width(own.first) < SHORT_NAME;
-        let chain = value.form == Form::Chain;
-        let root = self.atom(value.first);
-        let named = root.is_any_word() || root.role == Role::Before;
-        if (short || bang) && chain && atom.is_round() && !single && named {
-            return 0;
-        }
-        let open = matches!(value.form, Form::Operators | Form::Range | Form::Assign);
-        if value.head == NO_HEAD {
-            let goes_on = single || short && (chain || open);
-            return if goes_on { 0 } else { NO_HEAD };
-        }
-        if single {
-            return value.head;
-        }
-        if chain && (value.head > CALL || self.is_tall(value.first, self.last_first(value))) {
-            return NO_HEAD;
-        }
-        within(0, value.head)
-    }
-
-    // Where the last child of a node begins.
-    fn last_first(&self, own: &Node) -> usize {
-        let mut last = self.node(own.child);
-        while last.next != NOWHERE {
-            last = self.node(last.next);
-        }
-        last.first
-    }
-
-    // How wide the name is that a group calls, up to some width.
-    fn name_width(&self, group: usize) -> usize {
-        let mut width: usize = 0;
-        for passed in 0..group {
-            let own = self.atom(group.saturating_sub(passed).saturating_sub(1));
-            let name = own.is_any_word() && !own.is_keyword();
-            let mark = matches!(own.role, Role::Path | Role::Bang | Role::Greater);
-            if !(name || mark) || width >= SHORT_NAME {
-                break;
-            }
-            width = width.saturating_add(own.width);
-        }
-        width
     }
 
     /// Sets what stands before each atom of a list, on one line, all of whose groups are measured. A choice of two
@@ -377,9 +140,9 @@ impl Tree {
         end
     }
 
-    // Makes blocks of the branches of the `if` of this index, which end before `past`, where they are too wide for one
-    // line. Answers whether it did. If a variant of an enum needs several lines, each with fields has.
-    fn spread(&mut self, index: usize, past: usize) -> bool {
+    /// Makes blocks of the branches of the `if` of this index, which end before `past`, where they are too wide for one
+    /// line. Answers whether it did. If a variant of an enum needs several lines, each with fields has.
+    pub fn spread(&mut self, index: usize, past: usize) -> bool {
         if !self.is_tall(index, past) && self.width(index, past) <= BRANCHES {
             return false;
         }
@@ -394,14 +157,5 @@ impl Tree {
             }
         }
         true
-    }
-}
-
-// The width of a first line after so many characters, if it isn't wider than that of arguments may be.
-fn within(before: usize, head: usize) -> usize {
-    if head == NO_HEAD || before.saturating_add(head) > CALL {
-        NO_HEAD
-    } else {
-        before.saturating_add(head)
     }
 }

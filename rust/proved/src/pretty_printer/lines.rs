@@ -6,7 +6,6 @@ use crate::shim::prelude::Grow;
 use crate::pretty_printer::atoms::{Atom, Role};
 use crate::pretty_printer::tree::{Form, NOWHERE, Node, Tree};
 use crate::layout::Gap;
-use crate::shim::alloc::AllocError;
 
 /// How many columns a line has.
 pub const WIDTH: usize = 100;
@@ -24,17 +23,15 @@ pub enum Step {
     Lay,
     /// The next child of a node, after one that is on one line.
     Next,
-    /// After one that is not.
+    /// After one that is not, and after one whose block begins a line.
     Broken,
-    /// The body of an item, on a line of its own.
     Apart,
-    /// The next call of a chain, the next pattern, or the next bound.
+    /// The next child, on a line.
     Line,
-    /// The next part of a list, each on a line.
+    /// The next part of a list, on a line, or with as many as fit on each.
     Part,
-    /// As many as fit on each line.
     Fill,
-    /// Those before and those after the format string on one line.
+    /// The next argument of a macro that formats text, of which those before and after the format are on one line.
     Format,
     /// As many as fit, but paths and what follows them each on a line.
     Import,
@@ -80,124 +77,108 @@ impl Lines {
     }
 
     /// Breaks the lines of a node, which begins a line.
-    pub fn lay_all(&mut self, node: usize) -> Result<(), AllocError> {
+    pub fn lay_all(&mut self, node: usize) {
         self.column = 0;
         self.is_fresh = true;
         self.is_shut = false;
         self.tasks.clear();
-        self.lay(node, 0, 0)?;
+        self.lay(node, 0, 0);
         // Each step is taken once for each child of a node at most, so that it ends long before.
         for _ in 0..usize::MAX {
             match self.tasks.pop() {
-                Some(task) => self.step(task)?,
+                Some(task) => self.step(task),
                 None => break,
             }
         }
-        Ok(())
     }
 
     /// Leaves a node to be laid out next.
-    pub fn lay(&mut self, node: usize, indent: usize, tail: usize) -> Result<(), AllocError> {
-        self.tasks.push_fallibly(Task {
+    pub fn lay(&mut self, node: usize, indent: usize, tail: usize) {
+        self.push_task(Task {
             step: Step::Lay,
             node,
             child: NOWHERE,
             at: NOWHERE,
             indent,
             tail,
-        })?;
-        Ok(())
+        });
     }
 
-    /// Leaves the children after `child` to be laid out later by this step.
-    pub fn leave(&mut self, task: Task, step: Step, child: &Node) -> Result<(), AllocError> {
-        self.tasks.push_fallibly(Task {
-            step,
-            node: task.node,
-            child: child.next,
-            at: child.end,
-            indent: task.indent,
-            tail: task.tail,
-        })?;
-        Ok(())
+    /// Leaves the children of a task's node from `child` on to be laid out later by this step.
+    pub fn push(&mut self, step: Step, task: Task, child: usize, at: usize) {
+        let mut left = task;
+        left.step = step;
+        left.child = child;
+        left.at = at;
+        self.push_task(left);
     }
 
-    fn step(&mut self, task: Task) -> Result<(), AllocError> {
+    /// Leaves those after this child.
+    pub fn leave(&mut self, step: Step, task: Task, child: &Node) {
+        self.push(step, task, child.next, child.end);
+    }
+
+    /// Leaves all.
+    pub fn begin(&mut self, step: Step, task: Task, own: &Node) {
+        self.push(step, task, own.child, own.first);
+    }
+
+    fn push_task(&mut self, task: Task) {
+        let pushed = self.tasks.push_fallibly(task);
+        self.tree.check(pushed);
+    }
+
+    fn step(&mut self, task: Task) {
         let own = *self.tree.node(task.node);
         match task.step {
-            Step::Lay => self.lay_node(task, &own),
-            Step::Part | Step::Fill | Step::Format | Step::Import => self.next_part(task, &own),
-            Step::Close => {
-                self.close(task.node, task.indent);
-                Ok(())
-            }
-            Step::Shut => {
-                self.column = self.column.saturating_add(1);
-                self.is_fresh = false;
-                Ok(())
-            }
-            _ => match own.form {
-                Form::Chain => self.next_call(task, &own),
-                Form::Operators => self.next_operand(task, &own),
-                Form::Assign | Form::Let | Form::Field => self.next_side(task, &own),
-                Form::Control => self.next_of_control(task, &own),
-                Form::Arm => self.next_of_arm(task, &own),
-                Form::Function | Form::Item => self.next_of_item(task, &own),
-                Form::Bounds => self.next_bound(task, &own),
-                _ => self.next_plain(task, &own),
-            },
+            Step::Lay => return self.lay_node(task, &own),
+            Step::Close => return self.close(task.node, task.indent),
+            Step::Shut => return self.shut(),
+            _ => {}
+        }
+        if task.child == NOWHERE {
+            return self.write(&own, task.at, own.end);
+        }
+        let child = *self.tree.node(task.child);
+        match own.form {
+            Form::Group => self.next_part(task, &own, &child),
+            Form::Chain => self.next_call(task, &own, &child),
+            Form::Operators => self.next_operand(task, &own, &child),
+            Form::Assign | Form::Let => self.next_side(task, &own, &child),
+            Form::Control => self.next_of_control(task, &own, &child),
+            Form::Arm => self.next_of_arm(task, &own, &child),
+            Form::Item | Form::Impl => self.next_of_item(task, &own, &child),
+            Form::Bounds => self.next_bound(task, &own, &child),
+            _ => self.next_plain(task, &own, &child),
         }
     }
 
     // Lays out a node, on one line if it fits.
-    fn lay_node(&mut self, task: Task, own: &Node) -> Result<(), AllocError> {
-        if own.form != Form::Item && self.fits(own, task.tail) {
-            self.put(own.first, own.end);
-            return Ok(());
+    fn lay_node(&mut self, task: Task, own: &Node) {
+        if own.form == Form::Leaf || own.form != Form::Item && self.fits(own, task.tail) {
+            return self.put(own.first, own.end);
         }
         match own.form {
             Form::Unread => {
-                let node = self.tree.read_part(own.first, own.end, false)?;
-                self.lay(node, task.indent, task.tail)
-            }
-            Form::Leaf => {
-                self.put(own.first, own.end);
-                Ok(())
+                let node = self.tree.read_part(own.first, own.end, false);
+                self.lay(node, task.indent, task.tail);
             }
             Form::Group => self.lay_group(task, own),
             Form::Chain => self.lay_chain(task, own),
             Form::Operators => self.lay_operators(task, own),
             Form::Arm => self.lay_arm(task, own),
-            Form::Function | Form::Item => self.lay_item(task, own),
-            _ => self.begin(task, own, Step::Next),
+            Form::Item | Form::Impl => self.lay_item(task, own),
+            _ => self.begin(Step::Next, task, own),
         }
-    }
-
-    /// Leaves all of a node to be laid out by this step, child after child.
-    pub fn begin(&mut self, task: Task, own: &Node, step: Step) -> Result<(), AllocError> {
-        self.tasks.push_fallibly(Task {
-            step,
-            node: task.node,
-            child: own.child,
-            at: own.first,
-            indent: task.indent,
-            tail: task.tail,
-        })?;
-        Ok(())
     }
 
     // The next child of a node whose atoms are on one line.
-    fn next_plain(&mut self, task: Task, own: &Node) -> Result<(), AllocError> {
-        if task.child == NOWHERE {
-            self.write(own, task.at, own.end);
-            return Ok(());
-        }
-        let child = *self.tree.node(task.child);
+    fn next_plain(&mut self, task: Task, own: &Node, child: &Node) {
         self.write(own, task.at, child.first);
         self.lead(own, child.first);
-        let tail = self.tail_of(task, own, &child);
-        self.leave(task, Step::Next, &child)?;
-        self.lay(task.child, task.indent, tail)
+        let tail = self.tail_of(task, own, child);
+        self.leave(Step::Next, task, child);
+        self.lay(task.child, task.indent, tail);
     }
 
     /// How many characters have to follow a child on its line: up to the next child's opener, or to the end.
@@ -239,10 +220,11 @@ impl Lines {
         }
         self.column = self.column.saturating_add(self.tree.width(from, end));
         self.is_fresh = false;
-        if self.is_shut {
-            for index in from..end {
-                self.is_shut = self.is_shut && self.tree.atom(index).role == Role::After;
+        for index in from..end {
+            if !self.is_shut {
+                break;
             }
+            self.is_shut = self.tree.atom(index).role == Role::After;
         }
     }
 
@@ -271,19 +253,22 @@ impl Lines {
         if self.tree.previous(index).glued {
             return;
         }
-        if let Some(atom) = self.tree.atoms.get_mut(index) {
-            atom.gap = gap;
-        }
+        self.tree.set_gap(index, gap);
         self.column = column;
         self.is_fresh = true;
         self.is_shut = false;
     }
 
+    // Writes the closer of a group on this line.
+    fn shut(&mut self) {
+        self.column = self.column.saturating_add(1);
+        self.is_fresh = false;
+    }
+
     /// Writes the closer of a group on a line of its own.
     pub fn close(&mut self, group: usize, column: usize) {
-        if let Some(node) = self.tree.nodes.get_mut(group) {
-            node.close = Gap::Line(column);
-        }
+        let end = self.tree.node(group).until;
+        self.tree.set_gap(end, Gap::Line(column));
         self.column = column.saturating_add(1);
         self.is_fresh = false;
         self.is_shut = true;

@@ -2,39 +2,38 @@
 //! The parts of lists: statements, items, arms, fields and arguments.
 
 use crate::pretty_printer::atoms::{Atom, Kind, Role};
-use crate::pretty_printer::tree::{Form, NOWHERE, Tree};
+use crate::pretty_printer::tree::{Form, Tree};
 use crate::pretty_printer::words::Word;
-use crate::shim::alloc::AllocError;
 
 /// No part is read that is this short: no rule breaks its line.
 const SHORT: usize = 50;
 
 impl Tree {
     /// Reads the parts of a group, whose list is placed.
-    pub fn read_parts(&mut self, group: usize, block: bool) -> Result<(), AllocError> {
+    pub fn read_parts(&mut self, group: usize, block: bool) {
         let own = *self.node(group);
         let mut start = own.from;
-        let mut last = NOWHERE;
         while start < own.until {
             let end = self.part_end(start, own.until, block);
             let long = self.is_tall(start, end) || self.width(start, end) > SHORT;
             let opens = end == own.until && !block && self.ends_with_group(start, end);
             let part = if long || opens {
-                self.read_part(start, end, block)?
+                self.read_part(start, end, block)
             } else {
-                self.push_node(Form::Unread, start, end)?
+                self.push_node(Form::Unread, start, end)
             };
-            self.link(group, last, part);
-            last = part;
+            self.append(group, part);
             start = end;
         }
-        Ok(())
     }
 
     // Whether a group that isn't empty is the last of an argument, but for marks.
     fn ends_with_group(&self, first: usize, end: usize) -> bool {
         for passed in first..end {
-            let own = self.atom(end.saturating_sub(passed.saturating_sub(first)).saturating_sub(1));
+            let own = self.atom(
+                end.saturating_sub(passed.saturating_sub(first))
+                    .saturating_sub(1),
+            );
             if own.is_full() {
                 return true;
             }
@@ -73,12 +72,7 @@ impl Tree {
     }
 
     /// Reads a part. `block` says that it is in braces.
-    pub fn read_part(
-        &mut self,
-        first: usize,
-        end: usize,
-        block: bool,
-    ) -> Result<usize, AllocError> {
+    pub fn read_part(&mut self, first: usize, end: usize, block: bool) -> usize {
         let last = self.previous(end);
         let stop = if last.ends_part() { end - 1 } else { end };
         if stop <= first {
@@ -86,42 +80,22 @@ impl Tree {
         }
         let at = self.past_front(first, stop);
         if block {
-            if let Some(node) = self.read_item_part(first, at, end)? {
-                return Ok(node);
+            if let Some(node) = self.read_item_part(first, at, end) {
+                return node;
             }
         }
         let arrow = self.find_arrow(first, stop);
         if arrow < stop {
             return self.read_arm(first, arrow, stop, end);
         }
-        let name = self.atom(at);
-        let named = name.is_any_word() && !name.is_word(Word::Lifetime);
-        if block && named && self.next(at).role == Role::Colon {
-            return self.read_sides(Form::Field, first, at.saturating_add(2), stop, end);
+        let child = self.read_expression(first, stop);
+        if stop == end {
+            return child;
         }
-        self.read_sides(Form::Plain, first, first, stop, end)
-    }
-
-    // Reads what has a child from `from` on and before `stop`, if that is anything. If it is all, it is the node.
-    fn read_sides(
-        &mut self,
-        form: Form,
-        first: usize,
-        from: usize,
-        stop: usize,
-        end: usize,
-    ) -> Result<usize, AllocError> {
-        if from >= stop {
-            return self.push_node(Form::Leaf, first, end);
-        }
-        let child = self.read_expression(from, stop)?;
-        if from == first && stop == end {
-            return Ok(child);
-        }
-        let node = self.push_node(form, first, end)?;
-        self.link(node, NOWHERE, child);
+        let node = self.push_node(Form::Plain, first, end);
+        self.append(node, child);
         self.finish(node, end);
-        Ok(node)
+        node
     }
 
     // The index of the word that says what begins: past attributes and visibility.
@@ -162,51 +136,36 @@ impl Tree {
     }
 
     // Reads the pattern, the guard and the body of an arm.
-    fn read_arm(
-        &mut self,
-        first: usize,
-        arrow: usize,
-        stop: usize,
-        end: usize,
-    ) -> Result<usize, AllocError> {
-        let node = self.push_node(Form::Arm, first, end)?;
+    fn read_arm(&mut self, first: usize, arrow: usize, stop: usize, end: usize) -> usize {
+        let node = self.push_node(Form::Arm, first, end);
         let mut guard = arrow;
         for index in first.saturating_add(1)..arrow {
             if guard == arrow && self.atom(index).is_word(Word::If) {
                 guard = index;
             }
         }
-        let mut last = self.read_child(node, NOWHERE, first, guard)?;
-        last = self.read_child(node, last, guard.saturating_add(1), arrow)?;
-        self.read_child(node, last, arrow.saturating_add(1), stop)?;
+        self.read_child(node, first, guard);
+        self.read_child(node, guard.saturating_add(1), arrow);
+        self.read_child(node, arrow.saturating_add(1), stop);
         self.finish(node, end);
-        Ok(node)
+        node
     }
 
-    /// Reads these atoms, if there are any, as a child of a node after the one that was its last, and answers which is
-    /// now.
-    pub fn read_child(
-        &mut self,
-        node: usize,
-        last: usize,
-        from: usize,
-        end: usize,
-    ) -> Result<usize, AllocError> {
-        if from >= end {
-            return Ok(last);
+    /// Reads these atoms, if there are any, as a child of a node.
+    pub fn read_child(&mut self, node: usize, from: usize, end: usize) {
+        if from < end {
+            let child = self.read_expression(from, end);
+            self.append(node, child);
         }
-        let child = self.read_expression(from, end)?;
-        self.link(node, last, child);
-        Ok(child)
     }
 
     /// Reads a `let`, a constant or an alias: what is at `at` on, `=` and its right side.
-    pub fn read_let(&mut self, first: usize, at: usize, end: usize) -> Result<usize, AllocError> {
+    pub fn read_let(&mut self, first: usize, at: usize, end: usize) -> usize {
         let last = self.previous(end);
         let mut stop = if last.ends_part() { end - 1 } else { end };
-        let node = self.push_node(Form::Let, first, end)?;
+        let node = self.push_node(Form::Let, first, end);
         let equals = self.find_equals(at, stop);
-        let child = self.read_child(node, NOWHERE, at.saturating_add(1), equals)?;
+        self.read_child(node, at.saturating_add(1), equals);
         let right = equals.saturating_add(1);
         let block = stop.saturating_sub(1);
         let other = block.saturating_sub(1);
@@ -215,12 +174,12 @@ impl Tree {
         if has_else {
             stop = other;
         }
-        let child = self.read_child(node, child, right, stop)?;
+        self.read_child(node, right, stop);
         if has_else {
-            self.link(node, child, self.atom(block).node);
+            self.append(node, self.atom(block).node);
         }
         self.finish(node, end);
-        Ok(node)
+        node
     }
 
     /// The index of the first `=` outside of angles, or `stop`.

@@ -3,11 +3,11 @@
 
 use crate::shim::prelude::Grow;
 
+use crate::pretty_printer::atoms::Role;
 use crate::pretty_printer::lines::Lines;
 use crate::pretty_printer::reading::{Unread, push_list};
 use crate::pretty_printer::roles::assign_roles;
 use crate::pretty_printer::tree::{Form, NOWHERE};
-use crate::pretty_printer::atoms::Role;
 use crate::layout::Gap;
 use crate::proc_macro2::TokenStream;
 use crate::shim::alloc::AllocError;
@@ -43,7 +43,6 @@ pub struct Printer<'a> {
     outer: Vec<Place>,
     /// How many tokens come with no gap, as they are of one atom.
     joined: usize,
-    failure: Option<AllocError>,
 }
 
 impl<'a> Printer<'a> {
@@ -53,20 +52,22 @@ impl<'a> Printer<'a> {
         let mut groups = Vec::new();
         push_list(&mut lines.tree, &mut groups, stream.trees())?;
         let first = 1;
-        let end = lines.tree.atoms.len();
-        assign_roles(&mut lines.tree, first, end, true, Role::Block)?;
+        let end = lines.tree.atoms.len().saturating_sub(1);
+        assign_roles(&mut lines.tree, first, end, true, Role::Block);
         let part = lines.tree.nodes.len();
         let mut start = first;
         let mut last = NOWHERE;
         while start < end {
             let past = lines.tree.part_end(start, end, true);
-            let next = lines.tree.push_node(Form::Unread, start, past)?;
-            lines.tree.link(NOWHERE, last, next);
+            let next = lines.tree.push_node(Form::Unread, start, past);
+            if let Some(node) = lines.tree.nodes.get_mut(last) {
+                node.next = next;
+            }
             last = next;
             start = past;
         }
         let top = Top {
-            atoms: end,
+            atoms: end.saturating_add(1),
             nodes: lines.tree.nodes.len(),
             groups: groups.len(),
         };
@@ -84,7 +85,6 @@ impl<'a> Printer<'a> {
             },
             outer: Vec::new(),
             joined: 0,
-            failure: None,
         })
     }
 
@@ -95,21 +95,15 @@ impl<'a> Printer<'a> {
             self.joined -= 1;
             return Gap::Nothing;
         }
-        if self.failure.is_some() {
+        if self.lines.tree.failure.is_some() {
             return Gap::Space;
         }
-        match self.step() {
-            Ok(gap) => gap,
-            Err(error) => {
-                self.failure = Some(error);
-                Gap::Space
-            }
-        }
+        self.step()
     }
 
     /// Fails where memory ran out.
     pub fn finish(self) -> Result<(), AllocError> {
-        match self.failure {
+        match self.lines.tree.failure {
             Some(error) => Err(error),
             None => Ok(()),
         }
@@ -117,17 +111,17 @@ impl<'a> Printer<'a> {
 
     // The gap before the next atom of the list, or before its end.
     #[inline(never)]
-    fn step(&mut self) -> Result<Gap, AllocError> {
+    fn step(&mut self) -> Gap {
         let index = self.list.at;
         if index >= self.list.end {
-            let gap = self.lines.tree.node(self.list.group).close;
+            let gap = self.lines.tree.atom(index).gap;
             if let Some(outer) = self.outer.pop() {
                 self.list = outer;
             }
-            return Ok(gap);
+            return gap;
         }
         if self.list.group == NOWHERE && index == self.lines.tree.node(self.part).first {
-            self.lay_part()?;
+            self.lay_part();
         }
         let own = self.lines.tree.atom(index);
         let gap = own.gap;
@@ -143,20 +137,21 @@ impl<'a> Printer<'a> {
                 end: inner.until,
             };
             let outer = self.list;
-            self.outer.push_fallibly(outer)?;
+            let pushed = self.outer.push_fallibly(outer);
+            self.lines.tree.check(pushed);
             self.list = place;
         }
-        Ok(gap)
+        gap
     }
 
     // Reads the next part, and breaks its lines.
-    fn lay_part(&mut self) -> Result<(), AllocError> {
+    fn lay_part(&mut self) {
         let part = *self.lines.tree.node(self.part);
-        self.read_groups(part.end)?;
+        self.read_groups(part.end);
         let tree = &mut self.lines.tree;
         tree.place(part.first, part.end);
-        let node = tree.read_part(part.first, part.end, true)?;
-        self.lines.lay_all(node)?;
+        let node = tree.read_part(part.first, part.end, true);
+        self.lines.lay_all(node);
         let gap = if self.last_part == NOWHERE {
             Gap::Nothing
         } else if self
@@ -167,16 +162,13 @@ impl<'a> Printer<'a> {
         } else {
             Gap::Line(0)
         };
-        if let Some(atom) = self.lines.tree.atoms.get_mut(part.first) {
-            atom.gap = gap;
-        }
+        self.lines.tree.set_gap(part.first, gap);
         self.last_part = self.part;
         self.part = part.next;
-        Ok(())
     }
 
     // Reads and measures the groups of the part that ends here.
-    fn read_groups(&mut self, end: usize) -> Result<(), AllocError> {
+    fn read_groups(&mut self, end: usize) {
         let top = self.top;
         let first = self.next_group;
         self.lines.tree.atoms.truncate(top.atoms);
@@ -187,7 +179,7 @@ impl<'a> Printer<'a> {
             match self.groups.get(next) {
                 Some(group) if self.lines.tree.node(group.node).first < end => {
                     let group = *group;
-                    self.read_group(group)?;
+                    self.read_group(group);
                     self.next_group = next.saturating_add(1);
                 }
                 _ => break,
@@ -198,21 +190,22 @@ impl<'a> Printer<'a> {
                 break;
             };
             let group = *group;
-            self.read_group(group)?;
+            self.read_group(group);
         }
         // Groups stand before those inside them, and are measured after them.
         let past = self.next_group;
         let count = self.groups.len();
-        self.measure_groups(top.groups, count)?;
-        self.measure_groups(first, past)
+        self.measure_groups(top.groups, count);
+        self.measure_groups(first, past);
     }
 
     // Reads the list of a group.
-    fn read_group(&mut self, group: Unread<'a>) -> Result<(), AllocError> {
+    fn read_group(&mut self, group: Unread<'a>) {
         let tree = &mut self.lines.tree;
-        let first = tree.atoms.len().saturating_add(1);
-        push_list(tree, &mut self.groups, group.trees)?;
-        let end = tree.atoms.len();
+        let first = tree.atoms.len();
+        let pushed = push_list(tree, &mut self.groups, group.trees);
+        tree.check(pushed);
+        let end = tree.atoms.len().saturating_sub(1);
         let own = tree.atom(tree.node(group.node).first);
         let block = own.is_brace();
         let role = own.role;
@@ -220,20 +213,19 @@ impl<'a> Printer<'a> {
             node.from = first;
             node.until = end;
         }
-        assign_roles(tree, first, end, block, role)
+        assign_roles(tree, first, end, block, role);
     }
 
     // Measures these groups, the last first.
-    fn measure_groups(&mut self, from: usize, until: usize) -> Result<(), AllocError> {
+    fn measure_groups(&mut self, from: usize, until: usize) {
         for passed in from..until {
             let place = until
                 .saturating_sub(passed.saturating_sub(from))
                 .saturating_sub(1);
             if let Some(group) = self.groups.get(place) {
                 let node = group.node;
-                self.lines.tree.measure_group(node)?;
+                self.lines.tree.measure_group(node);
             }
         }
-        Ok(())
     }
 }

@@ -4,7 +4,7 @@
 use crate::shim::prelude::Grow;
 
 use crate::pretty_printer::atoms::{Atom, Kind, NOTHING, Role, Sign};
-use crate::pretty_printer::tree::Tree;
+use crate::pretty_printer::tree::{Form, Tree};
 use crate::pretty_printer::words::{Word, word_of};
 use crate::pm_token::parts::{is_raw, name_of};
 use crate::proc_macro2::{Delimiter, Ident, Punct, Spacing, TokenTree};
@@ -25,8 +25,6 @@ pub fn push_list<'a>(
     trees: &'a [TokenTree],
 ) -> Result<(), AllocError> {
     let mut passed: usize = 0;
-    // What stands before a list is no atom.
-    tree.atoms.push_fallibly(NOTHING)?;
     for index in 0..trees.len() {
         if passed > 0 {
             passed -= 1;
@@ -38,7 +36,8 @@ pub fn push_list<'a>(
         let atom = match next {
             TokenTree::Group(group) => {
                 let inside = group.stream_ref().trees();
-                let node = tree.push_group()?;
+                let own = tree.atoms.len();
+                let node = tree.push_node(Form::Group, own, own.saturating_add(1));
                 groups.push_fallibly(Unread {
                     node,
                     trees: inside,
@@ -59,7 +58,8 @@ pub fn push_list<'a>(
         passed = atom.tokens().saturating_sub(1);
         tree.atoms.push_fallibly(atom)?;
     }
-    Ok(())
+    // What stands after a list has the gap before its closer.
+    tree.atoms.push_fallibly(NOTHING)
 }
 
 // The group of these trees, which has this node.

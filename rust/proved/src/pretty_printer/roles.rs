@@ -8,16 +8,9 @@ use crate::pretty_printer::tree::Tree;
 use crate::pretty_printer::words::Word;
 use crate::layout::Gap;
 use crate::proc_macro2::Delimiter;
-use crate::shim::alloc::AllocError;
 
 /// Gives the atoms of a list their roles. `inside` is the role of its group.
-pub fn assign_roles(
-    tree: &mut Tree,
-    first: usize,
-    end: usize,
-    block: bool,
-    inside: Role,
-) -> Result<(), AllocError> {
+pub fn assign_roles(tree: &mut Tree, first: usize, end: usize, block: bool, inside: Role) {
     let mut state = State {
         start: if block { first } else { NO_START },
         in_bars: false,
@@ -31,11 +24,10 @@ pub fn assign_roles(
         // Roles before it stand, and those after it are asked by no other: the angles may be paired as they come.
         let open = tree.atom(index);
         if open.is_mark('<') && open.role == Role::Plain {
-            pair_angles(tree, index, end)?;
+            pair_angles(tree, index, end);
         }
         state.take(tree, index);
     }
-    Ok(())
 }
 
 /// What the next braces belong to.
@@ -150,10 +142,7 @@ impl State {
 
     /// Whether an item began whose braces are to come.
     pub fn is_in_item(&self) -> bool {
-        matches!(
-            self.head,
-            Head::Fn | Head::Impl | Head::Enum | Head::Item
-        )
+        matches!(self.head, Head::Fn | Head::Impl | Head::Enum | Head::Item)
     }
 
     fn group_role(
@@ -204,7 +193,7 @@ impl State {
         {
             return Role::Block;
         }
-        let name = previous.is_any_word() && !previous.is_keyword();
+        let name = previous.is_name();
         if self.inside == Role::Variants {
             Role::Variant
         } else if name || previous.role == Role::Greater {

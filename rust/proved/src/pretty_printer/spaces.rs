@@ -8,13 +8,7 @@ use crate::pretty_printer::words::Word;
 /// Whether a space looks well before the atom of this index, which is to have this role, and which isn't the first of
 /// its list.
 #[cfg_attr(not(debug_assertions), inline(always))]
-pub fn wants_space(
-    tree: &Tree,
-    index: usize,
-    previous: &Atom,
-    next: &Atom,
-    role: Role,
-) -> bool {
+pub fn wants_space(tree: &Tree, index: usize, previous: &Atom, next: &Atom, role: Role) -> bool {
     if previous.glued {
         return false;
     }

@@ -4,7 +4,6 @@
 use crate::shim::prelude::Grow;
 
 use crate::pretty_printer::atoms::{Atom, NOTHING, Role};
-use crate::pretty_printer::expressions::{NO_OPERAND, Open, Operand};
 use crate::layout::Gap;
 use crate::shim::alloc::AllocError;
 
@@ -35,17 +34,15 @@ pub enum Form {
     Assign,
     /// `let a = b`, without its semicolon, and what comes after `else`.
     Let,
-    /// `a: b` in braces.
-    Field,
     /// The parameters, if there are any, and the body.
     Closure,
     /// `if`, `match` and loops: what is asked, and blocks.
     Control,
     /// The pattern, its guard, and the body.
     Arm,
-    /// An item with parameters, and any other that has a body or bounds: what `Items` says.
-    Function,
+    /// Its generics, its parameters, types, bounds and the body.
     Item,
+    Impl,
     /// `<` to `>`, with a child for each parameter.
     Generics,
     /// `where` and each bound.
@@ -61,31 +58,41 @@ pub struct Node {
     /// The index of its first atom, and that after its last.
     pub first: usize,
     pub end: usize,
-    /// Its first child, and the next child of the same node, or `NOWHERE`.
+    /// Its first child and its last, and the next child of the same node, or `NOWHERE`.
     pub child: usize,
+    pub last: usize,
     pub next: usize,
-    /// Of a group: the index of its list's first atom, and that after its last.
+    /// Of a group: the index of its list's first atom, and that of what stands after its last.
     pub from: usize,
     pub until: usize,
     /// The width of its first line if it may go on over the next lines with the line on which it begins, or `NO_HEAD`.
     pub head: usize,
     /// Whether it needs several lines.
     pub must: bool,
-    /// What stands before the closer of a group.
-    pub close: Gap,
+}
+
+/// A node that takes another operand, and how strongly it binds.
+#[derive(Clone, Copy)]
+pub struct Open {
+    pub node: usize,
+    pub strength: usize,
 }
 
 /// The atoms and nodes of lists.
 pub struct Tree {
     pub atoms: Vec<Atom>,
     pub nodes: Vec<Node>,
-    /// What is read of an expression: nodes that take more children, and the operand at its end.
+    /// Of the expression that is read: the nodes that take more operands, and how many of them are `Control`.
     pub opens: Vec<Open>,
-    pub operand: Operand,
-    /// How many of `opens` are `Control`.
     pub controls: usize,
+    /// The operand at its end and the chain of calls that it belongs to, or `NOWHERE`, and how many `<` are open in it.
+    pub operand: usize,
+    pub chain: usize,
+    pub depth: usize,
     /// For indexes.
     pub angles: Vec<usize>,
+    /// Set once memory ran out.
+    pub failure: Option<AllocError>,
 }
 
 /// No node.
@@ -94,25 +101,31 @@ pub static NO_NODE: Node = Node {
     first: 0,
     end: 0,
     child: NOWHERE,
+    last: NOWHERE,
     next: NOWHERE,
     from: 0,
     until: 0,
     head: NO_HEAD,
     must: false,
-    close: Gap::Nothing,
 };
 
 impl Tree {
-    /// No atoms.
+    /// No atoms but one that stands before those of the first list.
     pub fn new() -> Tree {
-        Tree {
+        let mut tree = Tree {
             atoms: Vec::new(),
             nodes: Vec::new(),
             opens: Vec::new(),
-            operand: NO_OPERAND,
             controls: 0,
+            operand: NOWHERE,
+            chain: NOWHERE,
+            depth: 0,
             angles: Vec::new(),
-        }
+            failure: None,
+        };
+        let pushed = tree.atoms.push_fallibly(NOTHING);
+        tree.check(pushed);
+        tree
     }
 
     /// The atom of this index.
@@ -141,39 +154,47 @@ impl Tree {
         }
     }
 
-    /// A new group with no list yet.
-    pub fn push_group(&mut self) -> Result<usize, AllocError> {
-        let first = self.atoms.len();
-        let group = self.push_node(Form::Group, first, first.saturating_add(1))?;
-        Ok(group)
+    /// Takes note of a failure.
+    pub fn check(&mut self, pushed: Result<(), AllocError>) {
+        if let Err(error) = pushed {
+            self.failure = Some(error);
+        }
     }
 
     /// A new node without children.
-    pub fn push_node(&mut self, form: Form, first: usize, end: usize) -> Result<usize, AllocError> {
+    pub fn push_node(&mut self, form: Form, first: usize, end: usize) -> usize {
         let index = self.nodes.len();
-        self.nodes.push_fallibly(Node {
-            form,
-            first,
-            end,
-            child: NOWHERE,
-            next: NOWHERE,
-            from: 0,
-            until: 0,
-            head: NO_HEAD,
-            must: false,
-            close: Gap::Nothing,
-        })?;
-        Ok(index)
+        let mut node = NO_NODE;
+        node.form = form;
+        node.first = first;
+        node.end = end;
+        let pushed = self.nodes.push_fallibly(node);
+        self.check(pushed);
+        index
     }
 
-    /// Makes `child` the next child of a node, after the child `last`, if it has any.
-    pub fn link(&mut self, node: usize, last: usize, child: usize) {
-        if last != NOWHERE {
-            if let Some(own) = self.nodes.get_mut(last) {
-                own.next = child;
+    /// Makes a node the last child of another, if there are both.
+    pub fn append(&mut self, node: usize, child: usize) {
+        if child == NOWHERE {
+            return;
+        }
+        let mut last = NOWHERE;
+        if let Some(own) = self.nodes.get_mut(node) {
+            last = own.last;
+            own.last = child;
+            if last == NOWHERE {
+                own.child = child;
             }
-        } else if let Some(own) = self.nodes.get_mut(node) {
-            own.child = child;
+        }
+        if let Some(own) = self.nodes.get_mut(last) {
+            own.next = child;
+        }
+    }
+
+    /// Says what stands before an atom.
+    pub fn set_gap(&mut self, index: usize, gap: Gap) {
+        if let Some(atom) = self.atoms.get_mut(index) {
+            atom.gap = gap;
         }
     }
 
@@ -208,18 +229,5 @@ impl Tree {
             }
         }
         end
-    }
-
-    /// Whether a node is a call of several that begin with a dot.
-    pub fn last_child(&self, node: usize) -> usize {
-        let mut last = self.node(node).child;
-        for _ in 0..self.nodes.len() {
-            let next = self.node(last).next;
-            if next == NOWHERE {
-                break;
-            }
-            last = next;
-        }
-        last
     }
 }
