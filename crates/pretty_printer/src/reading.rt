@@ -43,7 +43,8 @@ pub fn push_list<'a>(
         tree.atoms.push(atom)?;
     }
     // What stands after a list has the gap before its closer.
-    tree.atoms.push(NOTHING)
+    tree.atoms.push(NOTHING)?;
+    Ok(())
 }
 
 // The word that an identifier is.

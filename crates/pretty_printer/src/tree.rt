@@ -1,7 +1,7 @@
 //! The trees that the atoms of lists are read as.
 use crate::atoms::{Atom, NOTHING, Role};
 use layout::Gap;
-use std::alloc::{AllocError, Global};
+use std::alloc::{AllocError, AllocFailed, Global};
 
 /// No index.
 pub const NOWHERE: usize = usize::MAX;
@@ -153,9 +153,9 @@ impl Tree {
     }
 
     /// Takes note of a failure.
-    pub fn check(&mut self, pushed: Result<(), AllocError>) {
+    pub fn check<T: Drop>(&mut self, pushed: Result<(), AllocFailed<T>>) {
         if let Err(error) = pushed {
-            self.failure = Some(error);
+            self.failure = Some(AllocError::from(error));
         }
     }
 

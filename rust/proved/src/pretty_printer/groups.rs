@@ -111,7 +111,10 @@ impl Lines {
     // Whether each part of a list is simple, and no wider than that.
     fn are_simple(&self, own: &Node, most: usize) -> bool {
         let mut child = own.child;
-        while child != NOWHERE {
+        for _ in own.from..own.until {
+            if child == NOWHERE {
+                break;
+            }
             let part = self.tree.node(child);
             let end = self.end_of(part);
             let wide = self.tree.width(part.first, end) > most;

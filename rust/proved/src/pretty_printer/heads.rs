@@ -12,32 +12,14 @@ const TRAIT: usize = 4;
 impl Lines {
     /// An item: its head on one line, if it fits.
     pub fn lay_item(&mut self, task: Task, own: &Node) {
-        let mut child = own.child;
-        let mut stop = own.end;
-        let mut tail = task.tail;
-        let mut must = false;
-        while child != NOWHERE {
-            let next = self.tree.node(child);
-            if self.is_end(own, next) {
-                stop = next.first;
-                tail = if next.form == Form::Bounds { 0 } else { 2 };
-                break;
-            }
-            must = must || next.must;
-            child = next.next;
-        }
-        tail = tail.saturating_add(self.tail_of_trait(own));
-        if must || !self.fit(own.first, stop, tail) {
+        let body = self.tree.node(own.from).form == Form::Group;
+        let tail = if body { 2 } else { 0 };
+        let less = self.tail_of_trait(own);
+        if !self.fit(own.first, own.until, less.saturating_add(tail)) {
             return self.begin(Step::Broken, task, own);
         }
-        self.put(own.first, stop);
-        self.push(Step::Next, task, child, stop);
-    }
-
-    // Whether a child is the bounds or the body of an item.
-    fn is_end(&self, own: &Node, child: &Node) -> bool {
-        let body = child.form == Form::Group && child.end == own.end;
-        child.form == Form::Bounds || body && self.tree.atom(child.first).is_brace()
+        self.put(own.first, own.until);
+        self.push(Step::Next, task, own.from, own.until);
     }
 
     // How many columns less the head of a trait with bounds has: those of what stands before `trait` too.
@@ -69,7 +51,7 @@ impl Lines {
         if child.form == Form::Bounds {
             return self.next_bounds(task, own, child);
         }
-        if self.is_end(own, child) {
+        if child.first >= own.until {
             return self.next_body(task, own, child);
         }
         self.write(own, task.at, child.first);
@@ -100,12 +82,8 @@ impl Lines {
 
     // The parameters between angles: on this line if what comes up to the next opener fits too, or each on a line.
     fn lay_generics(&mut self, task: Task, own: &Node, child: &Node) {
-        let next = self.tree.node(child.next);
-        let tail = if child.next == NOWHERE {
-            self.rest(child.end, own.end)
-        } else {
-            1 + self.is_end(own, next) as usize
-        };
+        // ` {` or the opener of the parameters.
+        let tail = if child.end == own.until { 2 } else { 1 };
         let width = self.tree.width(child.first, child.end).saturating_add(tail);
         if self.column.saturating_add(width) <= WIDTH {
             return self.put(child.first, child.end);
@@ -117,7 +95,10 @@ impl Lines {
         let mut at = child.child;
         let mut past = child.first.saturating_add(1);
         self.column = self.column.saturating_add(1);
-        while at != NOWHERE {
+        for _ in child.first..child.end {
+            if at == NOWHERE {
+                break;
+            }
             let part = *self.tree.node(at);
             self.line(part.first, deeper(indent));
             self.put(part.first, part.end);

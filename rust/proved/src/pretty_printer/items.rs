@@ -2,7 +2,7 @@
 //! Reads items: their heads, bounds and bodies.
 
 use crate::pretty_printer::atoms::{Kind, Role};
-use crate::pretty_printer::tree::{Form, Tree};
+use crate::pretty_printer::tree::{Form, NOWHERE, Tree};
 use crate::pretty_printer::words::Word;
 
 impl Tree {
@@ -30,22 +30,41 @@ impl Tree {
         }
     }
 
-    // Reads an item: its generics, its parameters, the rest of its head, its bounds and its body.
+    // Reads an item: its head, its bounds and its body.
     fn read_item(&mut self, first: usize, at: usize, end: usize) -> usize {
+        let last = end.saturating_sub(1);
+        let mut stop = end;
+        let mut block = NOWHERE;
+        if self.atom(last).is_brace() {
+            block = self.atom(last).node;
+            stop = last;
+        } else if self.atom(last).ends_part() {
+            stop = last;
+        }
+        let head = self.find_word(at, stop, Word::Where);
+        let node = self.read_head(first, at, head);
+        let mut after = block;
+        if head < stop {
+            after = self.read_bounds(head, stop);
+            self.append(node, after);
+        }
+        self.append(node, block);
+        if let Some(own) = self.nodes.get_mut(node) {
+            own.from = after;
+            own.until = if after == NOWHERE { end } else { head };
+        }
+        self.finish(node, end);
+        node
+    }
+
+    // Reads the head of an item that is named by the atom of `at`: its generics, its parameters, and the rest.
+    fn read_head(&mut self, first: usize, at: usize, end: usize) -> usize {
         let impls = self.atom(at).is_word(Word::Impl);
         let form = if impls { Form::Impl } else { Form::Item };
         let node = self.push_node(form, first, end);
-        let last = end.saturating_sub(1);
-        let body = self.atom(last).is_brace();
-        let stop = if body || self.atom(last).ends_part() {
-            last
-        } else {
-            end
-        };
-        let head = self.find_word(at, stop, Word::Where);
         let mut from = at.saturating_add(2).saturating_sub(impls as usize);
         if self.atom(from).role == Role::Less {
-            let generics = self.read_generics(from, head);
+            let generics = self.read_generics(from, end);
             self.append(node, generics);
             from = self.node(generics).end;
         }
@@ -55,17 +74,9 @@ impl Tree {
         if matches!(self.atom(from).role, Role::Params | Role::Colon) {
             from = from.saturating_add(1);
         }
-        let split = self.find_for(from, head);
+        let split = self.find_for(from, end);
         self.read_child(node, from, split);
-        self.read_child(node, split, head);
-        if head < stop {
-            let bounds = self.read_bounds(head, stop);
-            self.append(node, bounds);
-        }
-        if body {
-            self.append(node, self.atom(last).node);
-        }
-        self.finish(node, end);
+        self.read_child(node, split, end);
         node
     }
 

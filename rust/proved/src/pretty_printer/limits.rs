@@ -23,17 +23,9 @@ impl Tree {
     pub fn finish(&mut self, index: usize, end: usize) {
         let mut own = *self.node(index);
         own.end = end;
-        own.must = self.is_tall(own.first, end);
-        let mut child = own.child;
-        while child != NOWHERE {
-            let next = self.node(child);
-            own.must = own.must || next.must;
-            child = next.next;
-        }
-        let several = self.node(own.child).next != own.last;
-        if own.form == Form::Chain && several && self.width(own.first, end) > CALL {
-            own.must = true;
-        }
+        let chain = own.form == Form::Chain && self.node(own.child).next != own.last;
+        let wide = chain && self.width(own.first, end) > CALL;
+        own.must = own.must || wide || self.is_tall(own.first, end);
         if own.form == Form::Leaf && own.child != NOWHERE {
             own.form = Form::Plain;
         }
@@ -62,16 +54,13 @@ impl Tree {
 
     // Of `if a {` the width up to the brace, if no line breaks in it.
     fn head_of_control(&self, own: &Node) -> usize {
-        let mut child = own.child;
-        while child != NOWHERE {
-            let node = self.node(child);
-            if node.form == Form::Group && self.atom(node.first).is_body() {
-                return self.distance(own.first, node.first).saturating_add(1);
+        for index in own.first..own.end {
+            if self.is_tall(own.first, index) {
+                break;
             }
-            if node.must {
-                return NO_HEAD;
+            if self.atom(index).is_body() {
+                return self.distance(own.first, index).saturating_add(1);
             }
-            child = node.next;
         }
         NO_HEAD
     }

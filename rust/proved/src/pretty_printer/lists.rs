@@ -40,7 +40,7 @@ impl Tree {
         let inside = self.head_inside(&own);
         let closed = matches!(atom.role, Role::Repeated | Role::Params);
         if let Some(atom) = self.atoms.get_mut(own.first) {
-            atom.width = inner.saturating_add(2 + padded as usize * 2);
+            atom.width = inner.saturating_add(if padded { 4 } else { 2 });
             atom.tall = must;
         }
         self.set_gap(own.from, gap);
@@ -69,13 +69,8 @@ impl Tree {
         let loose = matches!(atom.role, Role::Repeated | Role::Attribute | Role::Meta)
             || atom.role == Role::Tuple && single
             || self.previous(own.first).role == Role::Bang;
-        let mut part = self.node(own.child);
-        let mut must = part.must;
-        while part.next != NOWHERE {
-            part = self.node(part.next);
-            must = must || part.must;
-        }
-        must || matches!(atom.role, Role::Block | Role::Inner | Role::Variants)
+        own.must
+            || matches!(atom.role, Role::Block | Role::Inner | Role::Variants)
             || self.is_tall(own.from, own.until)
             || comma && !loose
             || inner.saturating_sub(comma as usize) > self.limit(own, atom, single)

@@ -203,8 +203,9 @@ impl<'a> Printer<'a> {
     fn read_group(&mut self, group: Unread<'a>) {
         let tree = &mut self.lines.tree;
         let first = tree.atoms.len();
-        let pushed = push_list(tree, &mut self.groups, group.trees);
-        tree.check(pushed);
+        if let Err(error) = push_list(tree, &mut self.groups, group.trees) {
+            tree.failure = Some(error);
+        }
         let end = tree.atoms.len().saturating_sub(1);
         let own = tree.atom(tree.node(group.node).first);
         let block = own.is_brace();

@@ -30,36 +30,35 @@ pub fn push_list<'a>(
             passed -= 1;
             continue;
         }
-        let Some(next) = trees.get(index) else {
-            break;
-        };
-        let atom = match next {
-            TokenTree::Group(group) => {
-                let inside = group.stream_ref().trees();
+        let atom = match trees.get(index) {
+            Some(TokenTree::Group(group)) => {
                 let own = tree.atoms.len();
                 let node = tree.push_node(Form::Group, own, own.saturating_add(1));
-                groups.push_fallibly(Unread {
-                    node,
-                    trees: inside,
-                })?;
-                group_atom(group.delimiter(), node, inside)
+                let trees = group.stream_ref().trees();
+                groups.push_fallibly(Unread { node, trees })?;
+                group_atom(group.delimiter(), node, trees)
             }
-            TokenTree::Ident(ident) => {
-                let word = if is_raw(ident) {
-                    Word::Name
-                } else {
-                    word_of(name_of(ident))
-                };
-                Atom::new(Kind::Word(word), false, width_of(ident))
-            }
-            TokenTree::Literal(literal) => literal_atom(literal.text()),
-            TokenTree::Punct(punct) => mark_atom(punct, trees, index),
+            Some(TokenTree::Ident(ident)) => name_atom(ident),
+            Some(TokenTree::Literal(literal)) => literal_atom(literal.text()),
+            Some(TokenTree::Punct(punct)) => mark_atom(punct, trees, index),
+            None => break,
         };
         passed = atom.tokens().saturating_sub(1);
         tree.atoms.push_fallibly(atom)?;
     }
     // What stands after a list has the gap before its closer.
-    tree.atoms.push_fallibly(NOTHING)
+    tree.atoms.push_fallibly(NOTHING)?;
+    Ok(())
+}
+
+// The word that an identifier is.
+fn name_atom(ident: &Ident) -> Atom {
+    let word = if is_raw(ident) {
+        Word::Name
+    } else {
+        word_of(name_of(ident))
+    };
+    Atom::new(Kind::Word(word), false, width_of(ident))
 }
 
 // The group of these trees, which has this node.

@@ -82,7 +82,11 @@ impl State {
             }
             Kind::Group(delimiter) => {
                 let earlier = tree.previous(index.saturating_sub(1));
-                role = self.group_role(delimiter, own, previous, earlier, next);
+                role = if own.is_brace() {
+                    self.brace_role(own, previous, next)
+                } else {
+                    self.list_role(delimiter, previous, earlier)
+                };
                 let begins = index == self.start.saturating_add(1);
                 let block = begins && previous.is_word(Word::Unsafe);
                 let operand = awaits_operand(previous) && !block;
@@ -145,17 +149,8 @@ impl State {
         matches!(self.head, Head::Fn | Head::Impl | Head::Enum | Head::Item)
     }
 
-    fn group_role(
-        &mut self,
-        delimiter: Delimiter,
-        own: &Atom,
-        previous: &Atom,
-        earlier: &Atom,
-        next: &Atom,
-    ) -> Role {
-        if delimiter != Delimiter::Brace {
-            return self.list_role(delimiter, previous, earlier);
-        }
+    // The role of braces, and what it says of those after them.
+    fn brace_role(&mut self, own: &Atom, previous: &Atom, next: &Atom) -> Role {
         if previous.is_path() {
             return Role::Use;
         }
@@ -168,35 +163,38 @@ impl State {
             || next.is_mark(':')
             || next.is_word(Word::In)
             || awaits_operand(previous);
-        if self.head != Head::Nothing && (self.is_in_item() || !goes_on) {
-            let role = match self.head {
-                Head::Branch if own.role != Role::Block => Role::Branch,
-                Head::Enum => Role::Variants,
-                _ if self.outer > 0 => Role::Inner,
-                _ => Role::Block,
-            };
-            self.last = self.head;
-            self.head = if self.outer > 0 {
-                Head::Other
-            } else {
-                Head::Nothing
-            };
-            self.outer = self.outer.saturating_sub(1);
-            return role;
+        if self.head == Head::Nothing || !self.is_in_item() && goes_on {
+            return self.value_role(own, previous);
         }
-        if own.role == Role::Block
+        let role = match self.head {
+            Head::Branch if own.role != Role::Block => Role::Branch,
+            Head::Enum => Role::Variants,
+            _ if self.outer > 0 => Role::Inner,
+            _ => Role::Block,
+        };
+        self.last = self.head;
+        self.head = if self.outer > 0 {
+            Head::Other
+        } else {
+            Head::Nothing
+        };
+        self.outer = self.outer.saturating_sub(1);
+        role
+    }
+
+    // The role of braces that belong to no head.
+    fn value_role(&self, own: &Atom, previous: &Atom) -> Role {
+        let block = own.role == Role::Block
             || previous.role == Role::Attribute
             || previous.is_arm()
             || previous.is_mark('!')
             || previous.is_mark('|')
-            || previous.is_or()
-        {
-            return Role::Block;
-        }
-        let name = previous.is_name();
-        if self.inside == Role::Variants {
+            || previous.is_or();
+        if block {
+            Role::Block
+        } else if self.inside == Role::Variants {
             Role::Variant
-        } else if name || previous.role == Role::Greater {
+        } else if previous.is_name() || previous.role == Role::Greater {
             Role::Fields
         } else {
             Role::Expression

@@ -35,53 +35,63 @@ impl State {
             return Role::Separator;
         }
         let value = previous.is_value() && !(index == self.start && previous.is_brace());
-        if mark == '!' {
-            return if previous.is_mark('#') {
-                Role::Hash
-            } else if matches!(previous.kind, Kind::Sign(Sign::Arrow)) {
-                // The type of what never returns.
-                Role::Plain
-            } else if previous.is_any_word()
-                && (value && !next.is_sign() || previous.is_word(Word::MacroRules))
-            {
-                Role::Bang
-            } else {
-                Role::Before
-            };
-        }
-        if mark == '|' || matches!(sign, Sign::Or) {
-            let found = if mark == '|' && self.in_bars {
-                Role::BarClose
-            } else if value {
-                Role::Between
-            } else if mark == '|' {
-                Role::BarOpen
-            } else {
-                Role::BarClose
-            };
-            self.in_bars = found == Role::BarOpen;
-            return found;
-        }
-        if role != Role::Plain {
-            return role;
-        }
         match sign {
-            Sign::Path => Role::Path,
-            Sign::Range => Role::Range,
-            Sign::And => side(value),
-            Sign::One(c) => match c {
-                ':' => Role::Colon,
-                ',' => Role::Comma,
-                ';' => Role::Semicolon,
-                '.' => Role::Dot,
-                '#' => Role::Hash,
-                '$' | '~' => Role::Before,
-                '?' if value => Role::After,
-                '-' | '*' | '&' | '@' | '?' => side(value),
-                _ => Role::Between,
-            },
-            _ => Role::Between,
+            Sign::One('!') => bang_role(previous, next, value),
+            Sign::One('|') | Sign::Or => self.bar_role(mark, value),
+            _ if role != Role::Plain => role,
+            _ => plain_role(sign, value),
         }
+    }
+
+    // Of the bars around the parameters of a closure, and of those between values.
+    fn bar_role(&mut self, mark: char, value: bool) -> Role {
+        let found = if mark == '|' && self.in_bars {
+            Role::BarClose
+        } else if value {
+            Role::Between
+        } else if mark == '|' {
+            Role::BarOpen
+        } else {
+            Role::BarClose
+        };
+        self.in_bars = found == Role::BarOpen;
+        found
+    }
+}
+
+// Of `!`.
+fn bang_role(previous: &Atom, next: &Atom, value: bool) -> Role {
+    let called = previous.is_any_word() && value && !next.is_sign();
+    if previous.is_mark('#') {
+        Role::Hash
+    } else if matches!(previous.kind, Kind::Sign(Sign::Arrow)) {
+        // The type of what never returns.
+        Role::Plain
+    } else if called || previous.is_word(Word::MacroRules) {
+        Role::Bang
+    } else {
+        Role::Before
+    }
+}
+
+// Of any other operator.
+fn plain_role(sign: Sign, value: bool) -> Role {
+    match sign {
+        Sign::Path => Role::Path,
+        Sign::Range => Role::Range,
+        Sign::And => side(value),
+        Sign::One(c) => match c {
+            ':' => Role::Colon,
+            ',' => Role::Comma,
+            ';' => Role::Semicolon,
+            '.' => Role::Dot,
+            '#' => Role::Hash,
+            '$' | '~' => Role::Before,
+            '?' if value => Role::After,
+            '-' | '*' | '&' | '@' | '?' => side(value),
+            _ => Role::Between,
+        },
+        _ => Role::Between,
     }
 }
 

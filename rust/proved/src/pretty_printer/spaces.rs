@@ -9,40 +9,23 @@ use crate::pretty_printer::words::Word;
 /// its list.
 #[cfg_attr(not(debug_assertions), inline(always))]
 pub fn wants_space(tree: &Tree, index: usize, previous: &Atom, next: &Atom, role: Role) -> bool {
-    if previous.glued {
-        return false;
-    }
-    if next.is_sign() {
-        match role {
-            Role::Comma
+    let bar = role == Role::BarClose && next.is_mark('|');
+    let close = matches!(
+        role,
+        Role::Comma
             | Role::Semicolon
             | Role::Dot
             | Role::Colon
             | Role::Greater
             | Role::Bang
             | Role::After
-            | Role::Separator => return false,
-            Role::BarClose if next.is_mark('|') => return false,
-            _ => {}
-        }
+            | Role::Separator
+    );
+    if previous.glued || next.is_sign() && (close || bar) {
+        return false;
     }
     if previous.is_sign() && previous.role != Role::Greater && previous.role != Role::After {
-        return match previous.role {
-            Role::Colon => {
-                let dollar = tree.atom(index.saturating_sub(2));
-                !(dollar.is_mark('$') && next.is_word(Word::Fragment))
-            }
-            Role::Before
-            | Role::Path
-            | Role::Less
-            | Role::Hash
-            | Role::Dot
-            | Role::Range
-            | Role::BarOpen
-            | Role::Separator => false,
-            Role::Bang => !next.is_list(),
-            _ => true,
-        };
+        return is_wide(tree, index, previous, next);
     }
     if next.is_sign() && matches!(role, Role::Path | Role::Range | Role::Less) {
         let opens = role == Role::Less
@@ -51,15 +34,37 @@ pub fn wants_space(tree: &Tree, index: usize, previous: &Atom, next: &Atom, role
                 || previous.is_word(Word::Fn));
         return previous.is_keyword() && !opens;
     }
-    if next.is_list() {
-        let tight = previous.is_word(Word::Fn)
-            || previous.is_word(Word::Pub) && next.is_round()
-            || previous.is_word(Word::Await)
-            || previous.is_word(Word::MacroRules);
-        return previous.is_keyword() && !tight
-            || previous.is_word(Word::Lifetime)
-            || previous.is_brace()
-            || previous.role == Role::Attribute;
+    !next.is_list() || is_apart(previous, next)
+}
+
+// Whether a space follows an operator.
+fn is_wide(tree: &Tree, index: usize, previous: &Atom, next: &Atom) -> bool {
+    match previous.role {
+        Role::Colon => {
+            let dollar = tree.atom(index.saturating_sub(3));
+            !(dollar.is_mark('$') && next.is_word(Word::Fragment))
+        }
+        Role::Before
+        | Role::Path
+        | Role::Less
+        | Role::Hash
+        | Role::Dot
+        | Role::Range
+        | Role::BarOpen
+        | Role::Separator => false,
+        Role::Bang => !next.is_list(),
+        _ => true,
     }
-    true
+}
+
+// Whether a space stands before parentheses or brackets.
+fn is_apart(previous: &Atom, next: &Atom) -> bool {
+    let tight = previous.is_word(Word::Fn)
+        || previous.is_word(Word::Pub) && next.is_round()
+        || previous.is_word(Word::Await)
+        || previous.is_word(Word::MacroRules);
+    previous.is_keyword() && !tight
+        || previous.is_word(Word::Lifetime)
+        || previous.is_brace()
+        || previous.role == Role::Attribute
 }

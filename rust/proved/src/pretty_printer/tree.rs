@@ -5,7 +5,7 @@ use crate::shim::prelude::Grow;
 
 use crate::pretty_printer::atoms::{Atom, NOTHING, Role};
 use crate::layout::Gap;
-use crate::shim::alloc::AllocError;
+use crate::shim::alloc::{AllocError, AllocFailed};
 
 /// No index.
 pub const NOWHERE: usize = usize::MAX;
@@ -62,7 +62,8 @@ pub struct Node {
     pub child: usize,
     pub last: usize,
     pub next: usize,
-    /// Of a group: the index of its list's first atom, and that of what stands after its last.
+    /// Of a group: the index of its list's first atom, and that of what stands after its last. Of an item: its bounds
+    /// or its body, if it has any, and the index of its first atom after the head.
     pub from: usize,
     pub until: usize,
     /// The width of its first line if it may go on over the next lines with the line on which it begins, or `NO_HEAD`.
@@ -155,9 +156,9 @@ impl Tree {
     }
 
     /// Takes note of a failure.
-    pub fn check(&mut self, pushed: Result<(), AllocError>) {
+    pub fn check<T>(&mut self, pushed: Result<(), AllocFailed<T>>) {
         if let Err(error) = pushed {
-            self.failure = Some(error);
+            self.failure = Some(AllocError::from(error));
         }
     }
 
@@ -173,15 +174,17 @@ impl Tree {
         index
     }
 
-    /// Makes a node the last child of another, if there are both.
+    /// Makes a node, of which all is read, the last child of another, if there are both.
     pub fn append(&mut self, node: usize, child: usize) {
         if child == NOWHERE {
             return;
         }
+        let must = self.node(child).must;
         let mut last = NOWHERE;
         if let Some(own) = self.nodes.get_mut(node) {
             last = own.last;
             own.last = child;
+            own.must = own.must || must;
             if last == NOWHERE {
                 own.child = child;
             }

@@ -58,6 +58,15 @@ pub fn word_of(text: &str) -> Word {
         return Word::Name;
     };
     match *first {
+        b'a'..=b'e' => word_to_e(*first, text),
+        b'f'..=b'm' => word_to_m(*first, text),
+        _ => word_to_z(*first, text),
+    }
+}
+
+// What it is if it begins with this letter, from `a` on.
+fn word_to_e(first: u8, text: &str) -> Word {
+    match first {
         b'a' => match text {
             "as" => Word::As,
             "await" => Word::Await,
@@ -92,6 +101,13 @@ pub fn word_of(text: &str) -> Word {
             "eprint" | "eprintln" | "error" => Word::Format1,
             _ => Word::Name,
         },
+        _ => Word::Name,
+    }
+}
+
+// What it is if it begins with this letter, from `f` on.
+fn word_to_m(first: u8, text: &str) -> Word {
+    match first {
         b'f' => match text {
             "fn" => Word::Fn,
             "for" => Word::For,
@@ -121,6 +137,13 @@ pub fn word_of(text: &str) -> Word {
             "meta" => Word::Fragment,
             _ => Word::Name,
         },
+        _ => Word::Name,
+    }
+}
+
+// What it is if it begins with this letter, from `p` on.
+fn word_to_z(first: u8, text: &str) -> Word {
+    match first {
         b'p' => match text {
             "pub" => Word::Pub,
             "pat" | "path" => Word::Fragment,
