@@ -22,6 +22,7 @@ impl Lines {
             self.open(Step::Shut, task);
             return self.lay(own.child, task.indent, task.tail.saturating_add(1));
         }
+        self.tree.read_unread(own.last);
         let head = self.tree.head_inside(own);
         let width = self.column.saturating_add(1).saturating_add(head);
         if head != NO_HEAD && width <= WIDTH {

@@ -54,15 +54,17 @@ impl Tree {
 
     // Of `if a {` the width up to the brace, if no line breaks in it.
     fn head_of_control(&self, own: &Node) -> usize {
-        for index in own.first..own.end {
-            if self.is_tall(own.first, index) {
-                break;
-            }
-            if self.atom(index).is_body() {
-                return self.distance(own.first, index).saturating_add(1);
+        let mut block = self.node(own.child);
+        // The block comes after what is asked, and of `for` after the pattern too.
+        for _ in 0..2 {
+            if block.form != Form::Group {
+                block = self.node(block.next);
             }
         }
-        NO_HEAD
+        if block.form != Form::Group || self.is_tall(own.first, block.first) {
+            return NO_HEAD;
+        }
+        self.distance(own.first, block.first).saturating_add(1)
     }
 
     // Whether the body of a closure goes on with the line of its parameters: it is a block, or ends with one.

@@ -160,8 +160,8 @@ impl Lines {
         }
         match own.form {
             Form::Unread => {
-                let node = self.tree.read_part(own.first, own.end, false);
-                self.lay(node, task.indent, task.tail);
+                self.tree.read_unread(task.node);
+                self.lay(task.node, task.indent, task.tail);
             }
             Form::Group => self.lay_group(task, own),
             Form::Chain => self.lay_chain(task, own),

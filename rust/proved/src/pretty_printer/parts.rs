@@ -16,8 +16,7 @@ impl Tree {
         while start < own.until {
             let end = self.part_end(start, own.until, block);
             let long = self.is_tall(start, end) || self.width(start, end) > SHORT;
-            let opens = end == own.until && !block && self.ends_with_group(start, end);
-            let part = if long || opens {
+            let part = if long {
                 self.read_part(start, end, block)
             } else {
                 self.push_node(Form::Unread, start, end)
@@ -27,21 +26,17 @@ impl Tree {
         }
     }
 
-    // Whether a group that isn't empty is the last of an argument, but for marks.
-    fn ends_with_group(&self, first: usize, end: usize) -> bool {
-        for passed in first..end {
-            let own = self.atom(
-                end.saturating_sub(passed.saturating_sub(first))
-                    .saturating_sub(1),
-            );
-            if own.is_full() {
-                return true;
-            }
-            if own.role != Role::After && own.role != Role::Comma {
-                return false;
+    /// Reads a part of which nothing was read.
+    pub fn read_unread(&mut self, part: usize) {
+        let own = *self.node(part);
+        if own.form == Form::Unread {
+            let read = self.read_part(own.first, own.end, false);
+            let mut node = *self.node(read);
+            node.next = own.next;
+            if let Some(own) = self.nodes.get_mut(part) {
+                *own = node;
             }
         }
-        false
     }
 
     /// Where the part ends that begins here: after a comma outside of angles, and in braces also after a semicolon, an

@@ -9,19 +9,7 @@ use crate::pretty_printer::words::Word;
 /// its list.
 #[cfg_attr(not(debug_assertions), inline(always))]
 pub fn wants_space(tree: &Tree, index: usize, previous: &Atom, next: &Atom, role: Role) -> bool {
-    let bar = role == Role::BarClose && next.is_mark('|');
-    let close = matches!(
-        role,
-        Role::Comma
-            | Role::Semicolon
-            | Role::Dot
-            | Role::Colon
-            | Role::Greater
-            | Role::Bang
-            | Role::After
-            | Role::Separator
-    );
-    if previous.glued || next.is_sign() && (close || bar) {
+    if previous.glued || next.is_sign() && is_close(role, next) {
         return false;
     }
     if previous.is_sign() && previous.role != Role::Greater && previous.role != Role::After {
@@ -35,6 +23,22 @@ pub fn wants_space(tree: &Tree, index: usize, previous: &Atom, next: &Atom, role
         return previous.is_keyword() && !opens;
     }
     !next.is_list() || is_apart(previous, next)
+}
+
+// Whether an operator of this role touches what stands before it.
+fn is_close(role: Role, own: &Atom) -> bool {
+    match role {
+        Role::Comma
+        | Role::Semicolon
+        | Role::Dot
+        | Role::Colon
+        | Role::Greater
+        | Role::Bang
+        | Role::After
+        | Role::Separator => true,
+        Role::BarClose => own.is_mark('|'),
+        _ => false,
+    }
 }
 
 // Whether a space follows an operator.
