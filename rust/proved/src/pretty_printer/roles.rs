@@ -187,7 +187,7 @@ impl State {
         let block = own.role == Role::Block
             || previous.role == Role::Attribute
             || previous.is_arm()
-            || previous.is_mark('!')
+            || previous.role == Role::Bang
             || previous.is_mark('|')
             || previous.is_or();
         if block {
@@ -285,5 +285,5 @@ pub fn awaits_operand(previous: &Atom) -> bool {
         previous.kind,
         Kind::Word(Word::If | Word::While | Word::Match | Word::In | Word::Unsafe)
     );
-    asks || previous.role == Role::Between
+    asks || previous.role == Role::Between && !previous.is_arm()
 }
