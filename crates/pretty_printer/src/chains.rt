@@ -3,6 +3,9 @@ use crate::limits::CALL;
 use crate::lines::{Lines, Step, TAB, Task, WIDTH, deeper};
 use crate::tree::{NO_HEAD, Node};
 
+/// How much of a line is kept for ` => {` after patterns.
+const FILL: usize = 6;
+
 impl Lines {
     /// A chain that isn't on one line.
     pub fn lay_chain(&mut self, task: Task, own: &Node) {
@@ -73,7 +76,7 @@ impl Lines {
     /// The next operand, with its operator on a new line, if what stands on this one isn't as short as an indentation.
     /// Patterns stand no further in.
     pub fn next_operand(&mut self, task: Task, own: &Node, child: &Node) {
-        let pattern = task.step == Step::Line;
+        let pattern = matches!(task.step, Step::Line | Step::Fill);
         let inner = if pattern {
             task.indent
         } else {
@@ -83,7 +86,8 @@ impl Lines {
         if child.first == own.first {
             return self.lay(task.child, task.indent, task.tail);
         }
-        if self.column > inner || pattern {
+        let fills = task.step == Step::Fill && self.fit(task.at, child.end, FILL);
+        if !fills && (self.column > inner || pattern) {
             self.line(task.at, inner);
             self.put(task.at, child.first);
         } else {

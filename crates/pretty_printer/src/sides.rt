@@ -1,5 +1,5 @@
 //! Breaks the lines of what has a left and a right side, of control flow and of arms.
-use crate::atoms::{Kind, Sign};
+use crate::atoms::{Kind, Role, Sign};
 use crate::lines::{Lines, Step, Task, WIDTH, deeper};
 use crate::tree::{Form, NO_HEAD, NOWHERE, Node};
 use crate::words::Word;
@@ -8,6 +8,9 @@ use crate::words::Word;
 const ELSE: usize = 7;
 
 const ARM: usize = 5;
+
+/// How wide the patterns are at most of which several stand on a line.
+const PATTERN: usize = 20;
 
 impl Lines {
     /// The next side of an assignment or a `let`, and what `else` gives.
@@ -111,7 +114,30 @@ impl Lines {
         let mut patterns = task;
         patterns.node = own.child;
         patterns.tail = 3;
-        self.begin(Step::Line, patterns, &pattern);
+        let step = if self.are_short(&pattern) {
+            Step::Fill
+        } else {
+            Step::Line
+        };
+        self.begin(step, patterns, &pattern);
+    }
+
+    // Whether patterns are so short and plain that several stand on a line.
+    fn are_short(&self, own: &Node) -> bool {
+        let mut start = own.first;
+        for index in own.first..own.end {
+            let atom = self.tree.atom(index);
+            let group = self.tree.node(atom.node);
+            let single = atom.is_round() && self.tree.node(group.child).next == NOWHERE;
+            let long = self.tree.width(start, index.saturating_add(1)) > PATTERN;
+            if atom.is_group() && !single || atom.role == Role::Path || long {
+                return false;
+            }
+            if atom.is_mark('|') {
+                start = index.saturating_add(1);
+            }
+        }
+        true
     }
 
     /// The guard or the body of an arm. After a guard of several lines its block begins one.
