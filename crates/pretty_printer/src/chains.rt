@@ -46,7 +46,7 @@ impl Lines {
         !self.tree.is_tall(own.first, call.first) && (fits || head && !fits_alone)
     }
 
-    /// The next call of a chain, on a line. The lines of calls stand further in, unless a line of closers ends the root.
+    /// The next call of a chain, on a line, which begins further in unless a line of closers ends the root.
     pub fn next_call(&mut self, task: Task, own: &Node, child: &Node) {
         let mut rest = task;
         if task.step == Step::Next && !self.is_shut {

@@ -194,8 +194,8 @@ impl Lines {
         self.tree.find_role(part.first, part.end, Role::Path) < part.end
     }
 
-    /// Whether an empty line stands between two parts: between two items, if one of them has several lines or the second
-    /// has an attribute.
+    /// Whether an empty line stands between two parts: between two items, if one of them has several lines or the
+    /// second has an attribute.
     pub fn parts_items(&self, last: &Node, next: &Node) -> bool {
         if !self.is_item(last) {
             return false;
