@@ -82,7 +82,7 @@ impl Lines {
     // How the parts of a group stand on lines.
     fn step_of(&self, own: &Node) -> Step {
         let atom = self.tree.atom(own.first);
-        let name = self.previous(own.first);
+        let name = self.tree.previous(own.first);
         if atom.role == Role::Use && self.is_nested(own) {
             return Step::Import;
         }
@@ -127,8 +127,8 @@ impl Lines {
 
     // The number of arguments of a macro up to its format string, or 0.
     fn before_format(&self, own: &Node) -> usize {
-        let bang = self.previous(own.first).role == Role::Bang;
-        match self.previous(own.first.saturating_sub(1)).kind {
+        let bang = self.tree.previous(own.first).role == Role::Bang;
+        match self.tree.previous(own.first.saturating_sub(1)).kind {
             Kind::Word(Word::Format1) if bang => 1,
             Kind::Word(Word::Format2) if bang => 2,
             Kind::Word(Word::Format3) if bang => 3,
@@ -138,7 +138,7 @@ impl Lines {
 
     // Where a part ends without its comma.
     fn end_of(&self, part: &Node) -> usize {
-        let comma = self.previous(part.end).role == Role::Comma;
+        let comma = self.tree.previous(part.end).role == Role::Comma;
         part.end.saturating_sub(comma as usize)
     }
 
@@ -211,7 +211,7 @@ impl Lines {
     // Whether the part is an item.
     fn is_item(&self, part: &Node) -> bool {
         let first = self.tree.atom(part.first);
-        let last = self.previous(part.end);
+        let last = self.tree.previous(part.end);
         let statement = first.is_word(Word::Let)
             || first.is_word(Word::If)
             || first.is_word(Word::For)

@@ -38,7 +38,7 @@ impl Lines {
 
     // Whether a child is the bounds of a trait.
     fn is_colon(&self, child: &Node) -> bool {
-        self.previous(child.first).role == Role::Colon
+        self.tree.previous(child.first).role == Role::Colon
     }
 
     /// The next of an item.
@@ -87,7 +87,7 @@ impl Lines {
             return self.put(child.first, child.end);
         }
         let mut indent = task.indent;
-        if self.previous(child.first).is_word(Word::Impl) {
+        if self.tree.previous(child.first).is_word(Word::Impl) {
             indent = deeper(indent);
         }
         let mut at = child.child;

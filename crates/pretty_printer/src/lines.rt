@@ -1,5 +1,5 @@
 //! Breaks the lines of a part: from the outside in, by a list of what is left to do.
-use crate::atoms::{Atom, Role};
+use crate::atoms::Role;
 use crate::tree::{Form, NOWHERE, Node, Tree};
 use layout::Gap;
 use std::alloc::Global;
@@ -270,11 +270,6 @@ impl Lines {
         self.column = column.saturating_add(1);
         self.is_fresh = false;
         self.is_shut = true;
-    }
-
-    /// The atom before this one.
-    pub fn previous(&self, index: usize) -> &Atom {
-        self.tree.previous(index)
     }
 }
 

@@ -99,10 +99,12 @@ impl Lines {
     pub fn lay_arm(&mut self, task: Task, own: &Node) {
         let pattern = *self.tree.node(own.child);
         let next = self.tree.node(pattern.next).first;
-        let tail = if self.previous(next).is_word(Word::If) {
+        let tail = if self.tree.previous(next).is_word(Word::If) {
             0
+        } else if self.tree.atom(next).is_brace() {
+            ARM
         } else {
-            4 + self.tree.atom(next).is_brace() as usize
+            4
         };
         let bar = self.tree.node(pattern.child).end;
         let bars = pattern.form == Form::Operators && self.tree.atom(bar).is_mark('|');
@@ -142,7 +144,7 @@ impl Lines {
 
     /// The guard or the body of an arm. After a guard of several lines its block begins one.
     pub fn next_of_arm(&mut self, task: Task, own: &Node, child: &Node) {
-        if self.previous(child.first).is_word(Word::If) {
+        if self.tree.previous(child.first).is_word(Word::If) {
             return self.next_guard(task, own, child);
         }
         self.write(own, task.at, child.first);

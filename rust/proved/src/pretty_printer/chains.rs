@@ -5,6 +5,9 @@ use crate::pretty_printer::limits::CALL;
 use crate::pretty_printer::lines::{Lines, Step, TAB, Task, WIDTH, deeper};
 use crate::pretty_printer::tree::{NO_HEAD, Node};
 
+/// How much of a line is kept for ` => {` after patterns.
+const FILL: usize = 6;
+
 impl Lines {
     /// A chain that isn't on one line.
     pub fn lay_chain(&mut self, task: Task, own: &Node) {
@@ -45,7 +48,7 @@ impl Lines {
         !self.tree.is_tall(own.first, call.first) && (fits || head && !fits_alone)
     }
 
-    /// The next call of a chain, on a line. The lines of calls stand further in, unless a line of closers ends the root.
+    /// The next call of a chain, on a line, which begins further in unless a line of closers ends the root.
     pub fn next_call(&mut self, task: Task, own: &Node, child: &Node) {
         let mut rest = task;
         if task.step == Step::Next && !self.is_shut {
@@ -75,7 +78,7 @@ impl Lines {
     /// The next operand, with its operator on a new line, if what stands on this one isn't as short as an indentation.
     /// Patterns stand no further in.
     pub fn next_operand(&mut self, task: Task, own: &Node, child: &Node) {
-        let pattern = task.step == Step::Line;
+        let pattern = matches!(task.step, Step::Line | Step::Fill);
         let inner = if pattern {
             task.indent
         } else {
@@ -85,7 +88,8 @@ impl Lines {
         if child.first == own.first {
             return self.lay(task.child, task.indent, task.tail);
         }
-        if self.column > inner || pattern {
+        let fills = task.step == Step::Fill && self.fit(task.at, child.end, FILL);
+        if !fills && (self.column > inner || pattern) {
             self.line(task.at, inner);
             self.put(task.at, child.first);
         } else {

@@ -3,7 +3,7 @@
 
 use crate::shim::prelude::Grow;
 
-use crate::pretty_printer::atoms::{Atom, Role};
+use crate::pretty_printer::atoms::Role;
 use crate::pretty_printer::tree::{Form, NOWHERE, Node, Tree};
 use crate::layout::Gap;
 
@@ -272,11 +272,6 @@ impl Lines {
         self.column = column.saturating_add(1);
         self.is_fresh = false;
         self.is_shut = true;
-    }
-
-    /// The atom before this one.
-    pub fn previous(&self, index: usize) -> &Atom {
-        self.tree.previous(index)
     }
 }
 

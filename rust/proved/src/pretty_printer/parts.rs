@@ -41,7 +41,8 @@ impl Tree {
 
     /// Where the part ends that begins here: after a comma outside of angles, and in braces also after a semicolon, an
     /// attribute and a block.
-    pub fn part_end(&self, first: usize, end: usize, block: bool) -> usize {
+    pub fn part_end(&self, first: usize, end: usize, block: bool) -> usize
+    {
         let mut depth: usize = 0;
         let mut in_where = false;
         let mut signs_only = true;
@@ -69,7 +70,7 @@ impl Tree {
     /// Reads a part. `block` says that it is in braces.
     pub fn read_part(&mut self, first: usize, end: usize, block: bool) -> usize {
         let last = self.previous(end);
-        let stop = if last.ends_part() { end - 1 } else { end };
+        let stop = end.saturating_sub(last.ends_part() as usize);
         if stop <= first {
             return self.push_node(Form::Leaf, first, end);
         }
@@ -157,7 +158,7 @@ impl Tree {
     /// Reads a `let`, a constant or an alias: what is at `at` on, `=` and its right side.
     pub fn read_let(&mut self, first: usize, at: usize, end: usize) -> usize {
         let last = self.previous(end);
-        let mut stop = if last.ends_part() { end - 1 } else { end };
+        let mut stop = end.saturating_sub(last.ends_part() as usize);
         let node = self.push_node(Form::Let, first, end);
         let equals = self.find_equals(at, stop);
         self.read_child(node, at.saturating_add(1), equals);

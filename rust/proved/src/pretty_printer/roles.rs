@@ -7,7 +7,6 @@ use crate::pretty_printer::spaces::wants_space;
 use crate::pretty_printer::tree::Tree;
 use crate::pretty_printer::words::Word;
 use crate::layout::Gap;
-use crate::proc_macro2::Delimiter;
 
 /// Gives the atoms of a list their roles. `inside` is the role of its group.
 pub fn assign_roles(tree: &mut Tree, first: usize, end: usize, block: bool, inside: Role) {
@@ -80,20 +79,7 @@ impl State {
                     }
                 }
             }
-            Kind::Group(delimiter) => {
-                let earlier = tree.previous(index.saturating_sub(1));
-                role = if own.is_brace() {
-                    self.brace_role(own, previous, next)
-                } else {
-                    self.list_role(delimiter, previous, earlier)
-                };
-                let begins = index == self.start.saturating_add(1);
-                let block = begins && previous.is_word(Word::Unsafe);
-                let operand = awaits_operand(previous) && !block;
-                if self.start < NO_START && !operand && self.ends(tree, index, role, next) {
-                    self.start = index.saturating_add(1);
-                }
-            }
+            Kind::Group(_) => role = self.group_role(tree, index, own, next),
             Kind::Sign(sign) => {
                 // Only marks are angles.
                 match role {
@@ -110,6 +96,23 @@ impl State {
             changed.role = role;
             changed.gap = if spaced { Gap::Space } else { Gap::Nothing };
         }
+    }
+
+    // The role of a group, and whether a statement ends with it.
+    fn group_role(&mut self, tree: &Tree, index: usize, own: &Atom, next: &Atom) -> Role {
+        let previous = tree.previous(index);
+        let earlier = tree.previous(index.saturating_sub(1));
+        let role = if own.is_brace() {
+            self.brace_role(own, previous, next)
+        } else {
+            self.list_role(own, previous, earlier)
+        };
+        let begins = index == self.start.saturating_add(1);
+        let block = begins && previous.is_word(Word::Unsafe);
+        if (block || !awaits_operand(previous)) && self.ends(tree, index, role, next) {
+            self.start = index.saturating_add(1);
+        }
+        role
     }
 
     // Whether an `if` begins that gives a value, at this word, with which `head` begins.
@@ -202,15 +205,15 @@ impl State {
     }
 
     // The role of a group that is no braces.
-    fn list_role(&self, delimiter: Delimiter, previous: &Atom, earlier: &Atom) -> Role {
+    fn list_role(&self, own: &Atom, previous: &Atom, earlier: &Atom) -> Role {
         let hash = previous.is_mark('#') || previous.is_mark('!') && earlier.is_mark('#');
         if previous.is_mark('$') {
             return Role::Repeated;
         }
-        if delimiter == Delimiter::Bracket && hash {
+        if own.is_bracket() && hash {
             return Role::Attribute;
         }
-        if delimiter != Delimiter::Parenthesis {
+        if !own.is_round() {
             return Role::Plain;
         }
         let named = previous.is_any_word() && earlier.is_word(Word::Fn);
@@ -229,13 +232,13 @@ impl State {
     fn ends(&self, tree: &Tree, index: usize, role: Role, next: &Atom) -> bool {
         let passed = index.saturating_sub(self.start);
         if role == Role::Attribute {
-            return passed < 3;
+            return passed < 3 && self.start < NO_START;
         }
         if !matches!(role, Role::Block | Role::Variants | Role::Expression) {
             return false;
         }
         let goes_on = next.is_word(Word::Else) || next.is_mark('.') || next.is_mark('?');
-        if goes_on || self.head == Head::Other {
+        if goes_on || self.head == Head::Other || self.start == NO_START {
             return false;
         }
         let first = tree.atom(self.start);

@@ -1,7 +1,7 @@
 // Made from crates/pretty_printer/src/sides.rt by rust/erase: change that file, not this one.
 //! Breaks the lines of what has a left and a right side, of control flow and of arms.
 
-use crate::pretty_printer::atoms::{Kind, Sign};
+use crate::pretty_printer::atoms::{Kind, Role, Sign};
 use crate::pretty_printer::lines::{Lines, Step, Task, WIDTH, deeper};
 use crate::pretty_printer::tree::{Form, NO_HEAD, NOWHERE, Node};
 use crate::pretty_printer::words::Word;
@@ -10,6 +10,9 @@ use crate::pretty_printer::words::Word;
 const ELSE: usize = 7;
 
 const ARM: usize = 5;
+
+/// How wide the patterns are at most of which several stand on a line.
+const PATTERN: usize = 20;
 
 impl Lines {
     /// The next side of an assignment or a `let`, and what `else` gives.
@@ -98,10 +101,12 @@ impl Lines {
     pub fn lay_arm(&mut self, task: Task, own: &Node) {
         let pattern = *self.tree.node(own.child);
         let next = self.tree.node(pattern.next).first;
-        let tail = if self.previous(next).is_word(Word::If) {
+        let tail = if self.tree.previous(next).is_word(Word::If) {
             0
+        } else if self.tree.atom(next).is_brace() {
+            ARM
         } else {
-            4 + self.tree.atom(next).is_brace() as usize
+            4
         };
         let bar = self.tree.node(pattern.child).end;
         let bars = pattern.form == Form::Operators && self.tree.atom(bar).is_mark('|');
@@ -113,12 +118,35 @@ impl Lines {
         let mut patterns = task;
         patterns.node = own.child;
         patterns.tail = 3;
-        self.begin(Step::Line, patterns, &pattern);
+        let step = if self.are_short(&pattern) {
+            Step::Fill
+        } else {
+            Step::Line
+        };
+        self.begin(step, patterns, &pattern);
+    }
+
+    // Whether patterns are so short and plain that several stand on a line.
+    fn are_short(&self, own: &Node) -> bool {
+        let mut start = own.first;
+        for index in own.first..own.end {
+            let atom = self.tree.atom(index);
+            let group = self.tree.node(atom.node);
+            let single = atom.is_round() && self.tree.node(group.child).next == NOWHERE;
+            let long = self.tree.width(start, index.saturating_add(1)) > PATTERN;
+            if atom.is_group() && !single || atom.role == Role::Path || long {
+                return false;
+            }
+            if atom.is_mark('|') {
+                start = index.saturating_add(1);
+            }
+        }
+        true
     }
 
     /// The guard or the body of an arm. After a guard of several lines its block begins one.
     pub fn next_of_arm(&mut self, task: Task, own: &Node, child: &Node) {
-        if self.previous(child.first).is_word(Word::If) {
+        if self.tree.previous(child.first).is_word(Word::If) {
             return self.next_guard(task, own, child);
         }
         self.write(own, task.at, child.first);

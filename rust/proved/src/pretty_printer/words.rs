@@ -60,6 +60,7 @@ pub fn word_of(text: &str) -> Word {
     match *first {
         b'a'..=b'e' => word_to_e(*first, text),
         b'f'..=b'm' => word_to_m(*first, text),
+        b'p'..=b's' => word_to_s(*first, text),
         _ => word_to_z(*first, text),
     }
 }
@@ -142,7 +143,7 @@ fn word_to_m(first: u8, text: &str) -> Word {
 }
 
 // What it is if it begins with this letter, from `p` on.
-fn word_to_z(first: u8, text: &str) -> Word {
+fn word_to_s(first: u8, text: &str) -> Word {
     match first {
         b'p' => match text {
             "pub" => Word::Pub,
@@ -161,6 +162,13 @@ fn word_to_z(first: u8, text: &str) -> Word {
             "stmt" => Word::Fragment,
             _ => Word::Name,
         },
+        _ => Word::Name,
+    }
+}
+
+// What it is if it begins with this letter, from `t` on.
+fn word_to_z(first: u8, text: &str) -> Word {
+    match first {
         b't' => match text {
             "trait" => Word::Trait,
             "type" => Word::Type,
