@@ -69,6 +69,9 @@ impl State {
         let previous = tree.previous(index);
         let next = tree.next(index);
         let mut role = own.role;
+        // What `let` gives up with may be on its line too.
+        let lets = own.is_word(Word::Else) && tree.atom(self.start).is_word(Word::Let);
+        let gives_up = lets && !previous.is_brace();
         match own.kind {
             Kind::Word(word) => {
                 if let Some(head) = head_of(word) {
@@ -93,6 +96,11 @@ impl State {
         if let Some(changed) = tree.atoms.get_mut(index) {
             changed.role = role;
             changed.gap = if spaced { Gap::Space } else { Gap::Nothing };
+        }
+        if gives_up {
+            if let Some(first) = tree.atoms.get_mut(self.start) {
+                first.role = Role::Choice;
+            }
         }
     }
 
@@ -135,7 +143,7 @@ impl State {
         }
         self.head = if word == Word::If && after_else {
             self.last
-        } else if word == Word::Else && self.last == Head::Branch {
+        } else if word == Word::Else && (self.last == Head::Branch || !previous.is_brace()) {
             Head::Branch
         } else if word == Word::If && inside {
             Head::Branch
