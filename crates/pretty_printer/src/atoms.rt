@@ -129,11 +129,18 @@ impl Atom {
     /// An atom with no role yet.
     #[inline(always)]
     pub fn new(kind: Kind, glued: bool, width: usize) -> Atom {
-        let mut atom = NOTHING;
-        atom.kind = kind;
-        atom.glued = glued;
-        atom.width = width;
-        atom
+        // Each field is set once, where the atom is to stand.
+        Atom {
+            width,
+            offset: 0,
+            tall_before: 0,
+            node: 0,
+            gap: Gap::Nothing,
+            kind,
+            role: Role::Plain,
+            glued,
+            tall: false,
+        }
     }
 
     /// How many tokens it has. A group counts as its opener.

@@ -90,8 +90,12 @@ impl Lines {
         }
     }
 
-    /// Leaves a node to be laid out next.
+    /// Lays out a node, on one line if it fits. Else that is left to be done next.
     pub fn lay(&mut self, node: usize, indent: usize, tail: usize) {
+        let own = *self.tree.node(node);
+        if own.form == Form::Leaf || own.form != Form::Item && self.fits(&own, tail) {
+            return self.put(own.first, own.end);
+        }
         self.push_task(Task {
             step: Step::Lay,
             node,
@@ -151,11 +155,8 @@ impl Lines {
         }
     }
 
-    // Lays out a node, on one line if it fits.
+    // Lays out a node that isn't on one line.
     fn lay_node(&mut self, task: Task, own: &Node) {
-        if own.form == Form::Leaf || own.form != Form::Item && self.fits(own, task.tail) {
-            return self.put(own.first, own.end);
-        }
         match own.form {
             Form::Unread => {
                 self.tree.read_unread(task.node);

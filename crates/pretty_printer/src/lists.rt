@@ -1,6 +1,7 @@
 //! What of a group is on one line, and whether its last part goes on as if no delimiters were there.
 use crate::atoms::{Atom, Role};
 use crate::limits::CALL;
+use crate::parts::SHORT;
 use crate::tree::{Form, NO_HEAD, NOWHERE, Node, Tree};
 use crate::words::Word;
 use layout::Gap;
@@ -35,7 +36,11 @@ impl Tree {
         let gap = if padded { Gap::Space } else { Gap::Nothing };
         let inner = self.width(own.from, own.until);
         let must = self.needs_lines(&own, &atom, inner);
-        let inside = self.head_inside(&own);
+        let inside = if must || inner > SHORT {
+            self.head_inside(&own)
+        } else {
+            NO_HEAD
+        };
         let closed = matches!(atom.role, Role::Repeated | Role::Params);
         if let Some(atom) = self.atoms.get_mut(own.first) {
             atom.width = inner.saturating_add(if padded { 4 } else { 2 });
@@ -71,7 +76,8 @@ impl Tree {
             || matches!(atom.role, Role::Block | Role::Inner | Role::Variants)
             || self.is_tall(own.from, own.until)
             || comma && !loose
-            || inner.saturating_sub(comma as usize) > self.limit(own, atom, single)
+            || inner > FIELDS
+                && inner.saturating_sub(comma as usize) > self.limit(own, atom, single)
     }
 
     // How wide the list of a group is at most on one line.

@@ -6,7 +6,7 @@ use crate::tree::{Form, Tree};
 use crate::words::Word;
 
 /// No part is read that is this short: no rule breaks its line.
-const SHORT: usize = 50;
+pub const SHORT: usize = 50;
 
 impl Tree {
     /// Reads the parts of a group, whose list is placed.

@@ -67,7 +67,6 @@ impl State {
     fn take(&mut self, tree: &mut Tree, index: usize) {
         let own = tree.atom(index);
         let previous = tree.previous(index);
-        let next = tree.next(index);
         let mut role = own.role;
         // What `let` gives up with may be on its line too.
         let lets = own.is_word(Word::Else) && tree.atom(self.start).is_word(Word::Let);
@@ -75,12 +74,12 @@ impl State {
         match own.kind {
             Kind::Word(word) => {
                 if let Some(head) = head_of(word) {
-                    if self.take_head(word, head, previous, next) {
+                    if self.take_head(word, head, previous, tree.next(index)) {
                         role = Role::Choice;
                     }
                 }
             }
-            Kind::Group(_) => role = self.group_role(tree, index, own, next),
+            Kind::Group(_) => role = self.group_role(tree, index, own),
             Kind::Sign(sign) => {
                 // Only marks are angles.
                 match role {
@@ -88,7 +87,7 @@ impl State {
                     Role::Greater => self.depth = self.depth.saturating_sub(1),
                     _ => {}
                 }
-                role = self.sign_role(sign, own.role, previous, next, index);
+                role = self.sign_role(sign, own.role, previous, tree.next(index), index);
             }
             Kind::Nothing => {}
         }
@@ -105,8 +104,9 @@ impl State {
     }
 
     // The role of a group, and whether a statement ends with it.
-    fn group_role(&mut self, tree: &Tree, index: usize, own: &Atom, next: &Atom) -> Role {
+    fn group_role(&mut self, tree: &Tree, index: usize, own: &Atom) -> Role {
         let previous = tree.previous(index);
+        let next = tree.next(index);
         let earlier = tree.previous(index.saturating_sub(1));
         let role = if own.is_brace() {
             self.brace_role(own, previous, next)

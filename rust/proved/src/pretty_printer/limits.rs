@@ -134,7 +134,10 @@ impl Tree {
     /// Makes blocks of the branches of the `if` of this index, which end before `past`, where they are too wide for one
     /// line. Answers whether it did. If a variant of an enum needs several lines, each with fields has.
     pub fn spread(&mut self, index: usize, past: usize) -> bool {
-        if !self.is_tall(index, past) && self.width(index, past) <= BRANCHES {
+        // The semicolon of `let` counts too.
+        let more = self.atom(index).is_word(Word::Let) as usize;
+        let width = self.width(index, past).saturating_add(more);
+        if !self.is_tall(index, past) && width <= BRANCHES {
             return false;
         }
         for later in index..past {

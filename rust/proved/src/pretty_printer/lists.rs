@@ -3,6 +3,7 @@
 
 use crate::pretty_printer::atoms::{Atom, Role};
 use crate::pretty_printer::limits::CALL;
+use crate::pretty_printer::parts::SHORT;
 use crate::pretty_printer::tree::{Form, NO_HEAD, NOWHERE, Node, Tree};
 use crate::pretty_printer::words::Word;
 use crate::layout::Gap;
@@ -37,7 +38,11 @@ impl Tree {
         let gap = if padded { Gap::Space } else { Gap::Nothing };
         let inner = self.width(own.from, own.until);
         let must = self.needs_lines(&own, &atom, inner);
-        let inside = self.head_inside(&own);
+        let inside = if must || inner > SHORT {
+            self.head_inside(&own)
+        } else {
+            NO_HEAD
+        };
         let closed = matches!(atom.role, Role::Repeated | Role::Params);
         if let Some(atom) = self.atoms.get_mut(own.first) {
             atom.width = inner.saturating_add(if padded { 4 } else { 2 });
@@ -73,7 +78,8 @@ impl Tree {
             || matches!(atom.role, Role::Block | Role::Inner | Role::Variants)
             || self.is_tall(own.from, own.until)
             || comma && !loose
-            || inner.saturating_sub(comma as usize) > self.limit(own, atom, single)
+            || inner > FIELDS
+                && inner.saturating_sub(comma as usize) > self.limit(own, atom, single)
     }
 
     // How wide the list of a group is at most on one line.

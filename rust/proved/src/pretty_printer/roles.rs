@@ -69,17 +69,19 @@ impl State {
     fn take(&mut self, tree: &mut Tree, index: usize) {
         let own = tree.atom(index);
         let previous = tree.previous(index);
-        let next = tree.next(index);
         let mut role = own.role;
+        // What `let` gives up with may be on its line too.
+        let lets = own.is_word(Word::Else) && tree.atom(self.start).is_word(Word::Let);
+        let gives_up = lets && !previous.is_brace();
         match own.kind {
             Kind::Word(word) => {
                 if let Some(head) = head_of(word) {
-                    if self.take_head(word, head, previous, next) {
+                    if self.take_head(word, head, previous, tree.next(index)) {
                         role = Role::Choice;
                     }
                 }
             }
-            Kind::Group(_) => role = self.group_role(tree, index, own, next),
+            Kind::Group(_) => role = self.group_role(tree, index, own),
             Kind::Sign(sign) => {
                 // Only marks are angles.
                 match role {
@@ -87,7 +89,7 @@ impl State {
                     Role::Greater => self.depth = self.depth.saturating_sub(1),
                     _ => {}
                 }
-                role = self.sign_role(sign, own.role, previous, next, index);
+                role = self.sign_role(sign, own.role, previous, tree.next(index), index);
             }
             Kind::Nothing => {}
         }
@@ -96,11 +98,17 @@ impl State {
             changed.role = role;
             changed.gap = if spaced { Gap::Space } else { Gap::Nothing };
         }
+        if gives_up {
+            if let Some(first) = tree.atoms.get_mut(self.start) {
+                first.role = Role::Choice;
+            }
+        }
     }
 
     // The role of a group, and whether a statement ends with it.
-    fn group_role(&mut self, tree: &Tree, index: usize, own: &Atom, next: &Atom) -> Role {
+    fn group_role(&mut self, tree: &Tree, index: usize, own: &Atom) -> Role {
         let previous = tree.previous(index);
+        let next = tree.next(index);
         let earlier = tree.previous(index.saturating_sub(1));
         let role = if own.is_brace() {
             self.brace_role(own, previous, next)
@@ -137,7 +145,7 @@ impl State {
         }
         self.head = if word == Word::If && after_else {
             self.last
-        } else if word == Word::Else && self.last == Head::Branch {
+        } else if word == Word::Else && (self.last == Head::Branch || !previous.is_brace()) {
             Head::Branch
         } else if word == Word::If && inside {
             Head::Branch

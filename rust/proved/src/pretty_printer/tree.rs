@@ -165,11 +165,18 @@ impl Tree {
     /// A new node without children.
     pub fn push_node(&mut self, form: Form, first: usize, end: usize) -> usize {
         let index = self.nodes.len();
-        let mut node = NO_NODE;
-        node.form = form;
-        node.first = first;
-        node.end = end;
-        let pushed = self.nodes.push_fallibly(node);
+        let pushed = self.nodes.push_fallibly(Node {
+            form,
+            first,
+            end,
+            child: NOWHERE,
+            last: NOWHERE,
+            next: NOWHERE,
+            from: 0,
+            until: 0,
+            head: NO_HEAD,
+            must: false,
+        });
         self.check(pushed);
         index
     }
