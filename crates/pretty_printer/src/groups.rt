@@ -212,14 +212,19 @@ impl Lines {
     fn is_item(&self, part: &Node) -> bool {
         let first = self.tree.atom(part.first);
         let last = self.tree.previous(part.end);
-        let statement = first.is_word(Word::Let)
-            || first.is_word(Word::If)
-            || first.is_word(Word::For)
-            || first.is_word(Word::While)
-            || first.is_word(Word::Loop)
-            || first.is_word(Word::Match)
-            || first.is_word(Word::Return)
-            || first.is_word(Word::Break);
+        let statement = matches!(
+            first.kind,
+            Kind::Word(
+                Word::Let
+                    | Word::If
+                    | Word::For
+                    | Word::While
+                    | Word::Loop
+                    | Word::Match
+                    | Word::Return
+                    | Word::Break
+            )
+        );
         first.is_keyword() && !statement && (last.is_mark(';') || last.is_brace())
     }
 }

@@ -110,12 +110,8 @@ impl Lines {
     // The bounds of an item. After parameters a line each, with nothing after them, they go on there.
     fn next_bounds(&mut self, task: Task, own: &Node, child: &Node) {
         let lone = !child.must && self.fit(child.first, own.end, 1) && task.step == Step::Next;
-        if lone || task.step == Step::Broken && self.is_shut {
-            self.write(own, task.at, child.first);
-            self.lead(own, child.first);
-        } else {
-            self.line(child.first, task.indent);
-        }
+        let tight = task.step == Step::Broken && self.is_shut;
+        self.reach(task, own, child, !lone && !tight);
         if lone {
             self.leave(Step::Next, task, child);
             return self.put(child.first, child.end);
@@ -136,12 +132,9 @@ impl Lines {
 
     // The body of an item. After bounds, and after a head of several lines, an empty one is two lines.
     fn next_body(&mut self, task: Task, own: &Node, child: &Node) {
-        self.write(own, task.at, child.first);
-        if task.step == Step::Apart || self.column.saturating_add(2) > WIDTH {
-            self.line(child.first, task.indent);
-        } else {
-            self.lead(own, child.first);
-        }
+        let width = self.rest(task.at, child.first).saturating_add(2);
+        let full = self.column.saturating_add(width) > WIDTH;
+        self.reach(task, own, child, task.step == Step::Apart || full);
         self.leave(Step::Next, task, child);
         if task.step != Step::Next && !self.tree.atom(child.first).is_full() {
             self.column = self.column.saturating_add(1);

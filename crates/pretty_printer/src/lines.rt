@@ -173,8 +173,7 @@ impl Lines {
 
     // The next child of a node whose atoms are on one line.
     fn next_plain(&mut self, task: Task, own: &Node, child: &Node) {
-        self.write(own, task.at, child.first);
-        self.lead(own, child.first);
+        self.reach(task, own, child, false);
         let tail = self.tail_of(task, own, child);
         self.leave(Step::Next, task, child);
         self.lay(task.child, task.indent, tail);
@@ -231,6 +230,16 @@ impl Lines {
     pub fn lead(&mut self, own: &Node, index: usize) {
         if index > own.first && self.tree.atom(index).is_spaced() {
             self.column = self.column.saturating_add(1);
+        }
+    }
+
+    /// Writes all of a node before one of its children, with the space before that, or with a line at this column.
+    pub fn reach(&mut self, task: Task, own: &Node, child: &Node, line: bool) {
+        self.write(own, task.at, child.first);
+        if line {
+            self.line(child.first, task.indent);
+        } else {
+            self.lead(own, child.first);
         }
     }
 

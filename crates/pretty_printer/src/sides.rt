@@ -69,10 +69,9 @@ impl Lines {
 
     /// The next of what an `if`, a `match` or a loop asks, or its next block.
     pub fn next_of_control(&mut self, task: Task, own: &Node, child: &Node) {
-        self.write(own, task.at, child.first);
         let brace = *self.tree.atom(child.first);
         if !(child.form == Form::Group && brace.is_brace()) {
-            self.lead(own, child.first);
+            self.reach(task, own, child, false);
             let step = if self.fits(child, 2) {
                 Step::Next
             } else {
@@ -81,11 +80,8 @@ impl Lines {
             self.leave(step, task, child);
             return self.lay(task.child, task.indent, 0);
         }
-        if task.step == Step::Broken && !self.is_shut {
-            self.line(child.first, task.indent);
-        } else {
-            self.lead(own, child.first);
-        }
+        let line = task.step == Step::Broken && !self.is_shut;
+        self.reach(task, own, child, line);
         self.leave(Step::Next, task, child);
         if !brace.is_full() && child.next != NOWHERE {
             self.column = self.column.saturating_add(1);
@@ -147,14 +143,9 @@ impl Lines {
         if self.tree.previous(child.first).is_word(Word::If) {
             return self.next_guard(task, own, child);
         }
-        self.write(own, task.at, child.first);
         let brace = self.tree.atom(child.first);
         let block = child.form == Form::Group && brace.is_brace() && brace.is_full();
-        if task.step == Step::Apart && block {
-            self.line(child.first, task.indent);
-        } else {
-            self.lead(own, child.first);
-        }
+        self.reach(task, own, child, task.step == Step::Apart && block);
         let tail = self.tail_of(task, own, child);
         self.leave(Step::Next, task, child);
         self.lay(task.child, task.indent, tail);
