@@ -98,8 +98,7 @@ macro_rules! floats {
                 return Literal::tenths(tenths);
             }
             let text = f.to_string();
-            let whole = !text.bytes().any(|byte| byte == b'.');
-            Literal::made(&if whole { text + ".0" } else { text })
+            Literal::made(&if text.contains('.') { text } else { text + ".0" })
         }
     )*};
 }

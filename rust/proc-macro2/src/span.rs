@@ -48,11 +48,7 @@ impl Span {
     }
 
     fn site(compiler: impl FnOnce() -> proc_macro::Span) -> Span {
-        if compiler::inside() {
-            Span::compiler(compiler())
-        } else {
-            Span::own(Place::call_site())
-        }
+        if compiler::inside() { Span::compiler(compiler()) } else { Span::own(Place::call_site()) }
     }
 
     /// The span of the macro's call. Names with it are resolved there. Outside of macros it is no place.
@@ -210,9 +206,7 @@ impl Span {
     pub fn source_text(&self) -> Option<String> {
         match self.repr {
             Repr::Compiler(span) => span.source_text(),
-            Repr::Own(kept) if cfg!(span_locations) => {
-                map::ask(kept.place(), |map| sure(kept.place().source_text(map)))
-            }
+            Repr::Own(own) if cfg!(span_locations) => map::ask(own.place(), |map| sure(own.place().source_text(map))),
             Repr::Own(_) => None,
         }
     }
