@@ -98,7 +98,7 @@ fn what_is_left_is_a_stream(rt: HostRuntime) -> Result<(), Fail> {
     Ok(())
 }
 
-// A text, and what is printed of the trees after its first.
+/// A text, and what is printed of the trees after its first.
 const PRINTED: [(&str, &str); 8] = [
     ("a+=(b)", "+= (b)"),
     ("a {x}{}", "{ x } { }"),
@@ -147,7 +147,7 @@ fn a_long_list_is_printed_without_an_error(rt: HostRuntime) -> Result<(), Fail> 
     Ok(())
 }
 
-// Two texts, and whether their trees are the same but for spans.
+/// Two texts, and whether their trees are the same but for spans.
 const COMPARED: [(&str, &str, bool); 18] = [
     ("a", "  a", true),
     ("", "", true),
@@ -194,7 +194,7 @@ fn cursors_are_equal_up_to_spans(rt: HostRuntime) -> Result<(), Fail> {
     Ok(())
 }
 
-// A text that begins with generic arguments, and what is printed of the trees after them, or `none` where it doesn't.
+/// A text that begins with generic arguments, and what is printed of the trees after them, or `none` where it doesn't.
 const TURBOFISHES: [(&str, &str); 7] = [
     ("::<Vec<T>>(x)", "(x)"),
     ("::<fn() -> T, 'a> = 1", "= 1"),

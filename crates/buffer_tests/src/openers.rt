@@ -3,14 +3,14 @@ use explain::{ExplainError, Explained, explain};
 use std::alloc::{AllocError, Global};
 use std::process::Abort;
 
-// Asserts that the text doesn't parse, and that these bytes are the openers that no closer matches up to its fault, the
-// innermost last.
+/// Asserts that the text doesn't parse, and that these bytes are the openers that no closer matches before the error,
+/// the innermost last.
 fn check(rt: &(impl Abort + AllocGlobal), text: &str, want: &str) {
     let found = openers(rt.alloc(), text).expect(rt, text);
     assert_eq!(rt; found.as_str(), want, "of {text:?}");
 }
 
-// The bytes of the openers of the text.
+/// The bytes of the openers of the text.
 fn openers(alloc: Global, text: &str) -> Result<String, ExplainError> {
     match explain(alloc, text)? {
         Some(explained) => Ok(shown(alloc, &explained)?),
@@ -18,7 +18,7 @@ fn openers(alloc: Global, text: &str) -> Result<String, ExplainError> {
     }
 }
 
-// The bytes of the openers that are told, the innermost last.
+/// The bytes of the openers that are told, the innermost last.
 fn shown(alloc: Global, explained: &Explained) -> Result<String, AllocError> {
     let mut shown = String::from_str(alloc, "")?;
     for opener in explained.outer.iter() {

@@ -38,7 +38,7 @@ pub fn content_answer<'a>(
     Ok(Some(Answer { kind: call, said }))
 }
 
-// The kind of literal that a word names.
+/// The kind of literal that a word names.
 fn mode(name: &str) -> Option<Mode> {
     match name {
         "Char" => Some(Mode::Char),
@@ -53,7 +53,7 @@ fn mode(name: &str) -> Option<Mode> {
     }
 }
 
-// All items that an iterator of the escaper gives.
+/// All items that an iterator of the escaper gives.
 fn items<U: Unit, I: Iterator<Item = (Range<usize>, Result<U, EscapeError>)> + Drop>(
     alloc: Global,
     items: I,
@@ -68,7 +68,7 @@ fn items<U: Unit, I: Iterator<Item = (Range<usize>, Result<U, EscapeError>)> + D
     Ok(said)
 }
 
-// All errors of a content of this kind, by the range of each.
+/// All errors of a content of this kind, by the range of each.
 fn errors(alloc: Global, content: &str, mode: Mode) -> Result<String, AllocError> {
     let mut said = String::new(alloc);
     for (range, error) in check_for_errors(content, mode) {
@@ -77,7 +77,7 @@ fn errors(alloc: Global, content: &str, mode: Mode) -> Result<String, AllocError
     Ok(said)
 }
 
-// A unit, or the name of what is wrong.
+/// A unit, or the name of what is wrong.
 fn unit_text<U: Unit>(alloc: Global, unit: Result<U, EscapeError>) -> Result<String, AllocError> {
     match unit {
         Ok(unit) => unit.text(alloc),

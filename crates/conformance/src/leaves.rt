@@ -22,7 +22,7 @@ pub fn leaf(alloc: Global, line: &str) -> Result<Option<TokenTree>, ParseError> 
     })
 }
 
-// The identifier, unless the name has a fault.
+/// The identifier, unless the name has a fault.
 fn identifier(ident: Result<Ident, IdentError>) -> Result<Option<TokenTree>, AllocError> {
     match ident {
         Ok(ident) => Ok(Some(TokenTree::Ident(ident))),
@@ -31,7 +31,7 @@ fn identifier(ident: Result<Ident, IdentError>) -> Result<Option<TokenTree>, All
     }
 }
 
-// The mark that is the only character of the text.
+/// The mark that is the only character of the text.
 fn mark(text: &str, spacing: Spacing) -> Option<TokenTree> {
     let mut chars = text.chars();
     let (Some(mark), None) = (chars.next(), chars.next()) else {
@@ -43,7 +43,7 @@ fn mark(text: &str, spacing: Spacing) -> Option<TokenTree> {
     Some(TokenTree::Punct(Punct::new(mark, spacing)))
 }
 
-// The literal that the text is.
+/// The literal that the text is.
 fn literal(alloc: Global, text: &str) -> Result<Option<TokenTree>, ParseError> {
     match Literal::from_str(text, &mut SourceMap::new(alloc)) {
         Ok(literal) => Ok(Some(TokenTree::Literal(literal))),
@@ -52,7 +52,7 @@ fn literal(alloc: Global, text: &str) -> Result<Option<TokenTree>, ParseError> {
     }
 }
 
-// What the constructor of the suffix makes of the number before it.
+/// What the constructor of the suffix makes of the number before it.
 fn integer(alloc: Global, text: &str) -> Result<Option<TokenTree>, AllocError> {
     let (number, suffix) = match text.find('i') {
         Some(at) => text.split_at(at),

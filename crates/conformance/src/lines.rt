@@ -51,8 +51,8 @@ pub fn compare_lines<R: BufRead + Drop, W: Write>(
     Ok(tally)
 }
 
-// What is reported of a line that wants another answer than the library's, or that is no recorded
-// answer; `None` where the two answers are the same.
+/// What is reported of a line that wants another answer than the library's, or that is no recorded
+/// answer; `None` where the two answers are the same.
 fn difference(alloc: Global, line: &str) -> Result<Option<String>, AllocError>
     ensures { IfOk result (λ reported. IfSome reported (λ report.
         IsReport line.now (string_bytes report))) }

@@ -60,8 +60,8 @@ struct Open {
     before: Vec<TokenTree>,
 }
 
-// The trees that the lines of the text note; `None` where a line notes none, or where groups aren't
-// closed in the order in which they were opened.
+/// The trees that the lines of the text note; `None` where a line notes none, or where groups aren't
+/// closed in the order in which they were opened.
 fn noted_trees(alloc: Global, text: &str) -> Result<Option<Vec<TokenTree>>, ParseError> {
     let mut open_groups = Vec::new(alloc);
     let mut trees = Vec::new(alloc);
@@ -96,7 +96,7 @@ fn noted_trees(alloc: Global, text: &str) -> Result<Option<Vec<TokenTree>>, Pars
     })
 }
 
-// What the group stands between that the line opens.
+/// What the group stands between that the line opens.
 fn opened(line: &str) -> Option<Delimiter> {
     match line {
         "(" => Some(Delimiter::Parenthesis),
@@ -107,7 +107,7 @@ fn opened(line: &str) -> Option<Delimiter> {
     }
 }
 
-// What the group stands between that the line closes.
+/// What the group stands between that the line closes.
 fn closed(line: &str) -> Option<Delimiter> {
     match line {
         ")" => Some(Delimiter::Parenthesis),

@@ -30,7 +30,7 @@ pub fn literal_answer<'a>(
     Ok(Answer { kind, said })
 }
 
-// The bytes of a value in hex, or the name of the error, unless memory ran out.
+/// The bytes of a value in hex, or the name of the error, unless memory ran out.
 fn hex(alloc: Global, value: Result<Vec<u8>, ConversionErrorKind>) -> Result<String, AllocError> {
     match value {
         Ok(bytes) => hex::encode(alloc, bytes.as_slice()),

@@ -37,20 +37,20 @@ fn main(rt: HostRuntime) -> ExitCode {
     }
 }
 
-// The path that the words after the program's name ask for.
+/// The path that the words after the program's name ask for.
 fn asked(rt: &HostRuntime) -> Result<String, Failure> {
     let words = words(rt.alloc(), env::args(rt), USAGE)?;
     path(rt.alloc(), words.as_slice(), USAGE)
 }
 
-// Compares with the answers in the file at the path.
+/// Compares with the answers in the file at the path.
 fn run_on(rt: &HostRuntime, path: &str) -> Result<ExitCode, Failure> {
     let text = read_text(rt, path)?;
     let mut writer = BufWriter::new(rt.alloc(), rt.stdout())?;
     Ok(run(rt.alloc(), text.as_bytes(), &mut writer)?)
 }
 
-// Compares with the answers on the reader's lines, and writes what differs, and then both numbers.
+/// Compares with the answers on the reader's lines, and writes what differs, and then both numbers.
 fn run<R: BufRead + Drop, W: Write>(
     alloc: Global,
     reader: R,

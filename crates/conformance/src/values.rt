@@ -24,8 +24,8 @@ pub fn value_answer<'a>(
     }
 }
 
-// The literal that this call makes of the text, of its first character, of its first byte, or of
-// its bytes; `None` where the text has no such character or byte, and for a C string with NUL.
+/// The literal that this call makes of the text, of its first character, of its first byte, or of
+/// its bytes; `None` where the text has no such character or byte, and for a C string with NUL.
 fn literal_of(alloc: Global, call: &str, value: &str) -> Result<Option<Literal>, AllocError> {
     let bytes = value.as_bytes();
     Ok(match call {
@@ -44,7 +44,7 @@ fn literal_of(alloc: Global, call: &str, value: &str) -> Result<Option<Literal>,
     })
 }
 
-// Whether no byte is zero.
+/// Whether no byte is zero.
 fn has_no_zero(bytes: &[u8]) -> bool
     ensures { result ≡ has_no_zero bytes.now }
 {

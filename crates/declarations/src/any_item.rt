@@ -93,7 +93,7 @@ pub fn split_any_item<'a>(trees: &'a [TokenTree]) -> Result<(AnyItem<'a>, &'a [T
     Ok((item, split.rest))
 }
 
-// The identifier that is the first of the trees.
+/// The identifier that is the first of the trees.
 fn first_name<'a>(trees: &'a [TokenTree]) -> Option<&'a Ident>
     ensures { MatchOption result (first_name trees.now ≡ None) (λ ident. first_name trees.now ≡ Some ident.now) }
 {

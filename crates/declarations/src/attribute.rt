@@ -98,7 +98,7 @@ pub fn split_attribute(trees: &[TokenTree]) -> Option<(Attribute<'_>, &[TokenTre
     }
 }
 
-// The same, where an inner attribute alone may stand: these trees follow the first mark.
+/// The same, where an inner attribute alone may stand: these trees follow the first mark.
 fn split_inner<'a>(
     trees: &'a [TokenTree],
     hash: &Punct,
@@ -120,7 +120,7 @@ fn split_inner<'a>(
     }
 }
 
-// The mark that the trees begin with, and the trees after it.
+/// The mark that the trees begin with, and the trees after it.
 fn split_mark(trees: &[TokenTree]) -> Option<(&Punct, &[TokenTree])>
     ensures found { IfSome result (λ found. trees.now ≡ trees_are.Punct found.0.now ∷ found.1.now) }
     ensures none { IfNone result ((mark : Mark) → (rest : List Tree) → trees.now ≡ trees_are.Punct mark ∷ rest → ⊥) }
@@ -198,7 +198,7 @@ impl<'a> Attribute<'a> {
     }
 }
 
-// How many trees a path at the front has.
+/// How many trees a path at the front has.
 fn path_len(trees: &[TokenTree]) -> usize
     ensures { result ≡ prefix_len goes_on trees.now }
 {
@@ -212,7 +212,7 @@ fn path_len(trees: &[TokenTree]) -> usize
     trees.len()
 }
 
-// Whether a path may go on with the tree.
+/// Whether a path may go on with the tree.
 fn goes_on(tree: &TokenTree) -> bool
     ensures { result ≡ goes_on tree.now }
 {
@@ -232,7 +232,7 @@ pub(crate) fn has_no_delimiters(delimiter: Delimiter) -> bool
     }
 }
 
-// The arguments that these trees after a path are.
+/// The arguments that these trees after a path are.
 fn args_of(rest: &[TokenTree]) -> AttributeArgs<'_>
     requires { prefix_len goes_on rest.now ≡ 0 }
     ensures { AreArgs rest.now result }

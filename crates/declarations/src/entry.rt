@@ -109,7 +109,7 @@ impl<'a> Entry<'a> {
     }
 }
 
-// The span of the first of the trees.
+/// The span of the first of the trees.
 fn first_span(trees: &[TokenTree]) -> Option<Span>
     ensures { result ≡ first_extent trees.now }
 {
@@ -119,7 +119,7 @@ fn first_span(trees: &[TokenTree]) -> Option<Span>
     }
 }
 
-// The entry that all of these trees are.
+/// The entry that all of these trees are.
 pub(crate) fn whole_entry(trees: &[TokenTree]) -> Result<Entry<'_>, Fault>
     ensures ok { IfOk result (λ entry. IsEntryAt trees.now entry []) }
     ensures err { IfErr result (λ fault. IsEntryFault trees.now fault) }
@@ -147,7 +147,7 @@ fn is_segment(class: Class) -> bool
     }
 }
 
-// Past a segment of a path.
+/// Past a segment of a path.
 #[tactic(auto, using(crate::proofs::ReaderLemmas::steps))]
 fn segment(trees: &[TokenTree]) -> Result<&[TokenTree], &[TokenTree]>
     ensures { ReadsRule (Sign is_entry_segment) trees.now result }
@@ -164,7 +164,7 @@ fn segment(trees: &[TokenTree]) -> Result<&[TokenTree], &[TokenTree]>
     }
 }
 
-// Past a `::`, or nothing.
+/// Past a `::`, or nothing.
 #[tactic(auto, using(crate::proofs::ReaderLemmas::steps))]
 fn separator(trees: &[TokenTree]) -> Result<&[TokenTree], &[TokenTree]>
     ensures { ReadsRule (perhaps (one signs.PathSeparator)) trees.now result }
@@ -176,7 +176,7 @@ fn separator(trees: &[TokenTree]) -> Result<&[TokenTree], &[TokenTree]>
     }
 }
 
-// Past `::` and a segment.
+/// Past `::` and a segment.
 #[tactic(auto, using(crate::proofs::ReaderLemmas::steps))]
 fn next_segment(trees: &[TokenTree]) -> Result<&[TokenTree], &[TokenTree]>
     ensures { ReadsRule next_segment trees.now result }
@@ -184,7 +184,7 @@ fn next_segment(trees: &[TokenTree]) -> Result<&[TokenTree], &[TokenTree]>
     segment(past(trees, Class::PathSeparator)?)
 }
 
-// Past more segments.
+/// Past more segments.
 fn more_segments(trees: &[TokenTree]) -> Result<&[TokenTree], &[TokenTree]>
     ensures { ReadsRule more_segments trees.now result }
 {
@@ -198,7 +198,7 @@ fn more_segments(trees: &[TokenTree]) -> Result<&[TokenTree], &[TokenTree]>
     Ok(left)
 }
 
-// Past a segment, and more of them.
+/// Past a segment, and more of them.
 #[tactic(auto, using(crate::proofs::ReaderLemmas::steps))]
 fn segments(trees: &[TokenTree]) -> Result<&[TokenTree], &[TokenTree]>
     ensures { ReadsRule segments trees.now result }
@@ -206,7 +206,7 @@ fn segments(trees: &[TokenTree]) -> Result<&[TokenTree], &[TokenTree]>
     more_segments(segment(trees)?)
 }
 
-// Past the path of an entry.
+/// Past the path of an entry.
 #[tactic(auto, using(crate::proofs::ReaderLemmas::steps))]
 fn entry_path(trees: &[TokenTree]) -> Result<&[TokenTree], &[TokenTree]>
     ensures { ReadsRule entry_path trees.now result }
@@ -223,7 +223,7 @@ fn is_literal(class: Class) -> bool
     }
 }
 
-// Past a literal without a sign.
+/// Past a literal without a sign.
 #[tactic(auto, using(crate::proofs::ReaderLemmas::steps))]
 fn plain_literal(trees: &[TokenTree]) -> Result<&[TokenTree], &[TokenTree]>
     ensures { ReadsRule (Sign is_literal) trees.now result }
@@ -240,7 +240,7 @@ fn plain_literal(trees: &[TokenTree]) -> Result<&[TokenTree], &[TokenTree]>
     }
 }
 
-// Past a literal.
+/// Past a literal.
 #[tactic(auto, using(crate::proofs::ReaderLemmas::steps))]
 fn literal(trees: &[TokenTree]) -> Result<&[TokenTree], &[TokenTree]>
     ensures { ReadsRule entry_literal trees.now result }
@@ -252,7 +252,7 @@ fn literal(trees: &[TokenTree]) -> Result<&[TokenTree], &[TokenTree]>
     }
 }
 
-// Past an expression.
+/// Past an expression.
 #[tactic(auto, using(crate::proofs::EntryLemmas::expression_reads))]
 fn past_expression(trees: &[TokenTree]) -> Result<&[TokenTree], &[TokenTree]>
     ensures { ReadsRule expression trees.now result }
@@ -266,7 +266,7 @@ fn past_expression(trees: &[TokenTree]) -> Result<&[TokenTree], &[TokenTree]>
     walk_past(trees, start)
 }
 
-// Whether a sign goes on after an operand, but begins no value.
+/// Whether a sign goes on after an operand, but begins no value.
 fn continues(class: Class) -> bool
     ensures { result ≡ continues class }
 {
@@ -276,7 +276,7 @@ fn continues(class: Class) -> bool
     }
 }
 
-// Past the value of an entry.
+/// Past the value of an entry.
 #[tactic(auto, using(crate::proofs::EntryLemmas::values))]
 fn past_value(trees: &[TokenTree]) -> Result<&[TokenTree], &[TokenTree]>
     ensures { ReadsRule entry_value trees.now result }
@@ -293,7 +293,7 @@ fn past_value(trees: &[TokenTree]) -> Result<&[TokenTree], &[TokenTree]>
     }
 }
 
-// The group at the front of the trees that is a list, and the trees after it.
+/// The group at the front of the trees that is a list, and the trees after it.
 #[tactic(auto, using(crate::proofs::EntryLemmas::lists))]
 fn split_list(trees: &[TokenTree]) -> Option<(&Group, &[TokenTree])>
     ensures found { IfSome result (λ found. IsListAt trees.now (trees_are.Group found.0.now) found.1.now) }
@@ -311,7 +311,7 @@ fn split_list(trees: &[TokenTree]) -> Option<(&Group, &[TokenTree])>
     }
 }
 
-// What follows the path of an entry, and the trees after it.
+/// What follows the path of an entry, and the trees after it.
 #[tactic(auto, using(crate::proofs::EntryLemmas::arguments))]
 fn args_of(trees: &[TokenTree]) -> Result<(EntryKind<'_>, &[TokenTree]), &[TokenTree]>
     ensures { MatchResult result (λ found. Finds entry_rest trees.now found.1.now
@@ -323,7 +323,7 @@ fn args_of(trees: &[TokenTree]) -> Result<(EntryKind<'_>, &[TokenTree]), &[Token
     }
 }
 
-// The value of an entry, or nothing, and the trees after it.
+/// The value of an entry, or nothing, and the trees after it.
 #[tactic(auto, using(crate::proofs::EntryLemmas::arguments))]
 fn value_of(trees: &[TokenTree]) -> Result<(EntryKind<'_>, &[TokenTree]), &[TokenTree]>
     requires { heads entry_list (classes_in trees.now) ≡ false }
@@ -345,7 +345,7 @@ fn value_of(trees: &[TokenTree]) -> Result<(EntryKind<'_>, &[TokenTree]), &[Toke
     }
 }
 
-// Whether a literal begins with a sign of this class.
+/// Whether a literal begins with a sign of this class.
 fn begins_literal(class: Class) -> bool
     ensures { result ≡ may_begin literal_entry class }
 {
@@ -355,7 +355,7 @@ fn begins_literal(class: Class) -> bool
     }
 }
 
-// The entry at the front of the trees, and the trees after it; or those from the fault on.
+/// The entry at the front of the trees, and the trees after it; or those from the fault on.
 #[tactic(auto, using(crate::proofs::EntryLemmas::kinds_of))]
 fn entry_of(trees: &[TokenTree]) -> Result<(Entry<'_>, &[TokenTree]), &[TokenTree]>
     ensures { ReadsEntry entry trees.now result }
@@ -372,7 +372,7 @@ fn entry_of(trees: &[TokenTree]) -> Result<(Entry<'_>, &[TokenTree]), &[TokenTre
     }
 }
 
-// The same, where a literal begins.
+/// The same, where a literal begins.
 #[tactic(auto, using(crate::proofs::EntryLemmas::literals))]
 fn literal_of(trees: &[TokenTree]) -> Result<(Entry<'_>, &[TokenTree]), &[TokenTree]>
     ensures { ReadsEntry literal_entry trees.now result }
@@ -392,7 +392,7 @@ fn literal_of(trees: &[TokenTree]) -> Result<(Entry<'_>, &[TokenTree]), &[TokenT
     }
 }
 
-// The same, where no literal begins.
+/// The same, where no literal begins.
 #[tactic(auto, using(crate::proofs::EntryLemmas::paths))]
 fn named_of(trees: &[TokenTree]) -> Result<(Entry<'_>, &[TokenTree]), &[TokenTree]>
     ensures { ReadsEntry named_entry trees.now result }

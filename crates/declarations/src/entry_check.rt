@@ -111,7 +111,7 @@ fn wrong<'a>(
     }
 }
 
-// How many names come before that of the entry; all of them if it has none of these.
+/// How many names come before that of the entry; all of them if it has none of these.
 fn place_of(entry: &Entry<'_>, known: &[&str]) -> usize
     ensures { result ≡ place_of known.now entry.now }
 {
@@ -148,7 +148,7 @@ impl<'a> Eq for EntryError<'a> {
     ghost laws = { Prim.search (comparing, rules) };
 }
 
-// The number of a problem, which differs from that of each other one.
+/// The number of a problem, which differs from that of each other one.
 fn number_of(problem: EntryProblem) -> u8
     ensures { result ≡ number_of problem }
 {
@@ -159,7 +159,7 @@ fn number_of(problem: EntryProblem) -> u8
     }
 }
 
-// Writes a space and the name, or nothing.
+/// Writes a space and the name, or nothing.
 fn write_name<W: fmt::Write>(name: Option<&Ident>, f: &mut fmt::Formatter<W>) -> fmt::Result
     ensures { WritesOnOk W.write_str_gives f.old result (name_part (option_copied name.entry)) f.new }
 {
@@ -173,7 +173,7 @@ fn write_name<W: fmt::Write>(name: Option<&Ident>, f: &mut fmt::Formatter<W>) ->
     }
 }
 
-// Writes the end of the sentence, with the names that are known.
+/// Writes the end of the sentence, with the names that are known.
 fn write_known<W: fmt::Write>(known: &[&str], f: &mut fmt::Formatter<W>) -> fmt::Result
     ensures { WritesOnOk W.write_str_gives f.old result (known_part known.now) f.new }
 {
@@ -187,7 +187,7 @@ fn write_known<W: fmt::Write>(known: &[&str], f: &mut fmt::Formatter<W>) -> fmt:
     }
 }
 
-// Writes more names that are known.
+/// Writes more names that are known.
 fn write_more<W: fmt::Write>(words: &[&str], f: &mut fmt::Formatter<W>) -> fmt::Result
     ensures { WritesOnOk W.write_str_gives f.old result (more_known words.now) f.new }
 {
@@ -197,7 +197,7 @@ fn write_more<W: fmt::Write>(words: &[&str], f: &mut fmt::Formatter<W>) -> fmt::
     Ok(())
 }
 
-// Writes one more name.
+/// Writes one more name.
 fn write_next<W: fmt::Write>(word: &str, f: &mut fmt::Formatter<W>) -> fmt::Result
     ensures { WritesOnOk W.write_str_gives f.old result (next_known word.now) f.new }
 {
@@ -205,7 +205,7 @@ fn write_next<W: fmt::Write>(word: &str, f: &mut fmt::Formatter<W>) -> fmt::Resu
     write_quoted(word, f)
 }
 
-// Writes a name, as it stands in a sentence.
+/// Writes a name, as it stands in a sentence.
 fn write_quoted<W: fmt::Write>(word: &str, f: &mut fmt::Formatter<W>) -> fmt::Result
     ensures { WritesOnOk W.write_str_gives f.old result (quoted word.now) f.new }
 {

@@ -67,7 +67,7 @@ impl<'a> Iterator for Entries<'a> {
     }
 }
 
-// The first entry of a list, and the trees after its comma.
+/// The first entry of a list, and the trees after its comma.
 pub(crate) fn first_entry(trees: &[TokenTree]) -> Result<(Entry<'_>, &[TokenTree]), Fault>
     ensures given { MatchResult result (λ found. IsFirst IsEntryAt trees.now found.0 found.1.now)
         (λ fault. IsListFault (ByRule entry) trees.now fault) }

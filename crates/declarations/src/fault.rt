@@ -19,7 +19,7 @@ pub struct Fault {
 }
 
 impl Fault {
-    // The fault after so many trees, before those that are left.
+    /// The fault after so many trees, before those that are left.
     pub(crate) fn ahead_of(at: usize, left: &[TokenTree]) -> Fault
         ensures at { result.at ≡ at }
         ensures span { result.span ≡ first_extent left.now }
@@ -61,7 +61,7 @@ impl Eq for Fault {
     ghost laws = { Prim.search (comparing, rules) };
 }
 
-// Whether both are the same span, or none.
+/// Whether both are the same span, or none.
 pub(crate) fn are_same(span: Option<Span>, other: Option<Span>) -> bool
     ensures { result ≡ option_eq extent_eq span other }
 {

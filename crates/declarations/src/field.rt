@@ -56,7 +56,7 @@ pub fn parse_tuple_field(trees: &[TokenTree]) -> Result<(Field<'_>, &[TokenTree]
     }
 }
 
-// The parts of a named field.
+/// The parts of a named field.
 fn named_field(trees: &[TokenTree]) -> Result<Field<'_>, Fault>
     requires { ReadsAll IsField trees.now }
     ensures { MatchResult result (λ field. HasFieldParts trees.now field) (λ fault. ⊥) }
@@ -75,7 +75,7 @@ fn named_field(trees: &[TokenTree]) -> Result<Field<'_>, Fault>
     }
 }
 
-// The parts of a field without a name.
+/// The parts of a field without a name.
 fn tuple_field(trees: &[TokenTree]) -> Result<Field<'_>, Fault>
     requires { ReadsAll IsTupleField trees.now }
     ensures { MatchResult result (λ field. HasTypeParts trees.now field) (λ fault. ⊥) }

@@ -138,7 +138,7 @@ impl<'a> AnyItem<'a> {
     }
 }
 
-// The group in braces that is the last of the trees.
+/// The group in braces that is the last of the trees.
 fn last_braces(trees: &[TokenTree]) -> Option<&Group>
     ensures { MatchOption result (last_braces trees.now ≡ None) (λ group. last_braces trees.now ≡ Some group.now) }
 {
@@ -148,7 +148,7 @@ fn last_braces(trees: &[TokenTree]) -> Option<&Group>
     }
 }
 
-// The group that the tree is, if it has braces.
+/// The group that the tree is, if it has braces.
 fn braces(tree: &TokenTree) -> Option<&Group>
     ensures { MatchOption result (braces tree.now ≡ None) (λ group. braces tree.now ≡ Some group.now) }
 {

@@ -17,7 +17,7 @@ use crate::place::{
 };
 use crate::types::{Turn, TypeState};
 
-// The rest of a function's front.
+/// The rest of a function's front.
 fn qualified(class: Class) -> Option<Shift>
     ensures { result ≡ qualified class }
 {
@@ -28,7 +28,7 @@ fn qualified(class: Class) -> Option<Shift>
     }
 }
 
-// A keyword that begins an item.
+/// A keyword that begins an item.
 fn item_keyword(keyword: Keyword) -> Option<Shift>
     ensures { result ≡ item_keyword keyword }
 {
@@ -51,7 +51,7 @@ fn item_keyword(keyword: Keyword) -> Option<Shift>
     }
 }
 
-// A word that begins one.
+/// A word that begins one.
 fn item_word(word: Word) -> Option<Shift>
     ensures { result ≡ item_word word }
 {
@@ -64,7 +64,7 @@ fn item_word(word: Word) -> Option<Shift>
     }
 }
 
-// After its visibility.
+/// After its visibility.
 pub(crate) fn declaration(class: Class) -> Option<Shift>
     ensures { result ≡ declaration class }
 {
@@ -75,7 +75,7 @@ pub(crate) fn declaration(class: Class) -> Option<Shift>
     }
 }
 
-// Where it has none: a macro call or a group without delimiters too.
+/// Where it has none: a macro call or a group without delimiters too.
 pub(crate) fn unmarked_item(class: Class) -> Option<Shift>
     ensures { result ≡ unmarked_item class }
 {
@@ -91,7 +91,7 @@ pub(crate) fn unmarked_item(class: Class) -> Option<Shift>
     }
 }
 
-// A struct, an enum or a union.
+/// A struct, an enum or a union.
 pub(crate) fn type_item(class: Class) -> Option<Shift>
     ensures { result ≡ type_item class }
 {
@@ -156,7 +156,7 @@ fn async_front(class: Class) -> Option<Shift>
     }
 }
 
-// After `const`. `safe` may be a name, or belong to a function.
+/// After `const`. `safe` may be a name, or belong to a function.
 fn const_front(class: Class) -> Option<Shift>
     ensures { result ≡ const_front class }
 {
@@ -178,7 +178,7 @@ fn const_safe(class: Class) -> Option<Shift>
     }
 }
 
-// After `extern` and what an ABI it may have.
+/// After `extern` and what an ABI it may have.
 fn extern_abi(class: Class) -> Option<Shift>
     ensures { result ≡ extern_abi class }
 {
@@ -206,7 +206,7 @@ fn extern_front(class: Class) -> Option<Shift>
     }
 }
 
-// After the `extern` of what must be a function.
+/// After the `extern` of what must be a function.
 fn function_extern(class: Class) -> Option<Shift>
     ensures { result ≡ function_extern class }
 {
@@ -242,7 +242,7 @@ fn static_front(class: Class) -> Option<Shift>
     }
 }
 
-// After a word that begins an item: the path of a macro call, or a front.
+/// After a word that begins an item: the path of a macro call, or a front.
 fn call_word(word: Word, class: Class) -> Option<Shift>
     ensures { result ≡ call_word word class }
 {
@@ -269,7 +269,7 @@ fn call_path(class: Class) -> Option<Shift>
     }
 }
 
-// The group of a call.
+/// The group of a call.
 fn call_group(class: Class) -> Option<Shift>
     ensures { result ≡ call_group class }
 {
@@ -283,7 +283,7 @@ fn call_group(class: Class) -> Option<Shift>
     }
 }
 
-// After the `!` of a call: a name, as of `macro_rules!`, or its group.
+/// After the `!` of a call: a name, as of `macro_rules!`, or its group.
 fn call_name(class: Class) -> Option<Shift>
     ensures { result ≡ call_name class }
 {
@@ -302,7 +302,7 @@ fn macro_parameters(class: Class) -> Option<Shift>
     }
 }
 
-// In the brackets of parameters and not of a type.
+/// In the brackets of parameters and not of a type.
 fn impl_angle(class: Class) -> Option<Shift>
     ensures { result ≡ impl_angle class }
 {
@@ -316,7 +316,7 @@ fn impl_angle(class: Class) -> Option<Shift>
     }
 }
 
-// After a word that may be a parameter, or begin a type.
+/// After a word that may be a parameter, or begin a type.
 fn impl_word(class: Class) -> Option<Shift>
     ensures { result ≡ impl_word class }
 {
@@ -339,7 +339,7 @@ fn impl_word(class: Class) -> Option<Shift>
     }
 }
 
-// After `impl`, but for types.
+/// After `impl`, but for types.
 fn impl_front(class: Class) -> Option<Shift>
     ensures { result ≡ impl_front class }
 {
@@ -354,7 +354,7 @@ fn impl_front(class: Class) -> Option<Shift>
     }
 }
 
-// After its `const`, but for types.
+/// After its `const`, but for types.
 fn impl_const(class: Class) -> Option<Shift>
     ensures { result ≡ impl_const class }
 {
@@ -386,7 +386,7 @@ fn use_front(class: Class) -> Option<Shift>
     }
 }
 
-// After a name that `as` may follow.
+/// After a name that `as` may follow.
 fn renamed(item: Item, class: Class) -> Option<Shift>
     ensures { result ≡ renamed item class }
 {
@@ -442,7 +442,7 @@ fn until(item: Item, class: Class) -> Option<Shift>
     }
 }
 
-// What a sign leads to in the front of an item.
+/// What a sign leads to in the front of an item.
 pub(crate) fn front_step(item: Item, front: Front, class: Class) -> Option<Shift>
     ensures { result ≡ front_step item front class }
 {
@@ -488,7 +488,7 @@ pub(crate) fn front_step(item: Item, front: Front, class: Class) -> Option<Shift
     }
 }
 
-// The type that may begin in a front: that of an `impl`.
+/// The type that may begin in a front: that of an `impl`.
 pub(crate) fn front_type(front: Front) -> Option<TypeStart>
     ensures { result ≡ front_type front }
 {
@@ -501,7 +501,7 @@ pub(crate) fn front_type(front: Front) -> Option<TypeStart>
     }
 }
 
-// Whether an item's name is wanted.
+/// Whether an item's name is wanted.
 pub(crate) fn front_names(front: Front) -> bool
     ensures { result ≡ front_names front }
 {

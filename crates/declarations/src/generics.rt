@@ -127,7 +127,7 @@ pub fn parse_predicate(trees: &[TokenTree]) -> Result<(Predicate<'_>, &[TokenTre
     }
 }
 
-// Whether the tree is this mark.
+/// Whether the tree is this mark.
 fn is_mark_of(mark: char, tree: &TokenTree) -> bool
     ensures { result ≡ is_mark_of mark tree.now }
 {

@@ -74,7 +74,7 @@ impl Place {
     }
 }
 
-// Whether an item's name is wanted.
+/// Whether an item's name is wanted.
 fn wants_name(state: State) -> bool
     ensures { result ≡ wants_name state }
 {
@@ -85,7 +85,7 @@ fn wants_name(state: State) -> bool
     }
 }
 
-// What it may be.
+/// What it may be.
 fn is_name(class: Class) -> bool
     ensures { result ≡ is_name class }
 {
@@ -95,7 +95,7 @@ fn is_name(class: Class) -> bool
     }
 }
 
-// A step within a type or bounds.
+/// A step within a type or bounds.
 fn range_step(place: Place, state: TypeState, class: Class) -> Option<Place>
     requires { place.depth + 1 < 2 ^ 64 }
     ensures value { result ≡ range_step place state class }
@@ -139,7 +139,7 @@ fn shifted(depth: usize, shift: Option<Shift>) -> Option<Place>
     })
 }
 
-// Where an expression goes on after its angle brackets.
+/// Where an expression goes on after its angle brackets.
 fn after_angle(rule: Rule, state: TypeState) -> State
     ensures { result ≡ after_angle rule state }
 {
@@ -151,7 +151,7 @@ fn after_angle(rule: Rule, state: TypeState) -> State
     }
 }
 
-// The state after a step within a type, which may close the brackets of an expression.
+/// The state after a step within a type, which may close the brackets of an expression.
 fn range_state(rule: Rule, state: TypeState, turn: Turn, depth: usize) -> State
     ensures { result ≡ range_state rule state turn depth }
 {
@@ -167,7 +167,7 @@ fn range_state(rule: Rule, state: TypeState, turn: Turn, depth: usize) -> State
     }
 }
 
-// After a generic parameter that is whole.
+/// After a generic parameter that is whole.
 fn parameter_end(item: Item, class: Class) -> Option<Shift>
     ensures { result ≡ parameter_end item class }
 {
@@ -178,7 +178,7 @@ fn parameter_end(item: Item, class: Class) -> Option<Shift>
     }
 }
 
-// A generic parameter.
+/// A generic parameter.
 fn parameter(item: Item, class: Class) -> Option<Shift>
     ensures { result ≡ parameter item class }
 {
@@ -190,7 +190,7 @@ fn parameter(item: Item, class: Class) -> Option<Shift>
     }
 }
 
-// After a lifetime that is a parameter.
+/// After a lifetime that is a parameter.
 fn lifetime_name(item: Item, class: Class) -> Option<Shift>
     ensures { result ≡ lifetime_name item class }
 {
@@ -200,7 +200,7 @@ fn lifetime_name(item: Item, class: Class) -> Option<Shift>
     }
 }
 
-// After the name of a parameter that is a type.
+/// After the name of a parameter that is a type.
 fn type_name(item: Item, class: Class) -> Option<Shift>
     ensures { result ≡ type_name item class }
 {
@@ -211,7 +211,7 @@ fn type_name(item: Item, class: Class) -> Option<Shift>
     }
 }
 
-// The default of a constant, but for types.
+/// The default of a constant, but for types.
 fn const_default(item: Item, class: Class) -> Option<Shift>
     ensures { result ≡ const_default item class }
 {
@@ -222,7 +222,7 @@ fn const_default(item: Item, class: Class) -> Option<Shift>
     }
 }
 
-// What a part begins with, after its attributes and visibility.
+/// What a part begins with, after its attributes and visibility.
 fn begin(part: Part, item: Item, rule: Rule, class: Class) -> Option<Shift>
     ensures { result ≡ begin part item rule class }
 {
@@ -236,7 +236,7 @@ fn begin(part: Part, item: Item, rule: Rule, class: Class) -> Option<Shift>
     }
 }
 
-// The same where no visibility stands before it.
+/// The same where no visibility stands before it.
 fn unmarked(part: Part, item: Item, rule: Rule, class: Class) -> Option<Shift>
     ensures { result ≡ unmarked part item rule class }
 {
@@ -255,7 +255,7 @@ fn has_visibility(part: Part) -> bool
     }
 }
 
-// After the attributes of a part.
+/// After the attributes of a part.
 fn attributed(part: Part, item: Item, rule: Rule, class: Class) -> Option<Shift>
     ensures { result ≡ attributed part item rule class }
 {
@@ -278,7 +278,7 @@ fn has_attributes(part: Part) -> bool
     }
 }
 
-// Before another attribute of a part, or what follows them.
+/// Before another attribute of a part, or what follows them.
 fn before(part: Part, item: Item, rule: Rule, class: Class) -> Option<Shift>
     ensures { result ≡ before part item rule class }
 {
@@ -289,7 +289,7 @@ fn before(part: Part, item: Item, rule: Rule, class: Class) -> Option<Shift>
     }
 }
 
-// Before a part. Generic parameters may end there.
+/// Before a part. Generic parameters may end there.
 fn before_first(part: Part, item: Item, rule: Rule, class: Class) -> Option<Shift>
     ensures { result ≡ before_first part item rule class }
 {
@@ -299,7 +299,7 @@ fn before_first(part: Part, item: Item, rule: Rule, class: Class) -> Option<Shif
     }
 }
 
-// After the `pub` of a part.
+/// After the `pub` of a part.
 fn public(part: Part, item: Item, rule: Rule, class: Class) -> Option<Shift>
     ensures { result ≡ public part item rule class }
 {
@@ -309,7 +309,7 @@ fn public(part: Part, item: Item, rule: Rule, class: Class) -> Option<Shift>
     }
 }
 
-// Before the discriminant of a variant.
+/// Before the discriminant of a variant.
 fn variant_value(item: Item, class: Class) -> Option<Shift>
     ensures { result ≡ variant_value item class }
 {
@@ -319,7 +319,7 @@ fn variant_value(item: Item, class: Class) -> Option<Shift>
     }
 }
 
-// After the name of a variant.
+/// After the name of a variant.
 fn variant_body(item: Item, rule: Rule, class: Class) -> Option<Shift>
     ensures { result ≡ variant_body item rule class }
 {
@@ -331,7 +331,7 @@ fn variant_body(item: Item, rule: Rule, class: Class) -> Option<Shift>
     }
 }
 
-// What may follow a type or bounds.
+/// What may follow a type or bounds.
 fn follow(item: Item, rule: Rule, class: Class) -> Option<Shift>
     ensures { result ≡ follow item rule class }
 {
@@ -353,7 +353,7 @@ fn follow(item: Item, rule: Rule, class: Class) -> Option<Shift>
     }
 }
 
-// What a sign leads to at a spot.
+/// What a sign leads to at a spot.
 fn spot_step(item: Item, rule: Rule, spot: Spot, class: Class) -> Option<Shift>
     ensures { result ≡ spot_step item rule spot class }
 {
@@ -395,7 +395,7 @@ fn spot_step(item: Item, rule: Rule, spot: Spot, class: Class) -> Option<Shift>
     }
 }
 
-// After the generic parameters of an `impl` a type begins.
+/// After the generic parameters of an `impl` a type begins.
 fn closing_type(item: Item) -> Option<TypeStart>
     ensures { result ≡ closing_type item }
 {
@@ -405,7 +405,7 @@ fn closing_type(item: Item) -> Option<TypeStart>
     }
 }
 
-// The type that may begin at a spot.
+/// The type that may begin at a spot.
 fn spot_type(item: Item, rule: Rule, spot: Spot) -> Option<TypeStart>
     ensures { result ≡ spot_type item rule spot }
 {
@@ -422,7 +422,7 @@ fn spot_type(item: Item, rule: Rule, spot: Spot) -> Option<TypeStart>
     }
 }
 
-// Whether what is read may end after a type or bounds.
+/// Whether what is read may end after a type or bounds.
 fn rule_ends(item: Item, rule: Rule) -> bool
     ensures { result ≡ rule_ends item rule }
 {
@@ -434,7 +434,7 @@ fn rule_ends(item: Item, rule: Rule) -> bool
     }
 }
 
-// Whether attributes and a visibility are all of it.
+/// Whether attributes and a visibility are all of it.
 fn is_front(part: Part) -> bool
     ensures { result ≡ is_front part }
 {
@@ -444,7 +444,7 @@ fn is_front(part: Part) -> bool
     }
 }
 
-// Whether what is read may end before a part: a list may.
+/// Whether what is read may end before a part: a list may.
 fn part_ends(item: Item, rule: Rule, part: Part) -> bool
     ensures { result ≡ part_ends item rule part }
 {

@@ -95,7 +95,7 @@ pub fn parse_type_item(trees: &[TokenTree]) -> Result<TypeItem<'_>, Fault>
     }
 }
 
-// The parts of an item.
+/// The parts of an item.
 fn item_of(trees: &[TokenTree]) -> Result<TypeItem<'_>, Fault>
     requires { ReadsAll IsItem trees.now }
     ensures { MatchResult result (λ item. IsTypeItem trees.now item) (λ fault. ⊥) }
@@ -118,7 +118,7 @@ fn item_of(trees: &[TokenTree]) -> Result<TypeItem<'_>, Fault>
     })
 }
 
-// What follows the generic parameters.
+/// What follows the generic parameters.
 #[derive(Clone, Copy)]
 struct Ending<'a> {
     where_clause: &'a [TokenTree],
@@ -170,7 +170,7 @@ fn struct_ending(trees: &[TokenTree]) -> Result<Ending<'_>, Fault>
     }
 }
 
-// The same, where no fields in parentheses stand.
+/// The same, where no fields in parentheses stand.
 fn plain_ending(trees: &[TokenTree]) -> Result<Ending<'_>, Fault>
     requires left { ReadsAll (IsFrom (behind_generics items.Struct)) trees.now }
     requires plain { (group : Grouped) → (rest : List Tree) → trees.now ≡ trees_are.Group group ∷ rest
@@ -193,7 +193,7 @@ fn plain_ending(trees: &[TokenTree]) -> Result<Ending<'_>, Fault>
     }
 }
 
-// A where clause and the braces after it.
+/// A where clause and the braces after it.
 fn braces_of(trees: &[TokenTree]) -> Result<(&[TokenTree], &Group, &[TokenTree]), Fault>
     requires { AreBracesLeft trees.now }
     ensures { MatchResult result (λ found. HasBraces trees.now found.0.now found.1.now found.2.now) (λ fault. ⊥) }
@@ -205,7 +205,7 @@ fn braces_of(trees: &[TokenTree]) -> Result<(&[TokenTree], &Group, &[TokenTree])
     }
 }
 
-// The identifier that the trees begin with, and the trees after it.
+/// The identifier that the trees begin with, and the trees after it.
 pub(crate) fn split_name(trees: &[TokenTree]) -> Result<(&Ident, &[TokenTree]), Fault>
     ensures found { IfOk result (λ found. trees.now ≡ trees_are.Ident found.0.now ∷ found.1.now) }
     ensures fault { IfErr result (λ fault. (name : Name) → (rest : List Tree)
@@ -217,7 +217,7 @@ pub(crate) fn split_name(trees: &[TokenTree]) -> Result<(&Ident, &[TokenTree]), 
     }
 }
 
-// The group that the trees begin with, and the trees after it.
+/// The group that the trees begin with, and the trees after it.
 pub(crate) fn split_group(trees: &[TokenTree]) -> Option<(&Group, &[TokenTree])>
     ensures found { IfSome result (λ found. trees.now ≡ trees_are.Group found.0.now ∷ found.1.now) }
     ensures none { IfNone result ((group : Grouped) → (rest : List Tree)
@@ -229,7 +229,7 @@ pub(crate) fn split_group(trees: &[TokenTree]) -> Option<(&Group, &[TokenTree])>
     }
 }
 
-// The same, if it has parentheses.
+/// The same, if it has parentheses.
 pub(crate) fn split_parentheses(trees: &[TokenTree]) -> Option<(&Group, &[TokenTree])>
     ensures found { IfSome result (λ found. (trees.now ≡ trees_are.Group found.0.now ∷ found.1.now)
         × (found.0.now.delimiter ≡ Delimiter.Parenthesis)) }

@@ -142,7 +142,7 @@ impl<'a> Iterator for VariantList<'a> {
     }
 }
 
-// The first field of a list, and the trees after its comma.
+/// The first field of a list, and the trees after its comma.
 fn first_field(named: bool, trees: &[TokenTree]) -> Result<(Field<'_>, &[TokenTree]), Fault>
     ensures given { MatchResult result (λ found. IsFirst (IsFieldOf named) trees.now found.0 found.1.now)
         (λ fault. IsListFault (field_form named) trees.now fault) }
@@ -157,7 +157,7 @@ fn first_field(named: bool, trees: &[TokenTree]) -> Result<(Field<'_>, &[TokenTr
     }
 }
 
-// The field at the front of the trees, with a name or without, and the trees after it.
+/// The field at the front of the trees, with a name or without, and the trees after it.
 fn field_at(named: bool, trees: &[TokenTree]) -> Result<(Field<'_>, &[TokenTree]), Fault>
     ensures ok { IfOk result (λ found. IsFieldOf named trees.now found.0 found.1.now) }
     ensures fault { IfErr result (λ fault. FaultAt (field_form named) trees.now fault.at) }
@@ -170,7 +170,7 @@ fn field_at(named: bool, trees: &[TokenTree]) -> Result<(Field<'_>, &[TokenTree]
     }
 }
 
-// The first variant of a list, and the trees after its comma.
+/// The first variant of a list, and the trees after its comma.
 fn first_variant(trees: &[TokenTree]) -> Result<(Variant<'_>, &[TokenTree]), Fault>
     ensures given { MatchResult result (λ found. IsFirst IsVariantAt trees.now found.0 found.1.now)
         (λ fault. IsListFault IsVariant trees.now fault) }
@@ -185,7 +185,7 @@ fn first_variant(trees: &[TokenTree]) -> Result<(Variant<'_>, &[TokenTree]), Fau
     }
 }
 
-// The fault before these trees, the last of all.
+/// The fault before these trees, the last of all.
 pub(crate) fn fault_after(trees: &[TokenTree], rest: &[TokenTree]) -> Fault
     requires { length rest.now ≤ length trees.now }
     ensures at { result.at ≡ length trees.now - length rest.now }
@@ -194,7 +194,7 @@ pub(crate) fn fault_after(trees: &[TokenTree], rest: &[TokenTree]) -> Fault
     Fault::ahead_of(trees.len() - rest.len(), rest)
 }
 
-// The trees after the comma at the front, or none where none are left.
+/// The trees after the comma at the front, or none where none are left.
 pub(crate) fn past_comma(trees: &[TokenTree]) -> Option<&[TokenTree]>
     ensures found { IfSome result (λ left. IsPastComma trees.now left.now) }
     ensures none { IfNone result ((left : List Tree) → IsPastComma trees.now left → ⊥) }

@@ -64,7 +64,7 @@ pub(crate) fn predicate_of<'a>(
 
 // ---- parts of the grammar's, by the trees that are left
 
-// The trees after so many.
+/// The trees after so many.
 fn left_at(trees: &[TokenTree], at: usize) -> &[TokenTree]
     requires { at ≤ length trees.now }
     ensures { IsBack result.now trees.now }
@@ -72,7 +72,7 @@ fn left_at(trees: &[TokenTree], at: usize) -> &[TokenTree]
     trees.split_at(at).1
 }
 
-// The trees before these, with which they end.
+/// The trees before these, with which they end.
 fn before<'a>(trees: &'a [TokenTree], rest: &[TokenTree]) -> &'a [TokenTree]
     requires { IsBack rest.now trees.now }
     ensures { trees.now ≡ result.now ++ rest.now }
@@ -118,7 +118,7 @@ fn type_of<'a>(
 
 // ---- signs
 
-// The trees after a `:`.
+/// The trees after a `:`.
 fn past_colon(trees: &[TokenTree]) -> Option<&[TokenTree]>
     ensures { MatchOption result (HasNo classes.Colon trees.now) (λ rest. BeginsWith trees.now classes.Colon rest.now) }
 {
@@ -129,7 +129,7 @@ fn past_colon(trees: &[TokenTree]) -> Option<&[TokenTree]>
     }
 }
 
-// The trees after a `=`.
+/// The trees after a `=`.
 fn past_equals(trees: &[TokenTree]) -> Option<&[TokenTree]>
     ensures { MatchOption result (HasNo classes.Equals trees.now)
         (λ rest. BeginsWith trees.now classes.Equals rest.now) }
@@ -141,7 +141,7 @@ fn past_equals(trees: &[TokenTree]) -> Option<&[TokenTree]>
     }
 }
 
-// The trees after a `,`.
+/// The trees after a `,`.
 fn past_comma(trees: &[TokenTree]) -> Option<&[TokenTree]>
     ensures { MatchOption result (HasNo classes.Comma trees.now) (λ rest. BeginsWith trees.now classes.Comma rest.now) }
 {
@@ -152,7 +152,7 @@ fn past_comma(trees: &[TokenTree]) -> Option<&[TokenTree]>
     }
 }
 
-// The trees after a literal.
+/// The trees after a literal.
 fn past_literal(trees: &[TokenTree]) -> Option<&[TokenTree]>
     ensures { MatchOption result (HasNo classes.Literal trees.now)
         (λ rest. BeginsWith trees.now classes.Literal rest.now) }
@@ -164,7 +164,7 @@ fn past_literal(trees: &[TokenTree]) -> Option<&[TokenTree]>
     }
 }
 
-// The trees after an element of a list.
+/// The trees after an element of a list.
 fn past_end(trees: &[TokenTree]) -> Option<&[TokenTree]>
     ensures { MatchOption result ((rest : List Tree) → EndsElement trees.now rest → ⊥)
         (λ rest. EndsElement trees.now rest.now) }
@@ -180,7 +180,7 @@ fn past_end(trees: &[TokenTree]) -> Option<&[TokenTree]>
 
 // ---- parameters
 
-// A word, and the trees after it.
+/// A word, and the trees after it.
 fn word_of<'a>(
     trees: &'a [TokenTree],
 ) -> Result<(&'a [TokenTree], &'a [TokenTree]), &'a [TokenTree]>
@@ -196,7 +196,7 @@ fn word_of<'a>(
     }
 }
 
-// The kind and the name of a parameter.
+/// The kind and the name of a parameter.
 fn name_of<'a>(
     trees: &'a [TokenTree],
 ) -> Result<(ParamKind, &'a [TokenTree], &'a [TokenTree]), &'a [TokenTree]>
@@ -217,7 +217,7 @@ fn name_of<'a>(
     }
 }
 
-// The bounds after `:`, if it stands there.
+/// The bounds after `:`, if it stands there.
 fn may_bounds<'a>(
     trees: &'a [TokenTree],
 ) -> Result<(&'a [TokenTree], &'a [TokenTree]), &'a [TokenTree]>
@@ -231,7 +231,7 @@ fn may_bounds<'a>(
     }
 }
 
-// The bounds after a `:` that stands there.
+/// The bounds after a `:` that stands there.
 fn must_bounds<'a>(
     trees: &'a [TokenTree],
 ) -> Result<(&'a [TokenTree], &'a [TokenTree]), &'a [TokenTree]>
@@ -245,7 +245,7 @@ fn must_bounds<'a>(
     }
 }
 
-// The type after a `:` that stands there.
+/// The type after a `:` that stands there.
 fn must_type<'a>(
     trees: &'a [TokenTree],
 ) -> Result<(&'a [TokenTree], &'a [TokenTree]), &'a [TokenTree]>
@@ -259,7 +259,7 @@ fn must_type<'a>(
     }
 }
 
-// The bounds of a parameter, or the type of a constant.
+/// The bounds of a parameter, or the type of a constant.
 fn bounds_of<'a>(
     kind: ParamKind,
     trees: &'a [TokenTree],
@@ -274,7 +274,7 @@ fn bounds_of<'a>(
     }
 }
 
-// None of the trees.
+/// None of the trees.
 fn none_of(trees: &[TokenTree]) -> &[TokenTree]
     ensures { result.now ≡ [] }
 {
@@ -290,7 +290,7 @@ fn is_constant(class: Class) -> bool
     }
 }
 
-// The default of a constant.
+/// The default of a constant.
 fn constant_of<'a>(
     trees: &'a [TokenTree],
 ) -> Result<(&'a [TokenTree], &'a [TokenTree]), &'a [TokenTree]>
@@ -312,7 +312,7 @@ fn constant_of<'a>(
     }
 }
 
-// The type after `=`, if it stands there.
+/// The type after `=`, if it stands there.
 fn may_type<'a>(
     trees: &'a [TokenTree],
 ) -> Result<(&'a [TokenTree], &'a [TokenTree]), &'a [TokenTree]>
@@ -326,7 +326,7 @@ fn may_type<'a>(
     }
 }
 
-// The constant after `=`, if it stands there.
+/// The constant after `=`, if it stands there.
 fn may_constant<'a>(
     trees: &'a [TokenTree],
 ) -> Result<(&'a [TokenTree], &'a [TokenTree]), &'a [TokenTree]>
@@ -340,7 +340,7 @@ fn may_constant<'a>(
     }
 }
 
-// The default of a parameter.
+/// The default of a parameter.
 fn default_of<'a>(
     kind: ParamKind,
     trees: &'a [TokenTree],

@@ -67,7 +67,7 @@ pub enum Shape {
     Reference,
 }
 
-// Whether a pattern may begin with the sign, which is no angle bracket.
+/// Whether a pattern may begin with the sign, which is no angle bracket.
 fn is_pattern(class: Class) -> bool
     ensures { result ≡ is_pattern class }
 {
@@ -81,7 +81,7 @@ fn is_pattern(class: Class) -> bool
     }
 }
 
-// Whether a pattern may go on with the sign.
+/// Whether a pattern may go on with the sign.
 fn continues(class: Class) -> bool
     ensures { result ≡ continues class }
 {
@@ -100,14 +100,14 @@ fn opens(class: Class) -> bool
     }
 }
 
-// Whether a pattern may begin with the sign.
+/// Whether a pattern may begin with the sign.
 fn may_begin(class: Class) -> bool
     ensures { result ≡ (is_pattern class || opens class) }
 {
     is_pattern(class) || opens(class)
 }
 
-// Past a type.
+/// Past a type.
 #[tactic(auto, using(crate::proofs::ParameterLemmas::type_reads))]
 fn past_type(trees: &[TokenTree]) -> Result<&[TokenTree], &[TokenTree]>
     ensures { ReadsRule type trees.now result }
@@ -121,7 +121,7 @@ fn past_type(trees: &[TokenTree]) -> Result<&[TokenTree], &[TokenTree]>
     walk_past(trees, start)
 }
 
-// Past attributes.
+/// Past attributes.
 #[tactic(auto, using(crate::proofs::ParameterLemmas::attributes_read))]
 fn past_attributes(trees: &[TokenTree]) -> Result<&[TokenTree], &[TokenTree]>
     ensures { ReadsRule attributes trees.now result }
@@ -135,7 +135,7 @@ fn past_attributes(trees: &[TokenTree]) -> Result<&[TokenTree], &[TokenTree]>
     walk_past(trees, start)
 }
 
-// Past a sign with which a pattern goes on, if one is next.
+/// Past a sign with which a pattern goes on, if one is next.
 #[tactic(auto, using(crate::proofs::ReaderLemmas::steps))]
 fn pattern_sign(trees: &[TokenTree]) -> Option<&[TokenTree]>
     ensures found { IfSome result (λ rest. Finds pattern_sign trees.now rest.now) }
@@ -148,7 +148,7 @@ fn pattern_sign(trees: &[TokenTree]) -> Option<&[TokenTree]>
     }
 }
 
-// Past more signs of a pattern.
+/// Past more signs of a pattern.
 fn pattern_signs(trees: &[TokenTree]) -> &[TokenTree]
     ensures { Finds pattern_signs trees.now result.now }
 {
@@ -159,7 +159,7 @@ fn pattern_signs(trees: &[TokenTree]) -> &[TokenTree]
     left
 }
 
-// Past braces, or nothing.
+/// Past braces, or nothing.
 #[tactic(auto, using(crate::proofs::ReaderLemmas::steps))]
 fn braces(trees: &[TokenTree]) -> Result<&[TokenTree], &[TokenTree]>
     ensures { ReadsRule (perhaps (one signs.Braces)) trees.now result }
@@ -171,7 +171,7 @@ fn braces(trees: &[TokenTree]) -> Result<&[TokenTree], &[TokenTree]>
     }
 }
 
-// Whether angle brackets are next.
+/// Whether angle brackets are next.
 #[tactic(auto, using(crate::proofs::ParameterLemmas::angles))]
 fn begins_angle(trees: &[TokenTree]) -> bool
     ensures { result ≡ heads pattern_angle (classes_in trees.now) }
@@ -182,7 +182,7 @@ fn begins_angle(trees: &[TokenTree]) -> bool
     }
 }
 
-// Past a path from its angle brackets on, and fields in braces.
+/// Past a path from its angle brackets on, and fields in braces.
 #[tactic(auto, using(crate::proofs::ParameterLemmas::angles))]
 fn pattern_angle(trees: &[TokenTree]) -> Result<&[TokenTree], &[TokenTree]>
     requires { heads pattern_angle (classes_in trees.now) ≡ true }
@@ -194,7 +194,7 @@ fn pattern_angle(trees: &[TokenTree]) -> Result<&[TokenTree], &[TokenTree]>
     }
 }
 
-// Past a path from its angle brackets on, or nothing.
+/// Past a path from its angle brackets on, or nothing.
 #[tactic(auto, using(crate::proofs::ReaderLemmas::steps))]
 fn perhaps_angle(trees: &[TokenTree]) -> Result<&[TokenTree], &[TokenTree]>
     ensures { ReadsRule (perhaps pattern_angle) trees.now result }
@@ -206,7 +206,7 @@ fn perhaps_angle(trees: &[TokenTree]) -> Result<&[TokenTree], &[TokenTree]>
     }
 }
 
-// Past the rest of a pattern.
+/// Past the rest of a pattern.
 #[tactic(auto, using(crate::proofs::ReaderLemmas::steps))]
 fn pattern_rest(trees: &[TokenTree]) -> Result<&[TokenTree], &[TokenTree]>
     ensures { ReadsRule pattern_rest trees.now result }
@@ -214,7 +214,7 @@ fn pattern_rest(trees: &[TokenTree]) -> Result<&[TokenTree], &[TokenTree]>
     perhaps_angle(pattern_signs(trees))
 }
 
-// Whether a pattern begins.
+/// Whether a pattern begins.
 #[tactic(auto, using(crate::proofs::ParameterLemmas::patterns))]
 fn begins_pattern(trees: &[TokenTree]) -> bool
     ensures { result ≡ heads pattern (classes_in trees.now) }
@@ -225,7 +225,7 @@ fn begins_pattern(trees: &[TokenTree]) -> bool
     }
 }
 
-// Past a pattern.
+/// Past a pattern.
 #[tactic(auto, using(crate::proofs::ParameterLemmas::patterns))]
 fn past_pattern(trees: &[TokenTree]) -> Result<&[TokenTree], &[TokenTree]>
     ensures { ReadsRule pattern trees.now result }
@@ -237,7 +237,7 @@ fn past_pattern(trees: &[TokenTree]) -> Result<&[TokenTree], &[TokenTree]>
     }
 }
 
-// Past `self` or `mut self`.
+/// Past `self` or `mut self`.
 #[tactic(auto, using(crate::proofs::ReaderLemmas::steps))]
 fn may_mutate(trees: &[TokenTree]) -> Result<&[TokenTree], &[TokenTree]>
     ensures { ReadsRule may_mutate trees.now result }
@@ -249,7 +249,7 @@ fn may_mutate(trees: &[TokenTree]) -> Result<&[TokenTree], &[TokenTree]>
     }
 }
 
-// Past `..`.
+/// Past `..`.
 #[tactic(auto, using(crate::proofs::ReaderLemmas::steps))]
 fn two_dots(trees: &[TokenTree]) -> Result<&[TokenTree], &[TokenTree]>
     ensures { ReadsRule (two_dots) trees.now result }
@@ -257,7 +257,7 @@ fn two_dots(trees: &[TokenTree]) -> Result<&[TokenTree], &[TokenTree]>
     past(past(trees, Class::Dot)?, Class::Dot)
 }
 
-// Past `...`.
+/// Past `...`.
 #[tactic(auto, using(crate::proofs::ReaderLemmas::steps))]
 fn dots(trees: &[TokenTree]) -> Result<&[TokenTree], &[TokenTree]>
     ensures { ReadsRule dots trees.now result }
@@ -265,7 +265,7 @@ fn dots(trees: &[TokenTree]) -> Result<&[TokenTree], &[TokenTree]>
     two_dots(past(trees, Class::Dot)?)
 }
 
-// What follows `mut`, up to a `:`.
+/// What follows `mut`, up to a `:`.
 #[tactic(auto, using(crate::proofs::ParameterLemmas::fronts))]
 fn after_mut(trees: &[TokenTree]) -> Result<(Shape, &[TokenTree]), &[TokenTree]>
     ensures { ReadsFront after_mut (one signs.SelfValue) trees.now result }
@@ -282,7 +282,7 @@ fn after_mut(trees: &[TokenTree]) -> Result<(Shape, &[TokenTree]), &[TokenTree]>
     }
 }
 
-// A pattern, up to its `:`.
+/// A pattern, up to its `:`.
 fn pattern_shape(trees: &[TokenTree]) -> Result<(Shape, &[TokenTree]), &[TokenTree]>
     ensures { ReadsPattern trees.now result }
 {
@@ -292,7 +292,7 @@ fn pattern_shape(trees: &[TokenTree]) -> Result<(Shape, &[TokenTree]), &[TokenTr
     }
 }
 
-// What follows `& mut`, up to a `:`.
+/// What follows `& mut`, up to a `:`.
 #[tactic(auto, using(crate::proofs::ParameterLemmas::fronts))]
 fn after_and_mut(trees: &[TokenTree]) -> Result<(Shape, &[TokenTree]), &[TokenTree]>
     ensures { ReadsFront after_and_mut (one signs.SelfValue) trees.now result }
@@ -309,7 +309,7 @@ fn after_and_mut(trees: &[TokenTree]) -> Result<(Shape, &[TokenTree]), &[TokenTr
     }
 }
 
-// What follows `&`, up to a `:`.
+/// What follows `&`, up to a `:`.
 #[tactic(auto, using(crate::proofs::ParameterLemmas::fronts))]
 fn after_and(trees: &[TokenTree]) -> Result<(Shape, &[TokenTree]), &[TokenTree]>
     ensures { ReadsFront after_and referred trees.now result }
@@ -334,7 +334,7 @@ fn after_and(trees: &[TokenTree]) -> Result<(Shape, &[TokenTree]), &[TokenTree]>
     }
 }
 
-// A receiver or a pattern, up to a `:`.
+/// A receiver or a pattern, up to a `:`.
 #[tactic(auto, using(crate::proofs::ParameterLemmas::fronts))]
 fn named_front(trees: &[TokenTree]) -> Result<(Shape, &[TokenTree]), &[TokenTree]>
     ensures { ReadsFront named_parameter receiver trees.now result }
@@ -356,7 +356,7 @@ fn named_front(trees: &[TokenTree]) -> Result<(Shape, &[TokenTree]), &[TokenTree
     }
 }
 
-// The kind of a receiver with the type that follows it, and the trees after it.
+/// The kind of a receiver with the type that follows it, and the trees after it.
 #[tactic(auto, using(crate::proofs::ParameterLemmas::self_types))]
 fn self_type(trees: &[TokenTree]) -> Result<(ParameterKind<'_>, &[TokenTree]), &[TokenTree]>
     ensures { ReadsEnd self_type shapes.Receiver trees.now result }
@@ -376,7 +376,7 @@ fn self_type(trees: &[TokenTree]) -> Result<(ParameterKind<'_>, &[TokenTree]), &
     }
 }
 
-// The kind of a parameter with a pattern, after its `:`, and the trees after it.
+/// The kind of a parameter with a pattern, after its `:`, and the trees after it.
 #[tactic(auto, using(crate::proofs::ParameterLemmas::typed_ends))]
 fn typed_end(trees: &[TokenTree]) -> Result<(ParameterKind<'_>, &[TokenTree]), &[TokenTree]>
     ensures { ReadsTyped trees.now result }
@@ -394,7 +394,7 @@ fn typed_end(trees: &[TokenTree]) -> Result<(ParameterKind<'_>, &[TokenTree]), &
     }
 }
 
-// The same, from its `:` on.
+/// The same, from its `:` on.
 #[tactic(auto, using(crate::proofs::ParameterLemmas::typeds))]
 fn typed(trees: &[TokenTree]) -> Result<(ParameterKind<'_>, &[TokenTree]), &[TokenTree]>
     ensures { ReadsEnd typed shapes.Pattern trees.now result }
@@ -411,7 +411,7 @@ fn typed(trees: &[TokenTree]) -> Result<(ParameterKind<'_>, &[TokenTree]), &[Tok
     }
 }
 
-// The kind of a parameter, after what is read up to its `:` or its end, and the trees after it.
+/// The kind of a parameter, after what is read up to its `:` or its end, and the trees after it.
 #[tactic(auto, using(crate::proofs::ParameterLemmas::ends))]
 fn end_of(
     shape: Shape,
@@ -435,7 +435,7 @@ pub struct Named<'a> {
     pub kind: ParameterKind<'a>,
 }
 
-// A receiver, or a pattern with its type, and the trees after it.
+/// A receiver, or a pattern with its type, and the trees after it.
 #[tactic(auto, using(crate::proofs::ParameterLemmas::named))]
 fn named_of(trees: &[TokenTree]) -> Result<(Named<'_>, &[TokenTree]), &[TokenTree]>
     ensures { ReadsNamed named_parameter trees.now result }
@@ -452,7 +452,7 @@ fn named_of(trees: &[TokenTree]) -> Result<(Named<'_>, &[TokenTree]), &[TokenTre
     }
 }
 
-// The same, or `...`.
+/// The same, or `...`.
 #[tactic(auto, using(crate::proofs::ParameterLemmas::rests))]
 fn rest_of(trees: &[TokenTree]) -> Result<(Named<'_>, &[TokenTree]), &[TokenTree]>
     ensures { ReadsNamed parameter_rest trees.now result }
@@ -473,7 +473,7 @@ fn rest_of(trees: &[TokenTree]) -> Result<(Named<'_>, &[TokenTree]), &[TokenTree
     }
 }
 
-// The parameter at the front of the trees, and the trees after it; or those from the fault on.
+/// The parameter at the front of the trees, and the trees after it; or those from the fault on.
 #[tactic(auto, using(crate::proofs::ParameterLemmas::whole))]
 fn parameter_of(trees: &[TokenTree]) -> Result<(Parameter<'_>, &[TokenTree]), &[TokenTree]>
     ensures { ReadsParameter trees.now result }
@@ -595,7 +595,7 @@ impl<'a> Iterator for Parameters<'a> {
     }
 }
 
-// The first parameter of a list, and the trees after its comma.
+/// The first parameter of a list, and the trees after its comma.
 fn first_parameter(trees: &[TokenTree]) -> Result<(Parameter<'_>, &[TokenTree]), Fault>
     ensures given { MatchResult result (λ found. IsFirst IsParameterAt trees.now found.0 found.1.now)
         (λ fault. IsListFault (ByRule function_parameter) trees.now fault) }

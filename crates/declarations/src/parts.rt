@@ -12,7 +12,7 @@ use crate::types::TypeState;
 use crate::walk::split_from;
 use pm_stream::TokenTree;
 
-// What is read where no item is declared around it.
+/// What is read where no item is declared around it.
 fn split_alone<'a>(
     trees: &'a [TokenTree],
     rule: Rule,

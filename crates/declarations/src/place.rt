@@ -322,7 +322,7 @@ pub(crate) fn to_front(item: Item, front: Front) -> Option<Shift>
     to_spot(item, Spot::Front(front))
 }
 
-// Out of angle brackets that are those of parameters.
+/// Out of angle brackets that are those of parameters.
 pub(crate) fn close_to(item: Item, spot: Spot) -> Option<Shift>
     ensures { result ≡ close_to item spot }
 {
@@ -341,7 +341,7 @@ pub(crate) fn to_bounds(item: Item, rule: Rule) -> Option<Shift>
     move_to(item, rule, State::Range(TypeState::Bound))
 }
 
-// Into the angle brackets of an expression.
+/// Into the angle brackets of an expression.
 pub(crate) fn open_angle(item: Item, rule: Rule) -> Option<Shift>
     ensures { result ≡ open_angle item rule }
 {

@@ -10,14 +10,14 @@ use crate::class::{Class, code};
 use crate::signs::first_sign;
 use pm_stream::TokenTree;
 
-// Whether a sign is of this class.
+/// Whether a sign is of this class.
 pub(crate) fn is(class: Class, found: Class) -> bool
     ensures { result ≡ is class found }
 {
     code(class) == code(found)
 }
 
-// Whether a sign of this class is next.
+/// Whether a sign of this class is next.
 #[tactic(auto, using(crate::proofs::ReaderLemmas::steps))]
 pub(crate) fn begins(trees: &[TokenTree], class: Class) -> bool
     ensures { result ≡ heads (one class) (classes_in trees.now) }
@@ -28,7 +28,7 @@ pub(crate) fn begins(trees: &[TokenTree], class: Class) -> bool
     }
 }
 
-// Past a sign of this class.
+/// Past a sign of this class.
 #[tactic(auto, using(crate::proofs::ReaderLemmas::steps))]
 pub(crate) fn past(trees: &[TokenTree], class: Class) -> Result<&[TokenTree], &[TokenTree]>
     ensures { ReadsRule (one class) trees.now result }
@@ -45,7 +45,7 @@ pub(crate) fn past(trees: &[TokenTree], class: Class) -> Result<&[TokenTree], &[
     }
 }
 
-// The trees before the rest.
+/// The trees before the rest.
 #[tactic(auto, using(crate::proofs::ReaderLemmas::remains_whole))]
 pub(crate) fn part<'a>(trees: &'a [TokenTree], rest: &[TokenTree]) -> &'a [TokenTree]
     requires { Remains rest.now trees.now }

@@ -53,7 +53,7 @@ pub struct TypeStep {
     pub turn: Turn,
 }
 
-// Whether a type may end there, outside of angle brackets.
+/// Whether a type may end there, outside of angle brackets.
 pub(crate) fn may_end(state: TypeState) -> bool
     ensures { result ≡ may_end state }
 {
@@ -81,7 +81,7 @@ fn open_bracket() -> Option<TypeStep>
     })
 }
 
-// Only within angle brackets.
+/// Only within angle brackets.
 fn close_bracket(outside: bool) -> Option<TypeStep>
     ensures { result ≡ close_bracket outside }
 {
@@ -95,7 +95,7 @@ fn close_bracket(outside: bool) -> Option<TypeStep>
     }
 }
 
-// The step at a keyword that stands before an operand.
+/// The step at a keyword that stands before an operand.
 fn front(keyword: Keyword) -> Option<TypeStep>
     ensures { result ≡ front keyword }
 {
@@ -113,7 +113,7 @@ fn front(keyword: Keyword) -> Option<TypeStep>
     }
 }
 
-// The step where an operand may stand.
+/// The step where an operand may stand.
 fn operand(class: Class, outside: bool) -> Option<TypeStep>
     ensures { result ≡ operand class outside }
 {
@@ -141,7 +141,7 @@ fn operand(class: Class, outside: bool) -> Option<TypeStep>
     }
 }
 
-// The step after an operand.
+/// The step after an operand.
 fn continuation(class: Class, outside: bool) -> Option<TypeStep>
     ensures { result ≡ continuation class outside }
 {
@@ -159,7 +159,7 @@ fn continuation(class: Class, outside: bool) -> Option<TypeStep>
     }
 }
 
-// The step before a bound, or at the end of bounds.
+/// The step before a bound, or at the end of bounds.
 fn bound(class: Class, outside: bool) -> Option<TypeStep>
     ensures { result ≡ bound class outside }
 {
@@ -170,7 +170,7 @@ fn bound(class: Class, outside: bool) -> Option<TypeStep>
     }
 }
 
-// The step after a lifetime.
+/// The step after a lifetime.
 fn after_lifetime(class: Class, outside: bool) -> Option<TypeStep>
     ensures { result ≡ after_lifetime class outside }
 {
@@ -180,7 +180,7 @@ fn after_lifetime(class: Class, outside: bool) -> Option<TypeStep>
     }
 }
 
-// The step before an argument, or at the end of arguments.
+/// The step before an argument, or at the end of arguments.
 fn argument(class: Class, outside: bool) -> Option<TypeStep>
     ensures { result ≡ argument class outside }
 {
@@ -190,7 +190,7 @@ fn argument(class: Class, outside: bool) -> Option<TypeStep>
     }
 }
 
-// The step after a path and `!`.
+/// The step after a path and `!`.
 fn macro_group(class: Class) -> Option<TypeStep>
     ensures { result ≡ macro_group class }
 {
@@ -202,7 +202,7 @@ fn macro_group(class: Class) -> Option<TypeStep>
     }
 }
 
-// The step after `*`.
+/// The step after `*`.
 fn pointer(class: Class) -> Option<TypeStep>
     ensures { result ≡ pointer class }
 {
@@ -212,7 +212,7 @@ fn pointer(class: Class) -> Option<TypeStep>
     }
 }
 
-// The step after `~`.
+/// The step after `~`.
 fn tilde(class: Class) -> Option<TypeStep>
     ensures { result ≡ tilde class }
 {
@@ -222,7 +222,7 @@ fn tilde(class: Class) -> Option<TypeStep>
     }
 }
 
-// The step after `extern`.
+/// The step after `extern`.
 fn abi(class: Class, outside: bool) -> Option<TypeStep>
     ensures { result ≡ abi class outside }
 {
@@ -232,7 +232,7 @@ fn abi(class: Class, outside: bool) -> Option<TypeStep>
     }
 }
 
-// The step after the `-` of a constant argument.
+/// The step after the `-` of a constant argument.
 fn minus(class: Class) -> Option<TypeStep>
     ensures { result ≡ minus class }
 {
@@ -242,7 +242,7 @@ fn minus(class: Class) -> Option<TypeStep>
     }
 }
 
-// The step after `for`.
+/// The step after `for`.
 fn for_binder(class: Class) -> Option<TypeStep>
     ensures { result ≡ for_binder class }
 {
@@ -252,7 +252,7 @@ fn for_binder(class: Class) -> Option<TypeStep>
     }
 }
 
-// The step within `for<..>`.
+/// The step within `for<..>`.
 fn binder(class: Class) -> Option<TypeStep>
     ensures { result ≡ binder class }
 {
@@ -263,7 +263,7 @@ fn binder(class: Class) -> Option<TypeStep>
     }
 }
 
-// The step from a state, outside of angle brackets or not.
+/// The step from a state, outside of angle brackets or not.
 pub(crate) fn type_step(state: TypeState, class: Class, outside: bool) -> Option<TypeStep>
     ensures { result ≡ step_of state class outside }
 {

@@ -44,7 +44,7 @@ pub fn parse_variant(trees: &[TokenTree]) -> Result<(Variant<'_>, &[TokenTree]),
     }
 }
 
-// The parts of a variant.
+/// The parts of a variant.
 fn variant_of(trees: &[TokenTree]) -> Result<Variant<'_>, Fault>
     requires { ReadsAll IsVariant trees.now }
     ensures { MatchResult result (λ variant. HasVariantParts trees.now variant) (λ fault. ⊥) }
@@ -62,7 +62,7 @@ fn variant_of(trees: &[TokenTree]) -> Result<Variant<'_>, Fault>
     })
 }
 
-// The fields that the trees begin with, if a group stands there, and the trees after it.
+/// The fields that the trees begin with, if a group stands there, and the trees after it.
 fn fields_first(trees: &[TokenTree]) -> (Fields<'_>, &[TokenTree])
     ensures { SplitsFields trees.now result.0 result.1.now }
 {
@@ -78,7 +78,7 @@ fn fields_first(trees: &[TokenTree]) -> (Fields<'_>, &[TokenTree])
     }
 }
 
-// The trees after the first, if there are any.
+/// The trees after the first, if there are any.
 fn after_first(trees: &[TokenTree]) -> &[TokenTree]
     ensures { HasValue trees.now result.now }
 {

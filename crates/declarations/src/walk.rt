@@ -27,7 +27,7 @@ pub(crate) struct Split<'a> {
     pub named: &'a [TokenTree],
 }
 
-// What is read from this place on, and the trees after it.
+/// What is read from this place on, and the trees after it.
 pub(crate) fn split_from<'a>(trees: &'a [TokenTree], start: Place) -> Result<Split<'a>, Fault>
     requires { start.depth ≡ 0 }
     ensures ok { IfOk result (λ found. Reads (IsFrom start) trees.now found.part.now found.rest.now) }
@@ -52,7 +52,7 @@ pub(crate) fn split_from<'a>(trees: &'a [TokenTree], start: Place) -> Result<Spl
     }
 }
 
-// Reads all trees from this place on.
+/// Reads all trees from this place on.
 pub(crate) fn read_whole(trees: &[TokenTree], start: Place) -> Result<(), Fault>
     requires { start.depth ≡ 0 }
     ensures ok { OnOk result (ReadsAll (IsFrom start) trees.now) }
@@ -67,7 +67,7 @@ pub(crate) fn read_whole(trees: &[TokenTree], start: Place) -> Result<(), Fault>
     }
 }
 
-// Past what is read from this place on, or past the longest front that can go on.
+/// Past what is read from this place on, or past the longest front that can go on.
 pub(crate) fn walk_past<'a>(
     trees: &'a [TokenTree],
     start: Place,
@@ -84,7 +84,7 @@ pub(crate) fn walk_past<'a>(
     }
 }
 
-// Where a walk over signs stops.
+/// Where a walk over signs stops.
 #[derive(Clone, Copy)]
 struct Stop<'a> {
     place: Place,
@@ -94,7 +94,7 @@ struct Stop<'a> {
     named: &'a [TokenTree],
 }
 
-// How far the signs are steps from this place on.
+/// How far the signs are steps from this place on.
 fn walk_from<'a>(trees: &'a [TokenTree], start: Place) -> Stop<'a>
     requires { start.depth ≡ 0 }
     ensures walked { Walked start trees.now result.left.now result.place (first_name result.named.now) }
@@ -118,7 +118,7 @@ fn later<'a>(begins: bool, trees: &'a [TokenTree], named: &'a [TokenTree]) -> &'
     if begins { trees } else { named }
 }
 
-// What the first sign of the trees leads to, if it may stand there, the trees after it, and whether it is a name.
+/// What the first sign of the trees leads to, if it may stand there, the trees after it, and whether it is a name.
 fn next_place<'a>(place: Place, trees: &'a [TokenTree]) -> Option<(Place, &'a [TokenTree], bool)>
     requires { place.depth + length trees.now + 1 < 2 ^ 64 }
     ensures found { IfSome result (λ next. (class : ClassValue) × BeginsWith trees.now class next.1.now

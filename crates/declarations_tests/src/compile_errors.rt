@@ -4,7 +4,7 @@ use proc_macro2::{SourceMap, Span, TokenStream, TokenTree};
 use std::process::Abort;
 use std::test::Fail;
 
-// Each of the trees has the span, and those in groups too.
+/// Each of the trees has the span, and those in groups too.
 fn check_spans(
     rt: &(impl Abort + AllocGlobal),
     trees: &[TokenTree],
@@ -25,7 +25,7 @@ fn check_spans(
     Ok(())
 }
 
-// The code for the fault of what is no struct, enum or union: its text, and the span of each of its trees.
+/// The code for the fault of what is no struct, enum or union: its text, and the span of each of its trees.
 fn check(
     rt: &(impl Abort + AllocGlobal),
     text: &str,

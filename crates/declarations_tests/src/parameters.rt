@@ -15,7 +15,7 @@ enum Parts {
     Fault(usize),
 }
 
-// The parameters of each text, in parentheses.
+/// The parameters of each text, in parentheses.
 fn check(rt: &(impl Abort + AllocGlobal), rows: &[(&str, &[Parts])]) -> Result<(), Fail> {
     for (text, wanted) in rows {
         let stream = TokenStream::from_str(text, &mut SourceMap::new(rt.alloc()))?;

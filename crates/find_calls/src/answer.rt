@@ -50,7 +50,7 @@ pub fn print_calls<W: Write>(
     Ok(!spans.is_empty())
 }
 
-// Writes the lines of calls whose names have these spans, which the map holds.
+/// Writes the lines of calls whose names have these spans, which the map holds.
 fn print_lines<W: Write>(path: &str, spans: &[Span], map: &SourceMap, to: &mut W) -> io::Result<()>
     requires { Each (Holds map.now) spans.now }
     ensures { OnOk result ((text : List ℕ) → Each (StartsIn map.now text) spans.now

@@ -48,7 +48,7 @@ pub fn calls(alloc: Global, name: &str, mut cursor: Cursor<'_>) -> Result<Vec<Sp
     }
 }
 
-// Puts in the span of the first tree, if there is one.
+/// Puts in the span of the first tree, if there is one.
 fn push_span(spans: &mut Vec<Span>, here: Cursor<'_>) -> Result<(), AllocError>
     ensures { OnOk result (spans.new.items ≡ spans.old.items ++ option_to_list (first_extent (left here.entry))) }
 {
@@ -58,8 +58,8 @@ fn push_span(spans: &mut Vec<Span>, here: Cursor<'_>) -> Result<(), AllocError>
     Ok(())
 }
 
-// Whether what stands right after a name makes it a call: arguments, `!` and those of a macro, or a turbofish and
-// arguments.
+/// Whether what stands right after a name makes it a call: arguments, `!` and those of a macro, or a turbofish and
+/// arguments.
 fn is_called(after: Cursor<'_>) -> bool
     ensures { result ≡ is_called (left after.entry) }
 {
@@ -73,14 +73,14 @@ fn is_called(after: Cursor<'_>) -> bool
     }
 }
 
-// Whether it is the keyword `fn`.
+/// Whether it is the keyword `fn`.
 fn is_fn(ident: Name<'_>) -> bool
     ensures { result ≡ is_fn (tokens.Name ident.entry.raw (chars ident.entry.text.now)) }
 {
     !ident.raw && is_text(ident.text, "fn")
 }
 
-// Whether both are the same.
+/// Whether both are the same.
 fn is_text(text: &str, other: &str) -> bool
     ensures { result ≡ bytes_eq (encode_utf8_all (chars text.now)) other.now }
 {

@@ -31,7 +31,7 @@ fn main(rt: HostRuntime) -> ExitCode {
     }
 }
 
-// Searches what the words after the program's name ask for, and answers the status.
+/// Searches what the words after the program's name ask for, and answers the status.
 fn run(rt: &HostRuntime) -> Result<u8, Failure> {
     let mut words = words(rt.alloc(), env::args(rt), USAGE)?;
     if words.len() == 1 && words.push(String::from_str(rt.alloc(), "-")?).is_err() {
@@ -56,7 +56,7 @@ fn run(rt: &HostRuntime) -> Result<u8, Failure> {
     Ok(status(found, failed))
 }
 
-// Writes the calls in the text at the path, and answers whether there are any.
+/// Writes the calls in the text at the path, and answers whether there are any.
 fn search<W: Write>(rt: &HostRuntime, name: &str, path: &str, to: &mut W) -> Result<bool, Failure> {
     print_calls(rt.alloc(), path, name, read_text(rt, path)?.as_str(), to)
 }

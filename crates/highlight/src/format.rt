@@ -27,7 +27,7 @@ pub fn request_of(words: &[String]) -> Option<(Format, &str)>
     }
 }
 
-// The format that a word names.
+/// The format that a word names.
 fn format_named(word: &str) -> Option<Format>
     ensures { result ≡ format_named word.now }
 {

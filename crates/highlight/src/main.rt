@@ -29,7 +29,7 @@ fn main(rt: HostRuntime) -> ExitCode {
     }
 }
 
-// Does what the words after the program's name ask for, and answers the status.
+/// Does what the words after the program's name ask for, and answers the status.
 fn respond(rt: &HostRuntime, words: &[String]) -> ExitCode {
     let (path, outcome) = match request_of(words) {
         Some((format, path)) => (path, run(rt, format, path)),
@@ -38,7 +38,7 @@ fn respond(rt: &HostRuntime, words: &[String]) -> ExitCode {
     conclude(rt.alloc(), path, outcome, &mut rt.stderr())
 }
 
-// Writes the text at the path with its pieces marked.
+/// Writes the text at the path with its pieces marked.
 fn run(rt: &HostRuntime, format: Format, path: &str) -> Result<(), Failure> {
     let text = read_text(rt, path)?;
     let mut writer = BufWriter::new(rt.alloc(), rt.stdout())?;

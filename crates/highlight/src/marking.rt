@@ -48,7 +48,7 @@ pub fn marked(alloc: Global, format: Format, text: &str) -> Result<String, Failu
     }
 }
 
-// The styles of the delimiters, the first last.
+/// The styles of the delimiters, the first last.
 fn styles_of_delimiters(alloc: Global, text: &str) -> Result<Vec<Style>, AllocError>
     ensures { IfOk result (λ styles. (all : List Piece) × (rest : List ℕ)
         × AreAllPieces true (chars text.now) all rest
@@ -64,7 +64,7 @@ fn styles_of_delimiters(alloc: Global, text: &str) -> Result<Vec<Style>, AllocEr
     Ok(styles)
 }
 
-// What is to be known to style the next piece.
+/// What is to be known to style the next piece.
 #[derive(Drop)]
 struct Styling {
     // The styles of the delimiters from here on, the first last.
@@ -74,7 +74,7 @@ struct Styling {
 }
 
 impl Styling {
-    // What the next piece is shown as.
+    /// What the next piece is shown as.
     fn style_of(&mut self, next: PlacedPiece<'_>) -> Style
         ensures style { result ≡ piece_style (reverse self.old.delimiters.items) self.old.is_after_quote
             (kind_of next.entry.piece.kind (chars next.entry.text.now)) next.entry.text.now }
@@ -95,7 +95,7 @@ impl Styling {
     }
 }
 
-// Whether the piece is the mark `'`.
+/// Whether the piece is the mark `'`.
 fn is_quote(kind: PieceKind<'_>) -> bool
     ensures { (text : List ℕ) → result ≡ is_quote (kind_of kind.entry text) }
 {
@@ -105,7 +105,7 @@ fn is_quote(kind: PieceKind<'_>) -> bool
     }
 }
 
-// Why the text doesn't parse, if it doesn't.
+/// Why the text doesn't parse, if it doesn't.
 fn explained(alloc: Global, text: &str) -> Result<Option<Explained>, Failure>
     ensures { IfOk result (λ answer. MatchOption answer
         (Parses first_position (chars text.now)) (IsExplained first_position (chars text.now))) }

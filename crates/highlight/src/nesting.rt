@@ -76,7 +76,7 @@ impl Nesting {
         }
     }
 
-    // Takes an opener.
+    /// Takes an opener.
     fn open(&mut self, opener: char) -> Result<(), AllocError>
         requires { IsAwaited self.old.awaited self.old.openers.items }
         ensures styles { OnOk result (self.new.styles.items ≡ self.old.styles.items ++ Unclosed ∷ []) }
@@ -100,7 +100,7 @@ impl Nesting {
         Ok(self.styles.push(Style::Unclosed)?)
     }
 
-    // Takes a closer.
+    /// Takes a closer.
     fn close(&mut self, closer: char) -> Result<(), AllocError>
         requires awaited { IsAwaited self.old.awaited self.old.openers.items }
         requires closer { IsTrue (is_closer closer) }
@@ -115,7 +115,7 @@ impl Nesting {
         Ok(self.styles.push(style)?)
     }
 
-    // Takes out the opener that the closer matches and those inside it, and answers the style of both.
+    /// Takes out the opener that the closer matches and those inside it, and answers the style of both.
     fn matched(&mut self, closer: char) -> Style
         requires awaited { IsAwaited self.old.awaited self.old.openers.items }
         requires closer { IsTrue (is_closer closer) }
@@ -161,7 +161,7 @@ impl Nesting {
 }
 
 impl Awaited {
-    // Whether some opener waits for the closer.
+    /// Whether some opener waits for the closer.
     fn has(self, closer: char) -> bool
         ensures { result ≡ flag closer self }
     {
@@ -173,7 +173,7 @@ impl Awaited {
     }
 }
 
-// Sets the style at the index, if one stands there.
+/// Sets the style at the index, if one stands there.
 fn set_style(styles: &mut Vec<Style>, index: usize, style: Style)
     ensures { styles.new.items ≡ slice_set styles.old.items index style }
 {
@@ -182,7 +182,7 @@ fn set_style(styles: &mut Vec<Style>, index: usize, style: Style)
     }
 }
 
-// The closer of an opener.
+/// The closer of an opener.
 fn closer_of(opener: char) -> char
     ensures { result ≡ closer_of opener }
 {

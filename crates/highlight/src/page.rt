@@ -25,8 +25,8 @@ pub fn frame_of(format: Format) -> Frame
     }
 }
 
-// A browser leaves out the line feed after `<pre>`, so that one at the front of the text stays. The
-// first line's anchor stands here; each other line's follows its line feed.
+/// A browser leaves out the line feed after `<pre>`, so that one at the front of the text stays. The
+/// first line's anchor stands here; each other line's follows its line feed.
 const HEAD: &str = r#"<!DOCTYPE html>
 <html lang="en">
 <head>

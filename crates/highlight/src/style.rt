@@ -97,7 +97,7 @@ impl Style {
     }
 }
 
-// The class of a delimiter, six colours in turn.
+/// The class of a delimiter, six colours in turn.
 fn depth_class(depth: usize) -> &'static str
     ensures { result.now ≡ depth_class depth }
 {
@@ -111,7 +111,7 @@ fn depth_class(depth: usize) -> &'static str
     }
 }
 
-// The colour of a delimiter.
+/// The colour of a delimiter.
 fn depth_colour(depth: usize) -> &'static str
     ensures { result.now ≡ depth_colour depth }
 {
@@ -144,7 +144,7 @@ pub fn style_of(kind: PieceKind<'_>, text: &str) -> Style
     }
 }
 
-// A comment begins with a slash, which isn't white.
+/// A comment begins with a slash, which isn't white.
 fn gap_style(text: &str) -> Style
     ensures { result ≡ gap_style text.now }
 {
@@ -171,7 +171,7 @@ fn literal_style(text: &str) -> Style
     }
 }
 
-// Whether a dot, or an exponent and not a suffix, follows the digits of a number.
+/// Whether a dot, or an exponent and not a suffix, follows the digits of a number.
 fn is_float(number: &str) -> bool
     ensures { result ≡ is_float number.now }
 {
@@ -189,8 +189,8 @@ fn is_float(number: &str) -> bool
     false
 }
 
-// Whether the text is a word that is no name unless raw: a keyword of the edition 2024, or a reserved one. It is
-// compared with those alone that begin as it does.
+/// Whether the text is a word that is no name unless raw: a keyword of the edition 2024, or a reserved one. It is
+/// compared with those alone that begin as it does.
 #[tactic(auto, using(crate::proofs::KeywordLemmas::no_keyword), unfolding(crate::specs::Style::is_keyword))]
 fn is_keyword(text: &str) -> bool
     ensures { result ≡ is_keyword text.now }

@@ -42,10 +42,10 @@ pub fn push_unread(
     }
 }
 
-// The position of a text's first character.
+/// The position of a text's first character.
 const FIRST: u32 = 1;
 
-// What is marked for a reason: what is at fault, or what stands before it where that is nothing, as at a text's end.
+/// What is marked for a reason: what is at fault, or what stands before it where that is nothing, as at a text's end.
 fn fault_of(why: &Explained) -> Stretch
     ensures { result ≡ fault_of why.now }
 {
@@ -56,7 +56,7 @@ fn fault_of(why: &Explained) -> Stretch
     }
 }
 
-// Appends a text of which for the reason so many characters are at fault after so many others.
+/// Appends a text of which for the reason so many characters are at fault after so many others.
 fn push_faulty(
     alloc: Global,
     sheet: &mut Sheet,
@@ -76,7 +76,7 @@ fn push_faulty(
     Ok(())
 }
 
-// Appends a text of which the first character is at fault, for no known reason.
+/// Appends a text of which the first character is at fault, for no known reason.
 fn push_stuck(sheet: &mut Sheet, text: &str) -> Result<(), AllocError>
     ensures { OnOk result (string_bytes sheet.new.out ≡ string_bytes sheet.old.out
         ++ marked_pieces sheet.old.format sheet.old.line (stuck (chars text.now))) }
@@ -90,7 +90,7 @@ fn push_stuck(sheet: &mut Sheet, text: &str) -> Result<(), AllocError>
     Ok(())
 }
 
-// The first `count` characters of the text, or all where it has fewer, and what follows them.
+/// The first `count` characters of the text, or all where it has fewer, and what follows them.
 fn split_chars(text: &str, count: u32) -> (&str, &str)
     ensures front { result.0.now ≡ encode_utf8_all (take count (chars text.now)) }
     ensures rest { chars result.1.now ≡ drop count (chars text.now) }

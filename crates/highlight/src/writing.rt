@@ -63,7 +63,7 @@ impl Sheet {
         self.push_marked(class.as_str(), Style::NoPiece.colour(), text)
     }
 
-    // Appends the text in this class or in this colour, but no mark with nothing in it.
+    /// Appends the text in this class or in this colour, but no mark with nothing in it.
     #[tactic(auto, using(crate::proofs::MarkLemmas::marks))]
     fn push_marked(&mut self, class: &str, colour: &str, text: &str) -> Result<(), AllocError>
         ensures shown { OnOk result (string_bytes self.new.out
@@ -81,7 +81,7 @@ impl Sheet {
         }
     }
 
-    // Appends the text in a `<span>` of the class, or bare where the class is empty.
+    /// Appends the text in a `<span>` of the class, or bare where the class is empty.
     fn push_span(&mut self, class: &str, text: &str) -> Result<(), AllocError>
         ensures shown { OnOk result (string_bytes self.new.out
             ≡ string_bytes self.old.out ++ in_span class.now (escaped self.old.line text.now)) }
@@ -99,7 +99,7 @@ impl Sheet {
         Ok(())
     }
 
-    // Appends the text in the colour, or bare where the colour is empty.
+    /// Appends the text in the colour, or bare where the colour is empty.
     fn push_coloured(&mut self, colour: &str, text: &str) -> Result<(), AllocError>
         ensures shown { OnOk result (string_bytes self.new.out
             ≡ string_bytes self.old.out ++ in_colour colour.now text.now) }
@@ -116,7 +116,7 @@ impl Sheet {
         self.out.push_str("\x1b[0m")
     }
 
-    // Appends the text itself, escaped, with an anchor after each line feed.
+    /// Appends the text itself, escaped, with an anchor after each line feed.
     fn push_escaped(&mut self, text: &str) -> Result<(), AllocError>
         ensures shown { OnOk result (string_bytes self.new.out
             ≡ string_bytes self.old.out ++ escaped self.old.line text.now) }
@@ -131,7 +131,7 @@ impl Sheet {
         Ok(())
     }
 
-    // Appends what stands before the first byte that is escaped, all at once, and answers the text from there on.
+    /// Appends what stands before the first byte that is escaped, all at once, and answers the text from there on.
     fn push_bare<'a>(&mut self, text: &'a str) -> Result<&'a str, AllocError>
         ensures shown { IfOk result (λ rest. string_bytes self.new.out ++ escaped self.old.line rest.now
             ≡ string_bytes self.old.out ++ escaped self.old.line text.now) }
@@ -146,7 +146,7 @@ impl Sheet {
         Ok(&text[size..])
     }
 
-    // Appends a character.
+    /// Appends a character.
     #[tactic(auto, using(crate::proofs::EscapeLemmas::of_character))]
     fn push_character(&mut self, c: char) -> Result<(), AllocError>
         ensures shown { OnOk result (string_bytes self.new.out
@@ -164,7 +164,7 @@ impl Sheet {
         }
     }
 
-    // Begins a line, with its anchor. A text with more lines than can be counted has no page in memory.
+    /// Begins a line, with its anchor. A text with more lines than can be counted has no page in memory.
     fn push_line_feed(&mut self) -> Result<(), AllocError>
         ensures shown { OnOk result (string_bytes self.new.out
             ≡ string_bytes self.old.out ++ (codes "\n" ++ anchor (self.old.line + 1))) }
@@ -181,7 +181,7 @@ impl Sheet {
     }
 }
 
-// How many bytes stand before the first that is escaped, or before the end.
+/// How many bytes stand before the first that is escaped, or before the end.
 fn bare_size(bytes: &[u8]) -> usize
     ensures within { result ≤ length bytes.now }
     ensures bare { (k : ℕ) → k < result → IsBare (slice_index bytes.now k) }
@@ -197,7 +197,7 @@ fn bare_size(bytes: &[u8]) -> usize
     size
 }
 
-// Whether the byte isn't appended as it is.
+/// Whether the byte isn't appended as it is.
 fn is_escaped(byte: u8) -> bool
     ensures bare { result ≡ false → IsBare byte }
     ensures ascii { result ≡ true → byte < 128 }

@@ -49,7 +49,7 @@ pub fn is_indented(alloc: Global, text: &str, step: Step) -> Result<bool, Failur
     Ok(indented.as_str() == text)
 }
 
-// The text with its lines indented. No trees are built to learn whether it parses.
+/// The text with its lines indented. No trees are built to learn whether it parses.
 fn indent(alloc: Global, text: &str, step: Step) -> Result<String, Failure>
     ensures ok { IfOk result (λ out. IsIndented (chars text.now) (chars (string_bytes out))) }
     ensures err { IfErr result (λ failure. (known : Option (List ℕ)) → MayFail (chars text.now) known known failure) }
@@ -62,7 +62,7 @@ fn indent(alloc: Global, text: &str, step: Step) -> Result<String, Failure>
     }
 }
 
-// The failure of a text that doesn't parse: the line and column of its fault. Only here a map is needed to find them.
+/// The failure of a text that doesn't parse: the line and column of its fault. Only here a map is needed to find them.
 fn fault_of(alloc: Global, text: &str) -> Failure
     requires { (position : ℕ) × FaultAt first (chars text.now) position }
     ensures { (known : Option (List ℕ)) → MayFail (chars text.now) known known result }
@@ -74,7 +74,7 @@ fn fault_of(alloc: Global, text: &str) -> Failure
     }
 }
 
-// The text with its lines indented, if it parses. It fails only where memory runs out.
+/// The text with its lines indented, if it parses. It fails only where memory runs out.
 fn indent_parsed(alloc: Global, text: &str, step: Step) -> Result<String, Failure>
     requires { Parses first (chars text.now) }
     ensures ok { IfOk result (λ out. IsIndented (chars text.now) (chars (string_bytes out))) }

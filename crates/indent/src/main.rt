@@ -31,7 +31,7 @@ fn main(rt: HostRuntime) -> ExitCode {
     }
 }
 
-// Does what the words after the program's name ask for, and answers the status.
+/// Does what the words after the program's name ask for, and answers the status.
 fn run(rt: &HostRuntime) -> Result<u8, Failure> {
     let words = words(rt.alloc(), env::args(rt), USAGE)?;
     let options = options_of(rt.alloc(), words.as_slice())?;
@@ -49,7 +49,7 @@ fn run(rt: &HostRuntime) -> Result<u8, Failure> {
     }
 }
 
-// Indents the file, or checks it, and answers the status.
+/// Indents the file, or checks it, and answers the status.
 fn indent_file(rt: &HostRuntime, options: &Options) -> Result<u8, Failure> {
     let text = read_text(rt, options.path.as_str())?;
     let mut writer = rt.stdout();

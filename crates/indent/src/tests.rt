@@ -106,7 +106,7 @@ fn the_same_is_chosen_as_by_the_code_of_the_start(rt: HostRuntime) -> Result<(),
 
 // ---- the code of the start, as it was
 
-// The white space before a piece.
+/// The white space before a piece.
 #[derive(Clone, Copy, Debug, PartialEq, Eq)]
 enum Run {
     // None.
@@ -138,7 +138,7 @@ fn choices(alloc: Global, text: &str, step: Step) -> Result<Vec<White>, AllocErr
     Ok(choices)
 }
 
-// Whether the piece is a white character.
+/// Whether the piece is a white character.
 fn is_white(next: PlacedPiece<'_>) -> bool {
     match next.piece.kind {
         PieceKind::Gap => !begins(next.text, "/"),
@@ -146,7 +146,7 @@ fn is_white(next: PlacedPiece<'_>) -> bool {
     }
 }
 
-// The run with more white space.
+/// The run with more white space.
 fn with_white(run: Run, more: &str) -> Run {
     if run == Run::EndsLine || more.contains('\n') {
         Run::EndsLine
@@ -155,7 +155,7 @@ fn with_white(run: Run, more: &str) -> Run {
     }
 }
 
-// How many groups are open after the piece.
+/// How many groups are open after the piece.
 fn open_after(next: PlacedPiece<'_>, open: usize) -> usize {
     match next.piece.kind {
         PieceKind::Opener(_) => open.saturating_add(1),
@@ -164,7 +164,7 @@ fn open_after(next: PlacedPiece<'_>, open: usize) -> usize {
     }
 }
 
-// Chooses what stands in the place of a run, if there is one, before this text, where so many groups are open.
+/// Chooses what stands in the place of a run, if there is one, before this text, where so many groups are open.
 fn push_choice(
     choices: &mut Vec<White>,
     run: Run,
@@ -180,7 +180,7 @@ fn push_choice(
     Ok(())
 }
 
-// How many closers a line begins with.
+/// How many closers a line begins with.
 fn closers(line: &str) -> usize {
     let mut count: usize = 0;
     for c in line.chars() {
@@ -193,7 +193,7 @@ fn closers(line: &str) -> usize {
     count
 }
 
-// The white space at the front of a line on this level.
+/// The white space at the front of a line on this level.
 fn indentation(level: usize, step: Step) -> White {
     match step {
         Step::Tab => White::Lines {

@@ -74,7 +74,7 @@ pub fn where_clause_with_bound(
     Ok(quote.into_stream())
 }
 
-// Puts the predicates of a where clause at the end, and answers whether there are any.
+/// Puts the predicates of a where clause at the end, and answers whether there are any.
 pub(crate) fn push_where(
     quote: &mut Quote,
     alloc: Global,
@@ -106,7 +106,7 @@ fn push_predicate(quote: &mut Quote, predicate: &Predicate<'_>) -> Result<(), Al
     Ok(())
 }
 
-// Puts the bound on each parameter that is a type at the end, in a where clause that has some predicates or none.
+/// Puts the bound on each parameter that is a type at the end, in a where clause that has some predicates or none.
 fn push_bounds(
     quote: &mut Quote,
     alloc: Global,
@@ -129,7 +129,7 @@ fn push_bounds(
     Ok(())
 }
 
-// Puts the bound on a parameter at the end, if it is a type, and answers whether there are any predicates now.
+/// Puts the bound on a parameter at the end, if it is a type, and answers whether there are any predicates now.
 fn push_bound(
     quote: &mut Quote,
     alloc: Global,

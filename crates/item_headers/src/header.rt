@@ -54,7 +54,7 @@ pub fn impl_header_where(
     Ok(quote.into_stream())
 }
 
-// All before the where clause.
+/// All before the where clause.
 fn front(alloc: Global, item: &TypeItem<'_>, trait_path: &TokenStream) -> Result<Quote, HeaderError>
     ensures ok { IfOk result (λ quote. (params : List ParamTrees) × HasParams item.now.generics.now params
         × (quote ≡ front params item.now.name.now trait_path.now)) }

@@ -22,7 +22,7 @@ pub(crate) enum Lead {
     Where,
 }
 
-// Puts a mark that is Alone at the end.
+/// Puts a mark that is Alone at the end.
 pub(crate) fn push_mark(quote: &mut Quote, character: char) -> Result<(), AllocError>
     requires { IsTrue (is_mark character) }
     ensures { OnOk result (quote.new ≡ joined quote.old (mark character)) }
@@ -30,7 +30,7 @@ pub(crate) fn push_mark(quote: &mut Quote, character: char) -> Result<(), AllocE
     quote.push(TokenTree::Punct(Punct::new(character, Spacing::Alone)))
 }
 
-// Puts a word at the end.
+/// Puts a word at the end.
 pub(crate) fn push_word(quote: &mut Quote, alloc: Global, name: &str) -> Result<(), IdentError>
     ensures { OnOk result (quote.new ≡ joined quote.old (word (chars name.now))) }
 {
@@ -39,7 +39,7 @@ pub(crate) fn push_word(quote: &mut Quote, alloc: Global, name: &str) -> Result<
     Ok(())
 }
 
-// Puts copies of these trees at the end.
+/// Puts copies of these trees at the end.
 pub(crate) fn push_trees(quote: &mut Quote, trees: &[TokenTree]) -> Result<(), AllocError>
     ensures { OnOk result (quote.new ≡ joined quote.old (put trees.now)) }
 {
@@ -52,7 +52,7 @@ pub(crate) fn push_trees(quote: &mut Quote, trees: &[TokenTree]) -> Result<(), A
     Ok(())
 }
 
-// Puts `:` and copies of these trees at the end, if there are any.
+/// Puts `:` and copies of these trees at the end, if there are any.
 pub(crate) fn push_led(quote: &mut Quote, trees: &[TokenTree]) -> Result<(), AllocError>
     ensures { OnOk result (quote.new ≡ joined quote.old (led 58 trees.now)) }
 {
@@ -64,7 +64,7 @@ pub(crate) fn push_led(quote: &mut Quote, trees: &[TokenTree]) -> Result<(), All
     Ok(())
 }
 
-// Puts what stands before an element at the end: the first, or one after others.
+/// Puts what stands before an element at the end: the first, or one after others.
 pub(crate) fn push_lead(
     quote: &mut Quote,
     alloc: Global,
@@ -89,7 +89,7 @@ fn push_first_lead(quote: &mut Quote, alloc: Global, lead: Lead) -> Result<(), I
     }
 }
 
-// Puts `::<` at the end.
+/// Puts `::<` at the end.
 fn push_turbofish(quote: &mut Quote) -> Result<(), AllocError>
     ensures { OnOk result (quote.new ≡ joined quote.old (first_lead leads.Turbofish)) }
 {
@@ -99,7 +99,7 @@ fn push_turbofish(quote: &mut Quote) -> Result<(), AllocError>
     Ok(())
 }
 
-// Puts a `:` that is Joint at the end.
+/// Puts a `:` that is Joint at the end.
 fn push_joint_colon(quote: &mut Quote) -> Result<(), AllocError>
     ensures { OnOk result (quote.new ≡ joined quote.old (leaf (Mark 58 true) 0 0 nil)) }
 {

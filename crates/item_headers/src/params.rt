@@ -76,7 +76,7 @@ pub fn turbofish(alloc: Global, item: &TypeItem<'_>) -> Result<TokenStream, Head
     Ok(quote.into_stream())
 }
 
-// Puts the parameters at the end, in brackets.
+/// Puts the parameters at the end, in brackets.
 pub(crate) fn push_generics(
     quote: &mut Quote,
     alloc: Global,
@@ -117,7 +117,7 @@ fn push_param(
     }
 }
 
-// Puts all of a parameter but its default at the end.
+/// Puts all of a parameter but its default at the end.
 fn push_declared(quote: &mut Quote, alloc: Global, param: &Param<'_>) -> Result<(), IdentError>
     ensures { OnOk result (quote.new ≡ joined quote.old (param_in forms.Declared (param_trees param.now))) }
 {
@@ -127,7 +127,7 @@ fn push_declared(quote: &mut Quote, alloc: Global, param: &Param<'_>) -> Result<
     Ok(push_led(quote, param.bounds)?)
 }
 
-// Puts the keyword of a parameter at the end, if it has one.
+/// Puts the keyword of a parameter at the end, if it has one.
 fn push_keyword(quote: &mut Quote, alloc: Global, kind: ParamKind) -> Result<(), IdentError>
     ensures { OnOk result (quote.new ≡ joined quote.old (keyword kind)) }
 {

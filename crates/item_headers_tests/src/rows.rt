@@ -157,7 +157,7 @@ fn an_impl_has_the_parameters_of_its_type(rt: HostRuntime) -> Result<(), Fail> {
     Ok(())
 }
 
-// Of an item with the parameters and the where clause that are written the same is written again.
+/// Of an item with the parameters and the where clause that are written the same is written again.
 fn check_written_again(rt: &(impl Abort + AllocGlobal), row: Row) -> Result<(), Fail> {
     let text = format!(in rt.alloc(); "enum E {} {} {{}}", row.impl_generics, row.where_clause)?;
     let stream = TokenStream::from_str(&text, &mut SourceMap::new(rt.alloc()))?;
@@ -165,7 +165,7 @@ fn check_written_again(rt: &(impl Abort + AllocGlobal), row: Row) -> Result<(), 
     check_parts(rt, row, &item)
 }
 
-// With braces a header is one `impl`.
+/// With braces a header is one `impl`.
 fn check_impl(rt: &(impl Abort + AllocGlobal), row: Row, clause: &str) -> Result<(), Fail> {
     let header = header_text(rt.alloc(), row, clause)?;
     let text = format!(in rt.alloc(); "{header} {{}}")?;

@@ -17,7 +17,7 @@ pub enum LayoutError {
     Write(io::Error),
 }
 
-// What `==` compares.
+/// What `==` compares.
 #[derive(Clone, Copy, PartialEq, Eq)]
 enum Kind {
     NotWellSpaced,
@@ -26,7 +26,7 @@ enum Kind {
 }
 
 impl LayoutError {
-    // Its kind, and that of the writer's error.
+    /// Its kind, and that of the writer's error.
     fn kind(&self) -> Kind
         ensures { result ≡ kind_of self.now }
     {

@@ -54,8 +54,8 @@ pub trait Chooser {
         ensures { gap_gives self.old (choice_of place.entry result) self.new };
 }
 
-// The gap that is written where this one is chosen: none after a Joint mark, and a space where none is chosen and
-// the text that comes with the next step would go on with what stands before it.
+/// The gap that is written where this one is chosen: none after a Joint mark, and a space where none is chosen and
+/// the text that comes with the next step would go on with what stands before it.
 #[inline(always)]
 pub(crate) fn fitting(before: Option<Step<'_>>, chosen: Gap, next: Step<'_>) -> Gap
     ensures { result ≡ fitting (before_of before.entry) chosen (event_text (event_of (step_of next.entry)))
@@ -76,7 +76,7 @@ pub(crate) fn fitting(before: Option<Step<'_>>, chosen: Gap, next: Step<'_>) -> 
     Gap::Nothing
 }
 
-// Whether the step is past a literal of letters, digits and `_` alone.
+/// Whether the step is past a literal of letters, digits and `_` alone.
 fn is_plain(step: Step<'_>) -> bool
     ensures { result ≡ is_plain (event_of (step_of step.entry)) }
 {
@@ -86,14 +86,14 @@ fn is_plain(step: Step<'_>) -> bool
     }
 }
 
-// Whether an identifier may go on with each character.
+/// Whether an identifier may go on with each character.
 fn is_all_continue(text: &str) -> bool
     ensures { result ≡ list_all is_ident_continue (chars text.now) }
 {
     text.chars().all(|c| unicode_ident::is_xid_continue(c))
 }
 
-// Whether the step is past the first of the two dots of a range.
+/// Whether the step is past the first of the two dots of a range.
 fn begins_range(step: Step<'_>) -> bool
     ensures { result ≡ steps_range (step_of step.entry) }
 {
@@ -103,7 +103,7 @@ fn begins_range(step: Step<'_>) -> bool
     }
 }
 
-// Whether the tree is `.` Joint.
+/// Whether the tree is `.` Joint.
 fn is_joint_dot(tree: &TokenTree) -> bool
     ensures { result ≡ is_joint_dot tree.now }
 {
@@ -113,7 +113,7 @@ fn is_joint_dot(tree: &TokenTree) -> bool
     }
 }
 
-// Whether the first of the trees is `.`.
+/// Whether the first of the trees is `.`.
 fn is_dot_next(trees: &[TokenTree]) -> bool
     ensures { result ≡ is_dot_token (next_token (forest trees.now)) }
 {
@@ -123,7 +123,7 @@ fn is_dot_next(trees: &[TokenTree]) -> bool
     }
 }
 
-// Whether the step is past a Joint mark.
+/// Whether the step is past a Joint mark.
 #[inline(always)]
 fn is_joint(step: Step<'_>) -> bool
     ensures { result ≡ is_joint (event_of (step_of step.entry)) }
@@ -134,7 +134,7 @@ fn is_joint(step: Step<'_>) -> bool
     }
 }
 
-// Whether what the next step writes would go on with the token that the step is past.
+/// Whether what the next step writes would go on with the token that the step is past.
 #[inline(always)]
 fn goes_on(step: Step<'_>, next: Step<'_>) -> bool
     ensures { result ≡ goes_on (event_of (step_of step.entry)) (event_text (event_of (step_of next.entry))) }
@@ -153,7 +153,7 @@ fn goes_on(step: Step<'_>, next: Step<'_>) -> bool
     }
 }
 
-// The first character that the step writes.
+/// The first character that the step writes.
 #[inline(always)]
 fn first_of(step: Step<'_>) -> Option<char>
     ensures { result ≡ front_char (event_text (event_of (step_of step.entry))) }
@@ -165,7 +165,7 @@ fn first_of(step: Step<'_>) -> Option<char>
     }
 }
 
-// And that of a token, or of a group's opener.
+/// And that of a token, or of a group's opener.
 #[inline(always)]
 fn first_of_tree(tree: &TokenTree) -> Option<char>
     ensures { result ≡ front_char (event_text (tree_event tree.now)) }
@@ -179,14 +179,14 @@ fn first_of_tree(tree: &TokenTree) -> Option<char>
     }
 }
 
-// Whether the character, right after a name, would go on with it, or make a literal or a lifetime of it.
+/// Whether the character, right after a name, would go on with it, or make a literal or a lifetime of it.
 fn parts_name(c: char) -> bool
     ensures { result ≡ parts_name c }
 {
     unicode_ident::is_xid_continue(c) || c == '"' || c == '\'' || c == '#'
 }
 
-// Whether the character would go on with the literal of this text.
+/// Whether the character would go on with the literal of this text.
 fn parts_literal(text: &str, c: char) -> bool
     ensures { result ≡ parts_literal (chars text.now) c }
 {
@@ -197,7 +197,7 @@ fn parts_literal(text: &str, c: char) -> bool
     }
 }
 
-// Whether a digit begins the text.
+/// Whether a digit begins the text.
 fn begins_with_digit(text: &str) -> bool
     ensures { result ≡ first_passes is_ascii_digit (chars text.now) }
 {
@@ -207,7 +207,7 @@ fn begins_with_digit(text: &str) -> bool
     }
 }
 
-// Writes the gap.
+/// Writes the gap.
 #[inline(always)]
 pub(crate) fn push_gap(text: &mut TextBuilder, gap: Gap) -> Result<(), AllocError>
     ensures { OnOk result (text.new ≡ text.old ++ gap_text gap) }
@@ -227,7 +227,7 @@ pub(crate) fn push_gap(text: &mut TextBuilder, gap: Gap) -> Result<(), AllocErro
     }
 }
 
-// Writes so many spaces.
+/// Writes so many spaces.
 fn push_spaces(text: &mut TextBuilder, count: usize) -> Result<(), AllocError>
     ensures { OnOk result (text.new ≡ text.old ++ spaces count) }
 {
@@ -239,7 +239,7 @@ fn push_spaces(text: &mut TextBuilder, count: usize) -> Result<(), AllocError>
     text.push_text(few_spaces(left))
 }
 
-// Less than eight spaces.
+/// Less than eight spaces.
 fn few_spaces(count: usize) -> &'static str
     requires { count < 8 }
     ensures { result.now ≡ spaces count }

@@ -46,7 +46,7 @@ pub fn text_with<C: Chooser>(
     Ok(text)
 }
 
-// The tokens of a stream that is well spaced with the gaps that the chooser gives.
+/// The tokens of a stream that is well spaced with the gaps that the chooser gives.
 fn laid_out<C: Chooser>(
     stream: &TokenStream,
     chooser: &mut C,
@@ -82,7 +82,7 @@ fn laid_out<C: Chooser>(
     Ok(text.into_string())
 }
 
-// In how many groups a step is taken, where it comes in so many.
+/// In how many groups a step is taken, where it comes in so many.
 fn depth_at(depth: usize, step: Step<'_>) -> usize
     ensures { result ≡ depth_at depth (step_of step.entry) }
 {
@@ -92,7 +92,7 @@ fn depth_at(depth: usize, step: Step<'_>) -> usize
     }
 }
 
-// In how many the next one is.
+/// In how many the next one is.
 fn depth_past(depth: usize, step: Step<'_>) -> usize
     ensures { result ≡ depth_past depth (step_of step.entry) }
 {
@@ -103,7 +103,7 @@ fn depth_past(depth: usize, step: Step<'_>) -> usize
     }
 }
 
-// Writes the token, opener or closer.
+/// Writes the token, opener or closer.
 #[inline(always)]
 fn push_step(text: &mut TextBuilder, step: Step<'_>) -> Result<(), AllocError>
     ensures { OnOk result (text.new ≡ text.old ++ event_text (event_of (step_of step.entry))) }
@@ -115,7 +115,7 @@ fn push_step(text: &mut TextBuilder, step: Step<'_>) -> Result<(), AllocError>
     }
 }
 
-// Writes the token, or the group's opener. What a token owns is copied from where it stands.
+/// Writes the token, or the group's opener. What a token owns is copied from where it stands.
 #[inline(always)]
 fn push_tree(text: &mut TextBuilder, tree: &TokenTree) -> Result<(), AllocError>
     ensures { OnOk result (text.new ≡ text.old ++ event_text (tree_event tree.now)) }
@@ -128,7 +128,7 @@ fn push_tree(text: &mut TextBuilder, tree: &TokenTree) -> Result<(), AllocError>
     }
 }
 
-// Writes the identifier.
+/// Writes the identifier.
 #[inline(always)]
 fn push_name(text: &mut TextBuilder, ident: &Ident) -> Result<(), AllocError>
     ensures { OnOk result (text.new ≡ text.old ++ token_text (name_token ident.now)) }
@@ -140,7 +140,7 @@ fn push_name(text: &mut TextBuilder, ident: &Ident) -> Result<(), AllocError>
     text.push_text(name_of(ident))
 }
 
-// Writes the mark of a delimiter, if it has one.
+/// Writes the mark of a delimiter, if it has one.
 #[inline(always)]
 fn push_mark(text: &mut TextBuilder, mark: Option<char>) -> Result<(), AllocError>
     ensures { OnOk result (text.new ≡ text.old ++ option_list mark) }
@@ -151,7 +151,7 @@ fn push_mark(text: &mut TextBuilder, mark: Option<char>) -> Result<(), AllocErro
     }
 }
 
-// The mark that opens a group.
+/// The mark that opens a group.
 pub(crate) fn opener(delimiter: Delimiter) -> Option<char>
     ensures text { option_list result ≡ opening delimiter }
     ensures first { result ≡ front_char (opening delimiter) }
@@ -164,7 +164,7 @@ pub(crate) fn opener(delimiter: Delimiter) -> Option<char>
     }
 }
 
-// And that closes it.
+/// And that closes it.
 pub(crate) fn closer(delimiter: Delimiter) -> Option<char>
     ensures text { option_list result ≡ closing delimiter }
     ensures first { result ≡ front_char (closing delimiter) }

@@ -63,7 +63,7 @@ pub fn continues_identifier(c: char) -> bool
     unicode_ident::is_xid_continue(c)
 }
 
-// What each byte begins, in words that make the table below a square.
+/// What each byte begins, in words that make the table below a square.
 const WHITE: PieceStart = PieceStart::White;
 
 const LETTER: PieceStart = PieceStart::Letter;

@@ -110,7 +110,7 @@ impl<'a> PieceWalk<'a> {
         }
     }
 
-    // Passes the white characters at the front of the rest, and answers their text.
+    /// Passes the white characters at the front of the rest, and answers their text.
     #[inline(always)]
     fn pass_white(&mut self) -> &'a str
         ensures { PassesWhite self.old result.now self.new }

@@ -40,8 +40,8 @@ impl<'a> State<'a> {
     }
 }
 
-// What was read when the tree is read after a doc comment. A keyword is waited for until a `:`, as after a field's
-// name.
+/// What was read when the tree is read after a doc comment. A keyword is waited for until a `:`, as after a field's
+/// name.
 fn after_doc(tree: &TokenTree) -> State<'_>
     ensures { seen result ≡ after_doc tree.now }
 {
@@ -52,7 +52,7 @@ fn after_doc(tree: &TokenTree) -> State<'_>
     }
 }
 
-// Whether the tree is this mark.
+/// Whether the tree is this mark.
 fn is_mark(tree: &TokenTree, mark: char) -> bool
     ensures { result ≡ is_mark mark tree.now }
 {
@@ -62,7 +62,7 @@ fn is_mark(tree: &TokenTree, mark: char) -> bool
     }
 }
 
-// Whether the name of an item stands right after it.
+/// Whether the name of an item stands right after it.
 fn is_keyword(name: &Ident) -> bool
     ensures { result ≡ is_keyword name.now }
 {

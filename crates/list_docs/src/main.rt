@@ -29,13 +29,13 @@ fn main(rt: HostRuntime) -> ExitCode {
     }
 }
 
-// The path that the words after the program's name ask for.
+/// The path that the words after the program's name ask for.
 fn asked(rt: &HostRuntime) -> Result<String, Failure> {
     let words = words(rt.alloc(), env::args(rt), USAGE)?;
     path(rt.alloc(), words.as_slice(), USAGE)
 }
 
-// Prints the doc comments of the text at the path.
+/// Prints the doc comments of the text at the path.
 fn run(rt: &HostRuntime, path: &str) -> Result<(), Failure> {
     let text = read_text(rt, path)?;
     let mut writer = BufWriter::new(rt.alloc(), rt.stdout())?;

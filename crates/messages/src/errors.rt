@@ -81,7 +81,7 @@ impl From<AllocError> for Failure {
     }
 }
 
-// Whether memory ran out.
+/// Whether memory ran out.
 fn is_memory(kind: io::ErrorKind) -> bool
     ensures { result ≡ is_memory kind }
 {

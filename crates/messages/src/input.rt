@@ -32,7 +32,7 @@ pub fn words(
     }
 }
 
-// Whether arguments weren't had since they are no text.
+/// Whether arguments weren't had since they are no text.
 fn is_no_text(kind: io::ErrorKind) -> bool
     ensures { result ≡ is_no_text kind }
 {
@@ -65,7 +65,7 @@ pub fn read_text(rt: &HostRuntime, path: &str) -> Result<String, Failure> {
     }
 }
 
-// All that the reader has left, as a text.
+/// All that the reader has left, as a text.
 fn text_of<R: Read + Drop>(alloc: Global, mut reader: R) -> Result<String, Failure>
     ensures { IfSome (R.remaining reader) (λ bytes. IsTextOf bytes result) }
 {
@@ -76,7 +76,7 @@ fn text_of<R: Read + Drop>(alloc: Global, mut reader: R) -> Result<String, Failu
     }
 }
 
-// The bytes as a text.
+/// The bytes as a text.
 fn decoded(bytes: Vec<u8>) -> Result<String, Failure>
     ensures { IsTextOf bytes.items result }
 {

@@ -69,7 +69,7 @@ pub fn say<E: Write>(alloc: Global, path: &str, failure: &Failure, errors: &mut 
     }
 }
 
-// What is said of a text's fault.
+/// What is said of a text's fault.
 const FAULT: &str = "no token stands here, or a delimiter has no match";
 
 /// Says on `errors` what is wrong at this line and column of the file at this path: `FILE:L:C: error: what`, line and
@@ -97,7 +97,7 @@ pub fn say_of<D: Display + Drop, E: Write>(path: &str, what: D, errors: &mut E) 
     writeln!(errors, "{path}: error: {what}")
 }
 
-// Whether nobody reads the pipe any more.
+/// Whether nobody reads the pipe any more.
 fn is_closed(kind: io::ErrorKind) -> bool
     ensures { result ≡ is_closed kind }
 {

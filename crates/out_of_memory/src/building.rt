@@ -34,7 +34,7 @@ pub fn trees(alloc: Global) -> Result<[TokenTree; 3], Fail> {
     ])
 }
 
-// The stream of `x` and `(y)`.
+/// The stream of `x` and `(y)`.
 fn x_and_group(alloc: Global) -> Result<TokenStream, Fail> {
     let trees = [
         TokenTree::Ident(ident(alloc, "x")?),
@@ -116,7 +116,7 @@ pub fn run_extend<W: Write>(
     Ok(())
 }
 
-// A stream of `a`, `+` and `b`, whose list has room for another tree, has none, or is shared by the second stream.
+/// A stream of `a`, `+` and `b`, whose list has room for another tree, has none, or is shared by the second stream.
 fn old_streams(alloc: Global, input: &str) -> Result<(TokenStream, TokenStream), Fail> {
     let mut map = SourceMap::new(alloc);
     match input {
@@ -137,7 +137,7 @@ fn old_streams(alloc: Global, input: &str) -> Result<(TokenStream, TokenStream),
     }
 }
 
-// The stream of the group that the stream begins with.
+/// The stream of the group that the stream begins with.
 fn first_inside(alloc: Global, stream: &TokenStream) -> Result<TokenStream, AllocError> {
     match stream.trees().first() {
         Some(TokenTree::Group(group)) => group.stream(),

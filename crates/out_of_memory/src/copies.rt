@@ -47,7 +47,7 @@ fn copy_stream<W: Write>(out: &mut W, stream: &TokenStream) -> Result<(), Fail> 
     show(out, copy)
 }
 
-// Copies the stream after `x`, `-3i32` and `(y)` were put into it.
+/// Copies the stream after `x`, `-3i32` and `(y)` were put into it.
 fn copy_extended<W: Write>(
     alloc: Global,
     out: &mut W,
@@ -58,13 +58,13 @@ fn copy_extended<W: Write>(
     show_stream(out, &stream)
 }
 
-// Copies the literal `-3i32`.
+/// Copies the literal `-3i32`.
 fn copy_minus_three<W: Write>(alloc: Global, out: &mut W) -> Result<(), Fail> {
     let tree = TokenTree::Literal(minus_three(alloc)?);
     copy_one(out, &tree)
 }
 
-// Copies the first tree.
+/// Copies the first tree.
 fn copy_tree<W: Write>(out: &mut W, stream: &TokenStream) -> Result<(), Fail> {
     let Some(tree) = stream.trees().first() else {
         return Err(Fail::NoCase);
@@ -78,7 +78,7 @@ fn copy_one<W: Write>(out: &mut W, tree: &TokenTree) -> Result<(), Fail> {
     show(out, copy)
 }
 
-// Asks the first tree, a group, for its stream.
+/// Asks the first tree, a group, for its stream.
 fn copy_inside<W: Write>(out: &mut W, stream: &TokenStream) -> Result<(), Fail> {
     let Some(TokenTree::Group(group)) = stream.trees().first() else {
         return Err(Fail::NoCase);
@@ -92,7 +92,7 @@ fn take_trees<W: Write>(out: &mut W, stream: TokenStream) -> Result<(), Fail> {
     show(out, stream.into_iter())
 }
 
-// Copies the iterator over the trees after the first.
+/// Copies the iterator over the trees after the first.
 fn copy_iterator<W: Write>(out: &mut W, stream: TokenStream) -> Result<(), Fail> {
     let mut trees = stream.into_iter()?;
     let _ = trees.next();

@@ -29,7 +29,7 @@ pub fn run<W: Write>(alloc: Global, out: &mut W, call: &str, text: &str) -> Resu
     Ok(())
 }
 
-// Writes the line after a call, and the text of its stream or its error.
+/// Writes the line after a call, and the text of its stream or its error.
 fn print<W: Write, E: Debug + Drop>(
     out: &mut W,
     answer: Result<TokenStream, E>,

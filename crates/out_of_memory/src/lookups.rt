@@ -71,7 +71,7 @@ fn show_texts<W: Write>(
     show(out, texts)
 }
 
-// 0..0, and the spans of the trees of the text, which becomes a file of the map.
+/// 0..0, and the spans of the trees of the text, which becomes a file of the map.
 fn spans_of(alloc: Global, text: &str, map: &mut SourceMap) -> Result<Vec<Span>, Fail> {
     let mut spans = Vec::new(alloc);
     spans.push(Span::call_site())?;
@@ -81,7 +81,7 @@ fn spans_of(alloc: Global, text: &str, map: &mut SourceMap) -> Result<Vec<Span>,
     Ok(spans)
 }
 
-// There is room for the answers, so only a look-up takes memory here and in the like of it.
+/// There is room for the answers, so only a look-up takes memory here and in the like of it.
 fn ask_files(
     map: &SourceMap,
     spans: &[Span],

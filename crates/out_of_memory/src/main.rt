@@ -39,7 +39,7 @@ fn main(rt: HostRuntime) -> Result<(), Fail> {
     }
 }
 
-// Runs the case.
+/// Runs the case.
 fn run<W: Write>(
     alloc: Global,
     out: &mut W,

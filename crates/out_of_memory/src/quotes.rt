@@ -81,7 +81,7 @@ fn finish<W: Write>(out: &mut W, quote: &Quote) -> Result<(), Fail> {
     show(out, quote.finish())
 }
 
-// A quote that shares its trees with no stream, and whose list has no room.
+/// A quote that shares its trees with no stream, and whose list has no room.
 fn x_and_group(alloc: Global) -> Result<Quote, Fail> {
     let plus = TokenTree::Punct(Punct::new('+', Spacing::Joint));
     let inside = TokenStream::from_trees(alloc, [plus, name(alloc, "y")?])?;

@@ -44,7 +44,7 @@ fn print_stream<W: Write>(alloc: Global, out: &mut W, stream: &TokenStream) -> R
     show(out, text)
 }
 
-// Writes the stream, its first tree, and that tree where it is a group, into texts that have room for them.
+/// Writes the stream, its first tree, and that tree where it is a group, into texts that have room for them.
 fn write_all<W: Write>(alloc: Global, out: &mut W, stream: &TokenStream) -> Result<(), Fail> {
     let [tree, ..] = stream.trees() else {
         return Err(Fail::NoCase);
@@ -62,7 +62,7 @@ fn write_all<W: Write>(alloc: Global, out: &mut W, stream: &TokenStream) -> Resu
     show(out, (answers, texts))
 }
 
-// Writes the value after the text, and answers whether that succeeded.
+/// Writes the value after the text, and answers whether that succeeded.
 fn is_written<D: Display>(text: &mut String, value: &D) -> bool {
     write!(text, "{value}").is_ok()
 }
@@ -82,8 +82,8 @@ fn show_walk<W: Write>(alloc: Global, out: &mut W, stream: &TokenStream) -> Resu
     Ok(())
 }
 
-// Walks over the stream and puts its trees into the list, which has room for them. A step that fails is taken
-// again. Answers how many were.
+/// Walks over the stream and puts its trees into the list, which has room for them. A step that fails is taken
+/// again. Answers how many were.
 fn walk<'a>(stream: &'a TokenStream, trees: &mut Vec<&'a TokenTree>) -> Result<usize, AllocError> {
     let mut walk = stream.walk();
     let mut failures = 0;

@@ -69,7 +69,7 @@ pub fn show_map<W: Write>(out: &mut W, map: &SourceMap) -> io::Result<()> {
     Ok(())
 }
 
-// Writes the span and its text.
+/// Writes the span and its text.
 fn show_file<W: Write>(out: &mut W, map: &SourceMap, span: Span) -> io::Result<()> {
     if map.holds(span) {
         let text = span.source_str(map);

@@ -58,7 +58,7 @@ pub fn lines_of(
     }
 }
 
-// The map of this text alone.
+/// The map of this text alone.
 fn map_of(alloc: Global, text: &str) -> Result<SourceMap, Failure>
     ensures ok { IfOk result (λ map. map ≡ with_file new_map (chars text.now)) }
     ensures err { IfErr result (MayFail (chars text.now) None None) }
@@ -71,7 +71,7 @@ fn map_of(alloc: Global, text: &str) -> Result<SourceMap, Failure>
     Ok(map)
 }
 
-// The same of a text that has too many bytes or tokens for a buffer: all of its trees are made.
+/// The same of a text that has too many bytes or tokens for a buffer: all of its trees are made.
 fn lines_by_trees(
     alloc: Global,
     form: Form,
@@ -94,7 +94,7 @@ fn lines_by_trees(
     }
 }
 
-// The lines of these entries of the map's one text.
+/// The lines of these entries of the map's one text.
 fn all_lines(
     alloc: Global,
     form: Form,
@@ -139,7 +139,7 @@ pub fn entry_line(
 }
 
 impl<'a> Entry<'a> {
-    // It under this name or header, where it begins.
+    /// It under this name or header, where it begins.
     fn shown<'b>(&self, name: &'b str, start: LineColumn) -> Shown<'b>
         ensures { seen_line result ≡ record {
           depth = self.now.depth;
@@ -159,7 +159,7 @@ impl<'a> Entry<'a> {
     }
 }
 
-// The name as it is written.
+/// The name as it is written.
 fn spelled(alloc: Global, name: &Ident) -> Result<String, AllocError>
     ensures { IfOk result (λ out. string_bytes out ≡ spelling name.now) }
 {
@@ -168,7 +168,7 @@ fn spelled(alloc: Global, name: &Ident) -> Result<String, AllocError>
     Ok(out)
 }
 
-// The text from the first tree of the entry's header through the one before the last.
+/// The text from the first tree of the entry's header through the one before the last.
 fn header_of<'a>(entry: &Entry<'_>, map: &'a SourceMap) -> &'a str
     ensures { (text : List ℕ) → map.now ≡ with_file new_map text → chars result.now
         ≡ through text (first_of entry.now.header.now) (last_of entry.now.header.now) }
@@ -176,7 +176,7 @@ fn header_of<'a>(entry: &Entry<'_>, map: &'a SourceMap) -> &'a str
     through(first_of(entry.header), last_of(entry.header), map)
 }
 
-// The text from the one span through the other.
+/// The text from the one span through the other.
 fn through(from: Span, to: Span, map: &SourceMap) -> &str
     ensures { (text : List ℕ) → map.now ≡ with_file new_map text → chars result.now ≡ through text from to }
 {
@@ -192,7 +192,7 @@ fn through(from: Span, to: Span, map: &SourceMap) -> &str
     }
 }
 
-// Where the span begins, if the map holds it.
+/// Where the span begins, if the map holds it.
 fn start_of(span: Span, map: &SourceMap) -> LineColumn
     ensures { (text : List ℕ) → map.now ≡ with_file new_map text → result ≡ place_in text span }
 {
@@ -204,14 +204,14 @@ fn start_of(span: Span, map: &SourceMap) -> LineColumn
 }
 
 impl Stop {
-    // What is said of it.
+    /// What is said of it.
     fn unlisted(self, map: &SourceMap) -> Unlisted {
         let fault = self.fault;
         let start = self.place(map);
         Unlisted { start, fault }
     }
 
-    // Where the fault stands: at its tree, or after the last one.
+    /// Where the fault stands: at its tree, or after the last one.
     fn place(self, map: &SourceMap) -> LineColumn {
         if let Some(span) = self.fault.span {
             return start_of(span, map);
@@ -223,7 +223,7 @@ impl Stop {
     }
 }
 
-// Where the span ends, if the map holds it.
+/// Where the span ends, if the map holds it.
 fn end_of(span: Span, map: &SourceMap) -> LineColumn {
     if map.holds(span) {
         span.end(map)

@@ -82,7 +82,7 @@ pub fn entries<'a>(
     Err(AllocError)
 }
 
-// Puts in an entry that is listed.
+/// Puts in an entry that is listed.
 fn push_listed<'a>(entries: &mut Vec<Entry<'a>>, entry: Entry<'a>) -> Result<(), AllocError>
     ensures { OnOk result (map seen entries.new.items ≡ map seen entries.old.items
         ++ listed (is_listed entry.entry.kind (option_copied entry.entry.name)) (seen entry.entry)) }
@@ -103,7 +103,7 @@ pub fn is_listed(entry: &Entry<'_>) -> bool
     }
 }
 
-// The items after the inner attributes.
+/// The items after the inner attributes.
 fn items_of(trees: &[TokenTree]) -> Result<Items<'_>, Stop>
     ensures ok { IfOk result (λ items. (inner : List Tree)
         × Reads AreInnerAttributes trees.now inner items.left.now) }
@@ -116,7 +116,7 @@ fn items_of(trees: &[TokenTree]) -> Result<Items<'_>, Stop>
     }
 }
 
-// The entry of an item that is in so many, and the items in it.
+/// The entry of an item that is in so many, and the items in it.
 fn open_item<'a>(depth: usize, item: &AnyItem<'a>) -> Result<(Entry<'a>, Items<'a>), Stop>
     ensures ok { IfOk result (λ found. Opens depth item.now found.0 found.1) }
     ensures none { IfErr result (λ stop. NeverOpens item.now) }
@@ -131,7 +131,7 @@ fn open_item<'a>(depth: usize, item: &AnyItem<'a>) -> Result<(Entry<'a>, Items<'
     }
 }
 
-// The items in an item.
+/// The items in an item.
 fn items_in<'a>(item: &AnyItem<'a>) -> Result<Items<'a>, Stop>
     ensures ok { IfOk result (λ inside. AreInside (body_of item.now.kind item.now.trees.now) inside.left.now) }
     ensures none { IfErr result (λ stop. (items : List Tree)

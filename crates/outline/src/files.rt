@@ -42,7 +42,7 @@ pub fn list_files<W: Write, E: Write>(
     }
 }
 
-// Writes the lines of each file.
+/// Writes the lines of each file.
 fn list_each<W: Write, E: Write>(
     rt: &HostRuntime,
     form: Form,
@@ -64,7 +64,7 @@ fn list_each<W: Write, E: Write>(
     Ok(worst)
 }
 
-// Writes a `tags` file of the lines of all files.
+/// Writes a `tags` file of the lines of all files.
 fn list_tags<W: Write, E: Write>(
     rt: &HostRuntime,
     paths: &[String],
@@ -87,8 +87,8 @@ fn list_tags<W: Write, E: Write>(
     Ok(worst)
 }
 
-// Lists the file at this path. Where it isn't listed it has no lines, and `errors` says why; a message that can't be
-// written changes nothing.
+/// Lists the file at this path. Where it isn't listed it has no lines, and `errors` says why; a message that can't be
+/// written changes nothing.
 fn list_file<E: Write>(rt: &HostRuntime, form: Form, path: &str, errors: &mut E) -> Listed
     ensures { IsOf form path.now (outcome_of result) }
 {
@@ -111,7 +111,7 @@ fn list_file<E: Write>(rt: &HostRuntime, form: Form, path: &str, errors: &mut E)
     }
 }
 
-// The lines of the declarations in the text at the path.
+/// The lines of the declarations in the text at the path.
 fn file_lines(
     rt: &HostRuntime,
     form: Form,

@@ -84,7 +84,7 @@ pub fn lines_in(
     Err(AllocError)
 }
 
-// Puts in a line, if there is one.
+/// Puts in a line, if there is one.
 fn push_line(lines: &mut Vec<String>, line: Option<String>) -> Result<(), AllocError>
     ensures { OnOk result (mapped string_bytes lines.new.items ≡ mapped string_bytes lines.old.items
         ++ option_to_list (option_map string_bytes line)) }
@@ -95,7 +95,7 @@ fn push_line(lines: &mut Vec<String>, line: Option<String>) -> Result<(), AllocE
     Ok(())
 }
 
-// The items after the inner attributes.
+/// The items after the inner attributes.
 fn level_of(alloc: Global, whole: Cursor<'_>) -> Result<Result<Level<'_>, Stop>, AllocError>
     ensures ok { IfOk result (λ found. IfOk found (λ level. (inner : List Tree)
         × Reads AreInnerAttributes (trees_left whole.entry) inner (level_left level))) }
@@ -111,7 +111,7 @@ fn level_of(alloc: Global, whole: Cursor<'_>) -> Result<Result<Level<'_>, Stop>,
     Ok(Ok(Level { trees, at, rest }))
 }
 
-// The items in the group that comes first.
+/// The items in the group that comes first.
 fn inside_of(alloc: Global, body: Cursor<'_>) -> Result<Result<Level<'_>, Stop>, AllocError>
     requires { (group : Grouped) × BeginsWith body group }
     ensures ok { IfOk result (λ found. IfOk found (λ level. (group : Grouped) → BeginsWith body.entry group
@@ -125,7 +125,7 @@ fn inside_of(alloc: Global, body: Cursor<'_>) -> Result<Result<Level<'_>, Stop>,
     }
 }
 
-// What is left after so many trees.
+/// What is left after so many trees.
 fn past(cursor: Cursor<'_>, count: usize) -> Cursor<'_>
     ensures { trees_left result ≡ drop count (trees_left cursor.entry) }
 {
@@ -139,7 +139,7 @@ fn past(cursor: Cursor<'_>, count: usize) -> Cursor<'_>
     here
 }
 
-// The level after so many of its trees, with the last of which the cursor begins.
+/// The level after so many of its trees, with the last of which the cursor begins.
 fn passed<'a>(level: Level<'a>, count: usize, last: Cursor<'a>) -> Level<'a>
     requires within { level.at + count ≤ length level.trees.items }
     requires some { 0 < count }
@@ -154,7 +154,7 @@ fn passed<'a>(level: Level<'a>, count: usize, last: Cursor<'a>) -> Level<'a>
     }
 }
 
-// The first of the items that are left of a level, which are in so many.
+/// The first of the items that are left of a level, which are in so many.
 fn step_of(
     alloc: Global,
     form: Form,
@@ -184,7 +184,7 @@ fn step_of(
     }))
 }
 
-// The line of an entry of the map's one text, if it is listed.
+/// The line of an entry of the map's one text, if it is listed.
 fn listed_line(
     alloc: Global,
     form: Form,

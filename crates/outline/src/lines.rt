@@ -41,7 +41,7 @@ pub fn line_of(
     }
 }
 
-// `FILE:L:C: fn name`, the line and the column from 1.
+/// `FILE:L:C: fn name`, the line and the column from 1.
 fn plain(alloc: Global, path: &str, shown: Shown<'_>) -> Result<String, AllocError>
     ensures { IfOk result (λ out. string_bytes out ≡ plain path.now (seen shown.entry)) }
 {
@@ -55,7 +55,7 @@ fn plain(alloc: Global, path: &str, shown: Shown<'_>) -> Result<String, AllocErr
     Ok(out)
 }
 
-// An object of JSON.
+/// An object of JSON.
 fn json(alloc: Global, path: &str, shown: Shown<'_>) -> Result<String, AllocError>
     ensures { IfOk result (λ out. string_bytes out ≡ json path.now (seen shown.entry)) }
 {
@@ -75,7 +75,7 @@ fn json(alloc: Global, path: &str, shown: Shown<'_>) -> Result<String, AllocErro
     Ok(out)
 }
 
-// A line of a `tags` file.
+/// A line of a `tags` file.
 fn tag(alloc: Global, path: &str, shown: Shown<'_>) -> Result<String, AllocError>
     ensures { IfOk result (λ out. string_bytes out ≡ tag path.now (seen shown.entry)) }
 {
@@ -87,7 +87,7 @@ fn tag(alloc: Global, path: &str, shown: Shown<'_>) -> Result<String, AllocError
     Ok(out)
 }
 
-// Appends two spaces for each level, of 32 at most.
+/// Appends two spaces for each level, of 32 at most.
 fn push_indent(out: &mut String, depth: usize) -> Result<(), AllocError>
     ensures { OnOk result (string_bytes out.new ≡ string_bytes out.old ++ indent depth) }
 {
@@ -97,7 +97,7 @@ fn push_indent(out: &mut String, depth: usize) -> Result<(), AllocError>
     Ok(())
 }
 
-// Appends what is declared: the word and the name, or the header.
+/// Appends what is declared: the word and the name, or the header.
 fn push_title(out: &mut String, shown: Shown<'_>) -> Result<(), AllocError>
     ensures { OnOk result (string_bytes out.new ≡ string_bytes out.old ++ title (seen shown.entry)) }
 {

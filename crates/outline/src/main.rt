@@ -39,7 +39,7 @@ fn main(rt: HostRuntime) -> ExitCode {
     }
 }
 
-// Lists what the words after the program's name ask for, and answers the status.
+/// Lists what the words after the program's name ask for, and answers the status.
 fn run(rt: &HostRuntime) -> Result<u8, Failure> {
     let words = words(rt.alloc(), env::args(rt), USAGE)?;
     let options = options_of(rt.alloc(), words.as_slice())?;

@@ -42,7 +42,7 @@ pub fn one_line(alloc: Global, text: &str) -> Result<String, AllocError>
     Ok(out)
 }
 
-// Appends a character, after a space where a gap is before it, unless it is part of one.
+/// Appends a character, after a space where a gap is before it, unless it is part of one.
 fn push_in_line(out: &mut String, gap: bool, c: char) -> Result<(), AllocError>
     ensures { OnOk result (string_bytes out.new ≡ string_bytes out.old ++ in_line gap c) }
 {

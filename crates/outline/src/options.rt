@@ -29,7 +29,7 @@ pub struct Options {
     pub paths: Vec<String>,
 }
 
-// What a word says.
+/// What a word says.
 #[derive(Clone, Copy, Debug, PartialEq, Eq)]
 enum Word {
     Json,
@@ -59,7 +59,7 @@ pub fn options_of(alloc: Global, words: &[String]) -> Result<Options, Failure>
     Ok(options)
 }
 
-// What the word says.
+/// What the word says.
 fn word_of(word: &str) -> Word
     ensures { result ≡ word_of word.now }
 {
@@ -70,7 +70,7 @@ fn word_of(word: &str) -> Word
     }
 }
 
-// The same of a word that is no option that is known.
+/// The same of a word that is no option that is known.
 fn other_word(word: &str) -> Word
     ensures { result ≡ other_word word.now }
 {
@@ -82,7 +82,7 @@ fn other_word(word: &str) -> Word
 }
 
 impl Options {
-    // What is asked for before any word.
+    /// What is asked for before any word.
     fn new(alloc: Global) -> Options
         ensures { wishes_of result ≡ no_wish }
     {
@@ -92,7 +92,7 @@ impl Options {
         }
     }
 
-    // Takes a word.
+    /// Takes a word.
     fn take(&mut self, alloc: Global, known: Word, word: &str) -> Result<(), AllocError>
         ensures { OnOk result (wishes_of self.new ≡ with_word known word.now (wishes_of self.old)) }
     {
@@ -105,7 +105,7 @@ impl Options {
         Ok(())
     }
 
-    // Standard input is read where no file is named.
+    /// Standard input is read where no file is named.
     fn read_input_at_least(&mut self, alloc: Global) -> Result<(), AllocError>
         ensures { OnOk result (wishes_of self.new ≡ or_input (wishes_of self.old)) }
     {
@@ -115,7 +115,7 @@ impl Options {
         Ok(())
     }
 
-    // Appends a path.
+    /// Appends a path.
     fn push_path(&mut self, alloc: Global, path: &str) -> Result<(), AllocError>
         ensures { OnOk result (wishes_of self.new ≡ with_word Word.Path path.now (wishes_of self.old)) }
     {

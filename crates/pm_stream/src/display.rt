@@ -51,7 +51,7 @@ fn print_trees<W: fmt::Write>(
     }
 }
 
-// What is printed of one step, with a space before it if gap. Then gap is whether one goes before what comes after it.
+/// What is printed of one step, with a space before it if gap. Then gap is whether one goes before what comes after it.
 #[inline(always)]
 fn print_step<W: fmt::Write>(
     step: Step<'_>,
@@ -87,7 +87,7 @@ fn print_space<W: fmt::Write>(gap: bool, f: &mut fmt::Formatter<W>) -> fmt::Resu
     if gap { f.write_str(" ") } else { Ok(()) }
 }
 
-// A token, or what a group begins with.
+/// A token, or what a group begins with.
 fn print_front<W: fmt::Write>(tree: &TokenTree, f: &mut fmt::Formatter<W>) -> fmt::Result
     ensures { WritesOnOk W.write_str_gives f.old result
         (encode_utf8_all (front_text tree.now)) f.new }
@@ -100,7 +100,7 @@ fn print_front<W: fmt::Write>(tree: &TokenTree, f: &mut fmt::Formatter<W>) -> fm
     }
 }
 
-// What a group begins with.
+/// What a group begins with.
 fn print_opening<W: fmt::Write>(delimiter: Delimiter, f: &mut fmt::Formatter<W>) -> fmt::Result
     ensures { WritesOnOk W.write_str_gives f.old result
         (encode_utf8_all (opening delimiter)) f.new }
@@ -108,7 +108,7 @@ fn print_opening<W: fmt::Write>(delimiter: Delimiter, f: &mut fmt::Formatter<W>)
     f.write_str(opener(delimiter))
 }
 
-// What a group ends with, and in a Brace the space before it.
+/// What a group ends with, and in a Brace the space before it.
 fn print_ending<W: fmt::Write>(delimiter: Delimiter, f: &mut fmt::Formatter<W>) -> fmt::Result
     ensures { WritesOnOk W.write_str_gives f.old result (encode_utf8_all (ending delimiter)) f.new }
 {
@@ -143,7 +143,7 @@ pub(crate) fn is_brace(delimiter: Delimiter) -> bool
     delimiter == Delimiter::Brace
 }
 
-// Whether a space goes before what is printed next, within a group or after a token.
+/// Whether a space goes before what is printed next, within a group or after a token.
 fn gap_within(tree: &TokenTree) -> bool
     ensures { result ≡ gap_within tree.now }
 {

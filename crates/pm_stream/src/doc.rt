@@ -54,7 +54,7 @@ impl Group {
     }
 }
 
-// The literal of the three trees `doc`, `=` Alone and a literal, and `None` of others.
+/// The literal of the three trees `doc`, `=` Alone and a literal, and `None` of others.
 fn doc_in(trees: &[TokenTree]) -> Option<&Literal>
     ensures value { option_copied result ≡ doc_in Bracket trees.now }
     ensures trees { IfSome result (λ literal. (n : Name) × (m : Mark)
@@ -76,14 +76,14 @@ fn doc_in(trees: &[TokenTree]) -> Option<&Literal>
     }
 }
 
-// Whether it is the identifier `doc`.
+/// Whether it is the identifier `doc`.
 fn is_doc(name: &Ident) -> bool
     ensures { result ≡ is_doc name.now }
 {
     name.eq_str("doc")
 }
 
-// Whether it is the mark `=` Alone.
+/// Whether it is the mark `=` Alone.
 fn is_equals(mark: &Punct) -> bool
     ensures { result ≡ is_equals mark.now }
 {

@@ -13,7 +13,7 @@ use crate::stream::{TokenStream, TokenTree};
 use pm_token::{Literal, Punct};
 use std::alloc::Global;
 
-// Two lists of trees that are to be compared.
+/// Two lists of trees that are to be compared.
 #[derive(Clone, Copy)]
 struct Lists<'a> {
     trees: &'a [TokenTree],
@@ -36,7 +36,7 @@ impl TokenStream {
     }
 }
 
-// Whether these trees are those of the other list, up to spans.
+/// Whether these trees are those of the other list, up to spans.
 fn are_same(alloc: Global, trees: &[TokenTree], others: &[TokenTree]) -> bool
     ensures { IsTrue result ↔ Same (forest trees.now) (forest others.now) }
 {
@@ -76,7 +76,7 @@ fn are_same(alloc: Global, trees: &[TokenTree], others: &[TokenTree]) -> bool
     }
 }
 
-// Whether both are the same token, or groups with the same delimiter.
+/// Whether both are the same token, or groups with the same delimiter.
 fn begin_alike(tree: &TokenTree, other: &TokenTree) -> bool
     ensures { IsTrue result ↔ first_event tree.now ≡ first_event other.now }
 {

@@ -119,7 +119,7 @@ impl Drop for TokenStream {
     }
 }
 
-// The last group of a list that has no other owner. The tokens after it are dropped.
+/// The last group of a list that has no other owner. The tokens after it are dropped.
 #[inline(always)]
 fn take_group(shared: &mut Rc<Vec<TokenTree>>) -> Option<Group>
     ensures { TakesGroup (forest shared.old.value.items) result (forest shared.new.value.items) }
@@ -130,7 +130,7 @@ fn take_group(shared: &mut Rc<Vec<TokenTree>>) -> Option<Group>
     }
 }
 
-// The last group. The tokens after it are dropped.
+/// The last group. The tokens after it are dropped.
 #[inline(always)]
 fn pop_group(trees: &mut Vec<TokenTree>) -> Option<Group>
     ensures { TakesGroup (forest trees.old.items) result (forest trees.new.items) }
@@ -158,7 +158,7 @@ fn pop_group(trees: &mut Vec<TokenTree>) -> Option<Group>
     None
 }
 
-// Puts a tree after the others, in a list that has no other owner.
+/// Puts a tree after the others, in a list that has no other owner.
 fn put_last(shared: &mut Rc<Vec<TokenTree>>, tree: TokenTree) -> Result<(), TokenTree>
     ensures ok { OnOk result
         (forest shared.new.value.items ≡ joined (forest shared.old.value.items) (alone tree)) }
@@ -216,7 +216,7 @@ impl TokenStream {
         listed(&self.trees)
     }
 
-    // The last group, where the trees have no other owner. The tokens after it are dropped.
+    /// The last group, where the trees have no other owner. The tokens after it are dropped.
     fn take_group(&mut self) -> Option<Group>
         ensures { TakesGroup self.old result self.new }
     {
@@ -226,7 +226,7 @@ impl TokenStream {
         take_group(shared)
     }
 
-    // Puts a group of the outer trees after its own, or gives them back.
+    /// Puts a group of the outer trees after its own, or gives them back.
     fn push_outer(&mut self, outer: TokenStream) -> Result<(), TokenStream>
         ensures ok { OnOk result (count self.new ≡ count self.old + 1 + count outer) }
         ensures err { IfErr result (λ back. (back ≡ outer) × (self.new ≡ self.old)) }
@@ -252,7 +252,7 @@ impl TokenStream {
         self.alloc
     }
 
-    // What is true of every stream. It computes nothing: it hands the type's invariant to proofs.
+    /// What is true of every stream. It computes nothing: it hands the type's invariant to proofs.
     fn built(&self)
         ensures { IsBuilt self.now }
     {
@@ -305,7 +305,7 @@ impl TokenTree {
         }
     }
 
-    // The trees within a group, and none of a token.
+    /// The trees within a group, and none of a token.
     fn into_inside(self, alloc: Global) -> TokenStream
         ensures { result ≡ inside self }
     {

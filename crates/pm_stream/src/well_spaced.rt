@@ -39,7 +39,7 @@ impl TokenStream {
     }
 }
 
-// Whether these trees and all trees inside them are well spaced.
+/// Whether these trees and all trees inside them are well spaced.
 fn are_well_spaced(alloc: Global, trees: &[TokenTree]) -> bool
     ensures { result ≡ well_spaced (forest trees.now) }
 {
@@ -67,7 +67,7 @@ fn are_well_spaced(alloc: Global, trees: &[TokenTree]) -> bool
     }
 }
 
-// Whether the group that the step goes into is shown, or its token may stand there.
+/// Whether the group that the step goes into is shown, or its token may stand there.
 fn step_fits(step: Step<'_>) -> bool
     ensures { result ≡ step_fits (step_of step.entry) }
 {
@@ -78,14 +78,14 @@ fn step_fits(step: Step<'_>) -> bool
     }
 }
 
-// Whether a group with the delimiter shows where it begins and ends.
+/// Whether a group with the delimiter shows where it begins and ends.
 fn is_shown(delimiter: Delimiter) -> bool
     ensures { result ≡ is_shown delimiter }
 {
     delimiter != Delimiter::None
 }
 
-// Whether the tree may stand before these, whatever is inside it.
+/// Whether the tree may stand before these, whatever is inside it.
 fn fits(tree: &TokenTree, after: &[TokenTree]) -> bool
     ensures { result ≡ tree_fits tree.now (forest after.now) }
 {
@@ -96,7 +96,7 @@ fn fits(tree: &TokenTree, after: &[TokenTree]) -> bool
     }
 }
 
-// Whether the mark may stand before these trees.
+/// Whether the mark may stand before these trees.
 fn mark_fits(punct: &Punct, after: &[TokenTree]) -> bool
     ensures { result ≡ fits (mark_token punct.now) (next_token (forest after.now)) }
 {
@@ -124,7 +124,7 @@ pub fn may_be_joint(mark: char, after: &[TokenTree]) -> bool
     }
 }
 
-// Whether the first tree may stand right after `'`.
+/// Whether the first tree may stand right after `'`.
 fn follows_quote(trees: &[TokenTree]) -> bool
     ensures { result ≡ follows_quote (next_token (forest trees.now)) }
 {
@@ -135,7 +135,7 @@ fn follows_quote(trees: &[TokenTree]) -> bool
     }
 }
 
-// Whether the first tree may stand right after this Joint mark, which isn't `'`.
+/// Whether the first tree may stand right after this Joint mark, which isn't `'`.
 fn follows_joint(mark: char, trees: &[TokenTree]) -> bool
     ensures { result ≡ follows_joint mark (next_token (forest trees.now)) }
 {
@@ -146,7 +146,7 @@ fn follows_joint(mark: char, trees: &[TokenTree]) -> bool
     }
 }
 
-// Whether it is how a literal begins that may stand right after `'`.
+/// Whether it is how a literal begins that may stand right after `'`.
 fn is_quotable(text: &str) -> bool
     ensures { result ≡ begins_any quotable_fronts (chars text.now) }
 {
@@ -157,7 +157,7 @@ fn is_quotable(text: &str) -> bool
         || begins(text, "cr\"")
 }
 
-// Whether a `'` stands at the front of the text.
+/// Whether a `'` stands at the front of the text.
 #[tactic(auto, using(std::proofs::lemmas::Str::chars_past_char))]
 fn begins_with_quote(text: &str) -> bool
     ensures { result ≡ first_passes (λ c. c == single_quote) (chars text.now) }

@@ -141,7 +141,7 @@ impl Ident {
         }
     }
 
-    // The same, of any identifier.
+    /// The same, of any identifier.
     #[inline(never)]
     fn is_written(&self, text: &str) -> bool
         ensures exactly { IsTrue result ↔ (name_text self.now ≡ chars text.now) }

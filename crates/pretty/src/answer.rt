@@ -51,7 +51,7 @@ pub fn print_text<W: Write>(
     }
 }
 
-// Writes a stream that is well spaced, after such a line.
+/// Writes a stream that is well spaced, after such a line.
 fn print_stream<W: Write>(
     alloc: Global,
     line: &str,
@@ -70,7 +70,7 @@ fn print_stream<W: Write>(
     Ok(())
 }
 
-// The pretty text of a stream that is well spaced. Only memory can fail.
+/// The pretty text of a stream that is well spaced. Only memory can fail.
 fn pretty_text(alloc: Global, stream: &TokenStream) -> Result<String, Failure>
     requires { IsWellSpaced stream.now }
     ensures ok { IfOk result (λ text. IsPretty stream.now (chars (string_bytes text))) }

@@ -31,7 +31,7 @@ pub fn count_comments(text: &str) -> usize
     count
 }
 
-// Whether the piece is a comment that is no doc comment.
+/// Whether the piece is a comment that is no doc comment.
 fn is_comment(next: PlacedPiece<'_>) -> bool
     ensures { result ≡ is_comment (
       kind_of next.entry.piece.kind (chars next.entry.text.now),

@@ -33,13 +33,13 @@ fn main(rt: HostRuntime) -> ExitCode {
     }
 }
 
-// What the words after the program's name ask for.
+/// What the words after the program's name ask for.
 fn asked(rt: &HostRuntime) -> Result<Options, Failure> {
     let words = words(rt.alloc(), env::args(rt), USAGE)?;
     options_of(rt.alloc(), words.as_slice())
 }
 
-// Prints the tokens of the file, says what is left out, and answers the status.
+/// Prints the tokens of the file, says what is left out, and answers the status.
 fn pretty_file(rt: &HostRuntime, options: &Options) -> ExitCode {
     let path = options.path.as_str();
     match print_file(rt, options) {
@@ -56,7 +56,7 @@ fn pretty_file(rt: &HostRuntime, options: &Options) -> ExitCode {
     }
 }
 
-// Prints the tokens of the file, and answers how many comments it has.
+/// Prints the tokens of the file, and answers how many comments it has.
 fn print_file(rt: &HostRuntime, options: &Options) -> Result<usize, Failure> {
     let text = read_text(rt, options.path.as_str())?;
     let mut writer = BufWriter::new(rt.alloc(), rt.stdout())?;

@@ -32,7 +32,7 @@ pub fn options_of(alloc: Global, words: &[String]) -> Result<Options, Failure> {
     Ok(Options { deny, path })
 }
 
-// Whether the word, which is no option, begins like one.
+/// Whether the word, which is no option, begins like one.
 fn is_unknown(word: &str) -> bool {
     word != "-" && word.starts_with('-')
 }

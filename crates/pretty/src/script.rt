@@ -26,7 +26,7 @@ pub fn split_script(text: &str) -> (&str, &str)
     (before(text, code), code)
 }
 
-// Whether the text begins with such a line.
+/// Whether the text begins with such a line.
 fn is_script(text: &str) -> bool
     ensures { result ≡ is_script (chars text.now) }
 {
@@ -36,7 +36,7 @@ fn is_script(text: &str) -> bool
     }
 }
 
-// What follows this ASCII front of the text.
+/// What follows this ASCII front of the text.
 fn strip<'a>(text: &'a str, front: &str) -> Option<&'a str>
     requires { IsTrue (all_ascii front.now) }
     ensures split { MatchOption result (begins_with front.now (chars text.now) ≡ false)

@@ -365,7 +365,7 @@ pub fn push_list<'a>(
     Ok(())
 }
 
-// The group of these trees.
+/// The group of these trees.
 fn group_atom(delimiter: Delimiter, trees: &[TokenTree]) -> Atom {
     let mut atom = Atom::new(Kind::Group(delimiter), 1, false, 2);
     // Only of braces it is asked.
@@ -391,7 +391,7 @@ fn group_atom(delimiter: Delimiter, trees: &[TokenTree]) -> Atom {
     atom
 }
 
-// How many characters a text has.
+/// How many characters a text has.
 fn char_count(text: &str) -> usize {
     // Most texts are of ASCII, whose bytes are its characters.
     if text.is_ascii() {
@@ -401,13 +401,13 @@ fn char_count(text: &str) -> usize {
     }
 }
 
-// How many characters an identifier has.
+/// How many characters an identifier has.
 fn width_of(ident: &Ident) -> usize {
     let front: usize = if is_raw(ident) { 2 } else { 0 };
     char_count(name_of(ident)).saturating_add(front)
 }
 
-// How many characters stand on the first line of a text.
+/// How many characters stand on the first line of a text.
 fn first_line(text: &str) -> usize {
     match text.split_once('\n') {
         Some((line, _)) => char_count(line),
@@ -415,7 +415,7 @@ fn first_line(text: &str) -> usize {
     }
 }
 
-// The lifetime or the operator that begins with this mark, which is the tree of this index.
+/// The lifetime or the operator that begins with this mark, which is the tree of this index.
 fn mark_atom(punct: &Punct, trees: &[TokenTree], index: usize) -> Atom {
     if punct.as_char() != '\'' {
         let own = operator(punct, trees, index);
@@ -430,7 +430,7 @@ fn mark_atom(punct: &Punct, trees: &[TokenTree], index: usize) -> Atom {
     }
 }
 
-// An operator, of how many marks it is, and whether the last is Joint.
+/// An operator, of how many marks it is, and whether the last is Joint.
 #[derive(Clone, Copy)]
 struct Marks {
     sign: Sign,
@@ -438,7 +438,7 @@ struct Marks {
     glued: bool,
 }
 
-// The operator that begins with this mark, which is the tree of this index.
+/// The operator that begins with this mark, which is the tree of this index.
 #[inline(always)]
 fn operator(punct: &Punct, trees: &[TokenTree], index: usize) -> Marks {
     let second_index = index.saturating_add(1);
@@ -479,7 +479,7 @@ fn operator(punct: &Punct, trees: &[TokenTree], index: usize) -> Marks {
     }
 }
 
-// The operator of two marks.
+/// The operator of two marks.
 fn pair(first: char, second: char) -> Option<Sign> {
     match (first, second) {
         (':', ':') => Some(Sign::Path),
@@ -502,7 +502,7 @@ fn is_joint(punct: &Punct) -> bool {
     punct.spacing() == Spacing::Joint
 }
 
-// The mark of this index, if it is one that an operator may go on with.
+/// The mark of this index, if it is one that an operator may go on with.
 fn mark_at<'a>(trees: &'a [TokenTree], index: usize) -> Option<&'a Punct> {
     match trees.get(index) {
         Some(TokenTree::Punct(punct)) if punct.as_char() != '\'' => Some(punct),
@@ -510,7 +510,7 @@ fn mark_at<'a>(trees: &'a [TokenTree], index: usize) -> Option<&'a Punct> {
     }
 }
 
-// What an identifier of this text is.
+/// What an identifier of this text is.
 fn word_of(text: &str) -> Word {
     // Few words begin alike, and most names are as long as none of these.
     let Some(first) = text.as_bytes().first() else {

@@ -56,7 +56,7 @@ pub fn chain_at(atoms: &[Atom], index: usize, until: usize) -> Chain {
 }
 
 impl Chain {
-    // Goes on with the dot of this index.
+    /// Goes on with the dot of this index.
     fn take_dot(&mut self, dot: usize, previous: &Atom) {
         if self.first == NOWHERE {
             self.first = dot;
@@ -75,7 +75,7 @@ impl Chain {
     }
 }
 
-// Whether the atom goes on with a chain of calls.
+/// Whether the atom goes on with a chain of calls.
 fn goes_on(own: &Atom, previous: &Atom) -> bool {
     if matches!(
         own.role,
@@ -95,7 +95,7 @@ fn goes_on(own: &Atom, previous: &Atom) -> bool {
     own.is_group() && (previous.is_nothing() || !own.is_brace() || previous.role == Role::Bang)
 }
 
-// What is found from an atom on within a chain, whatever atom before it a chain begins at: indexes, or `NOWHERE`.
+/// What is found from an atom on within a chain, whatever atom before it a chain begins at: indexes, or `NOWHERE`.
 #[derive(Clone, Copy)]
 struct Link {
     // Where a chain ends that goes on to here, with no `<` open that stands before.
@@ -109,7 +109,7 @@ struct Link {
     group: usize,
 }
 
-// The link of nothing.
+/// The link of nothing.
 const NO_LINK: Link = Link {
     end: NOWHERE,
     last: NOWHERE,
@@ -119,7 +119,7 @@ const NO_LINK: Link = Link {
     group: NOWHERE,
 };
 
-// A chain whose atoms have links.
+/// A chain whose atoms have links.
 #[derive(Clone, Copy)]
 struct Linked {
     // Where the atoms of its list begin, which stand after those of each list around it.
@@ -131,7 +131,7 @@ struct Linked {
     at: usize,
 }
 
-// A chain whose lines are broken.
+/// A chain whose lines are broken.
 #[derive(Clone, Copy)]
 struct Broken {
     list: usize,
@@ -198,7 +198,7 @@ impl Chains {
         Ok(self.linked_chain(atoms, index))
     }
 
-    // Gives links to the atoms from `from` on and before `until`, and to what stands there.
+    /// Gives links to the atoms from `from` on and before `until`, and to what stands there.
     fn link(
         &mut self,
         atoms: &[Atom],
@@ -257,7 +257,7 @@ impl Chains {
         Ok(())
     }
 
-    // The link of this index.
+    /// The link of this index.
     fn link_at(&self, index: usize) -> Link {
         let Some(top) = self.linked.last() else {
             return NO_LINK;
@@ -266,7 +266,7 @@ impl Chains {
         self.links.get(place).copied().unwrap_or(NO_LINK)
     }
 
-    // Sets all of a link but for `last`.
+    /// Sets all of a link but for `last`.
     fn set_link(&mut self, index: usize, link: Link) {
         let Some(top) = self.linked.last() else {
             return;
@@ -279,7 +279,7 @@ impl Chains {
         }
     }
 
-    // The chain that begins at this index, by the links.
+    /// The chain that begins at this index, by the links.
     fn linked_chain(&self, atoms: &[Atom], index: usize) -> Chain {
         let own = atom(atoms, index);
         let next = self.link_at(index.saturating_add(1));
@@ -328,7 +328,7 @@ impl Chains {
         Ok(())
     }
 
-    // Forgets the chains of lists that are closed, and those that end before this index.
+    /// Forgets the chains of lists that are closed, and those that end before this index.
     fn pass(&mut self, list: usize, index: usize) {
         for _ in 0..self.broken.len() {
             match self.broken.last() {

@@ -76,7 +76,7 @@ pub fn to_pretty_string(alloc: Global, stream: &TokenStream) -> Result<String, Q
     }
 }
 
-// The tokens of a stream as text for people, if it is well spaced.
+/// The tokens of a stream as text for people, if it is well spaced.
 fn lay_out(alloc: Global, stream: &TokenStream) -> Result<String, LayoutError>
     ensures spaced { IfOk result (λ text. IsWellSpaced stream.now) }
     ensures layout { IfOk result (λ text. IsLayout stream.now (chars (string_bytes text))) }

@@ -105,7 +105,7 @@ pub struct Printer<'a> {
     failure: Option<AllocError>,
 }
 
-// A list of which nothing is written.
+/// A list of which nothing is written.
 fn unwritten(group: usize, first: usize, end: usize, style: Style) -> Frame {
     Frame {
         group,
@@ -190,7 +190,7 @@ impl<'a> Printer<'a> {
         }
     }
 
-    // Reads and measures the groups of a part of the stream.
+    /// Reads and measures the groups of a part of the stream.
     fn read_part(&mut self, start: usize, end: usize) -> Result<(), AllocError> {
         let top = self.top;
         let top_groups = self.top_groups;
@@ -225,7 +225,7 @@ impl<'a> Printer<'a> {
         Ok(())
     }
 
-    // Reads the list of a group.
+    /// Reads the list of a group.
     fn read_group(&mut self, group: Unread<'a>) -> Result<(), AllocError> {
         let first = self.atoms.len();
         push_list(&mut self.atoms, &mut self.groups, group.trees)?;
@@ -241,7 +241,7 @@ impl<'a> Printer<'a> {
         Ok(())
     }
 
-    // Measures these groups, the last first.
+    /// Measures these groups, the last first.
     fn measure_groups(&mut self, from: usize, until: usize) {
         for passed in from..until {
             let place = until
@@ -264,7 +264,7 @@ impl<'a> Printer<'a> {
         atom(self.atoms.as_slice(), index)
     }
 
-    // The atom before this one in its part.
+    /// The atom before this one in its part.
     fn previous(&self, index: usize) -> &Atom {
         let start = self.list.start;
         before(self.atoms.as_slice(), start, index)
@@ -278,17 +278,17 @@ impl<'a> Printer<'a> {
         is_tall(self.atoms.as_slice(), from, end)
     }
 
-    // Whether so many characters more fit on the line.
+    /// Whether so many characters more fit on the line.
     fn fits(&self, more: usize) -> bool {
         self.column.saturating_add(more) <= WIDTH
     }
 
-    // Whether these atoms fit on the line.
+    /// Whether these atoms fit on the line.
     fn fit(&self, from: usize, end: usize, more: usize) -> bool {
         !self.is_tall(from, end) && self.fits(self.width(from, end).saturating_add(more))
     }
 
-    // Moves past a gap.
+    /// Moves past a gap.
     fn pass(&mut self, gap: Gap) {
         match gap {
             Gap::Nothing => {}
@@ -300,7 +300,7 @@ impl<'a> Printer<'a> {
         }
     }
 
-    // Writes the next atom of the list, or its end, and answers the gap before it.
+    /// Writes the next atom of the list, or its end, and answers the gap before it.
     #[inline(never)]
     fn step(&mut self) -> Result<Gap, AllocError> {
         if self.list.at >= self.list.end {
@@ -312,7 +312,7 @@ impl<'a> Printer<'a> {
         self.step_part()
     }
 
-    // Writes the closer.
+    /// Writes the closer.
     fn close(&mut self) -> Gap {
         let gap = match self.list.style {
             Style::Flat => self.inner_gap(),
@@ -327,7 +327,7 @@ impl<'a> Printer<'a> {
         gap
     }
 
-    // What stands inside the delimiters of a group that is on one line.
+    /// What stands inside the delimiters of a group that is on one line.
     fn inner_gap(&self) -> Gap {
         let index = self.list.group;
         let group = self.atom(index);
@@ -338,7 +338,7 @@ impl<'a> Printer<'a> {
         }
     }
 
-    // What stands before an atom on one line.
+    /// What stands before an atom on one line.
     fn flat_gap(&self, index: usize) -> Gap {
         if self.atom(index).spaced {
             Gap::Space
@@ -359,7 +359,7 @@ impl<'a> Printer<'a> {
         Ok(gap)
     }
 
-    // Writes an atom, of a group its opener, with its list in this style from this column on.
+    /// Writes an atom, of a group its opener, with its list in this style from this column on.
     fn write(&mut self, index: usize, style: Style, column: usize) -> Result<(), AllocError> {
         self.list.at = index.saturating_add(1);
         let own = self.atom(index);
@@ -391,7 +391,7 @@ impl<'a> Printer<'a> {
         Ok(())
     }
 
-    // From which of its parts on several of a group stand on one line.
+    /// From which of its parts on several of a group stand on one line.
     fn mixed_from(&self, index: usize) -> usize {
         let own = *self.atom(index);
         let bang = self.previous(index);
@@ -414,7 +414,7 @@ impl<'a> Printer<'a> {
         usize::MAX
     }
 
-    // Whether each part of the group is short.
+    /// Whether each part of the group is short.
     fn are_short(&self, own: &Atom) -> bool {
         let mut start = own.first;
         for _ in 0..own.parts {
@@ -427,7 +427,7 @@ impl<'a> Printer<'a> {
         true
     }
 
-    // Writes the next atom of a part.
+    /// Writes the next atom of a part.
     fn step_part(&mut self) -> Result<Gap, AllocError> {
         let index = self.list.at;
         if self.list.flat && index != self.list.part_end {
@@ -492,7 +492,7 @@ impl<'a> Printer<'a> {
         Ok(gap)
     }
 
-    // Whether it is the block of what stands before it.
+    /// Whether it is the block of what stands before it.
     fn is_head(&self, index: usize) -> bool {
         let previous = self.previous(index);
         self.atom(index).role == Role::Block
@@ -502,7 +502,7 @@ impl<'a> Printer<'a> {
             && !previous.is_mark('!')
     }
 
-    // The gap before a part, which begins now.
+    /// The gap before a part, which begins now.
     fn begin_part(&mut self, index: usize) -> Result<Gap, AllocError> {
         let part_end = self.atom(index).part_end;
         let end = if part_end > index {
@@ -549,13 +549,13 @@ impl<'a> Printer<'a> {
         })
     }
 
-    // Whether a part that begins here is so short that no rule breaks its line.
+    /// Whether a part that begins here is so short that no rule breaks its line.
     fn is_flat(&self, index: usize, end: usize) -> bool {
         self.atom(index).plain && self.fit(index, end, 0) && self.width(index, end) <= CHAIN
     }
 
-    // Whether an empty line stands between the part that ended and the one from `index` to `end`: between two items, if
-    // one of them has several lines or the second has an attribute.
+    /// Whether an empty line stands between the part that ended and the one from `index` to `end`: between two items,
+    /// if one of them has several lines or the second has an attribute.
     fn parts_items(&self, index: usize, end: usize) -> bool {
         let start = self.list.start;
         let past = self.list.part_end;
@@ -568,7 +568,7 @@ impl<'a> Printer<'a> {
         self.is_item(index, end) && (self.is_tall(start, past) || self.is_tall(index, end))
     }
 
-    // Whether the part is an item.
+    /// Whether the part is an item.
     fn is_item(&self, start: usize, end: usize) -> bool {
         let first = self.atom(start);
         let last = before(self.atoms.as_slice(), start, end);
@@ -584,7 +584,7 @@ impl<'a> Printer<'a> {
         word && (last.is_mark(';') || last.is_brace())
     }
 
-    // The gap before another atom of a part.
+    /// The gap before another atom of a part.
     fn part_gap(&mut self, index: usize) -> Gap {
         let bound = self.list.where_depth != NOWHERE && self.begins_bound(index);
         let previous = self.previous(index);
@@ -634,7 +634,7 @@ impl<'a> Printer<'a> {
         self.flat_gap(index)
     }
 
-    // Whether what follows `=` fits on the next line, at this column, and doesn't on this one.
+    /// Whether what follows `=` fits on the next line, at this column, and doesn't on this one.
     fn goes_below(&self, index: usize, column: usize) -> bool {
         let end = self.list.part_end;
         let wide = self.width(index, end);
@@ -657,8 +657,8 @@ impl<'a> Printer<'a> {
         chain.first == chain.last
     }
 
-    // Whether the lines of the `where` of this index are broken: it stands before a body or at the end of an item.
-    // In an impl without items they are not, if it has one bound and all of it fits on the line.
+    /// Whether the lines of the `where` of this index are broken: it stands before a body or at the end of an item.
+    /// In an impl without items they are not, if it has one bound and all of it fits on the line.
     fn breaks_where(&self, index: usize) -> bool {
         let end = self.list.part_end;
         let last = self.previous(end);
@@ -691,7 +691,7 @@ impl<'a> Printer<'a> {
         false
     }
 
-    // Whether a bound of the last `where` begins with the atom, which comes next. Each is asked about once.
+    /// Whether a bound of the last `where` begins with the atom, which comes next. Each is asked about once.
     fn begins_bound(&mut self, index: usize) -> bool {
         if self.list.after_where {
             self.list.after_where = false;
@@ -707,7 +707,7 @@ impl<'a> Printer<'a> {
         false
     }
 
-    // Whether the part ends with the atom, and that is braces.
+    /// Whether the part ends with the atom, and that is braces.
     fn is_last_brace(&self, index: usize) -> bool {
         index.saturating_add(1) == self.list.part_end && self.atom(index).is_brace()
     }
@@ -718,7 +718,7 @@ impl<'a> Printer<'a> {
         }
     }
 
-    // Whether a group is on one line.
+    /// Whether a group is on one line.
     fn stays_flat(&self, index: usize) -> bool {
         let own = self.atom(index);
         if own.tall {
@@ -742,13 +742,13 @@ impl<'a> Printer<'a> {
         !called || own.width <= CHAIN.saturating_add(2) || earlier.is_word(Word::Fn)
     }
 
-    // Whether characters have to follow an atom on its line.
+    /// Whether characters have to follow an atom on its line.
     fn has_tail(&self, index: usize) -> bool {
         let next = index.saturating_add(1);
         next < self.list.part_end && !self.ends_tail(index, next)
     }
 
-    // Whether what has to follow the atom of `index` on its line ends before the one of `later`.
+    /// Whether what has to follow the atom of `index` on its line ends before the one of `later`.
     fn ends_tail(&self, index: usize, later: usize) -> bool {
         let own = self.atom(later);
         let previous = self.previous(later);
@@ -759,7 +759,7 @@ impl<'a> Printer<'a> {
             || next_line && !previous.glued
     }
 
-    // How many characters have to follow an atom on its line.
+    /// How many characters have to follow an atom on its line.
     fn tail(&self, index: usize) -> usize {
         let mut end = index.saturating_add(1);
         for later in index.saturating_add(1)..self.list.part_end {
@@ -779,7 +779,7 @@ impl<'a> Printer<'a> {
         wide
     }
 
-    // Whether the last part of a group goes on over the next lines, as if no delimiters were there.
+    /// Whether the last part of a group goes on over the next lines, as if no delimiters were there.
     fn opens(&self, index: usize) -> bool {
         let own = *self.atom(index);
         if own.is_brace() || own.is_empty() || own.role == Role::Repeated {
@@ -820,7 +820,7 @@ impl<'a> Printer<'a> {
         !self.is_tall(start, body) && self.fits(self.width(own.first, body).saturating_add(5))
     }
 
-    // Breaks the lines of an expression that begins here before its operators, if it is too long.
+    /// Breaks the lines of an expression that begins here before its operators, if it is too long.
     fn break_operators(&mut self, index: usize) {
         if index < self.list.operators_until {
             return;
@@ -862,7 +862,7 @@ impl<'a> Printer<'a> {
         self.list.operators = true;
     }
 
-    // Whether there are such operators; if `tall`, such that not all before the last of them fits on the line.
+    /// Whether there are such operators; if `tall`, such that not all before the last of them fits on the line.
     fn has(&self, index: usize, stop: usize, wanted: Operator, tall: bool) -> bool {
         let mut last = index;
         for later in index.saturating_add(1)..stop {
@@ -873,7 +873,7 @@ impl<'a> Printer<'a> {
         last > index && !(tall && self.fit(index, last, 0))
     }
 
-    // Breaks the line before each of these operators.
+    /// Breaks the line before each of these operators.
     fn break_at(&mut self, index: usize, stop: usize, found: Operator) {
         let column = if found == Operator::Bar {
             self.list.indent
@@ -887,7 +887,7 @@ impl<'a> Printer<'a> {
         }
     }
 
-    // Whether the patterns have no paths and no fields.
+    /// Whether the patterns have no paths and no fields.
     fn are_plain(&self, index: usize, stop: usize) -> bool {
         for later in index..stop {
             let own = self.atom(later);
@@ -898,7 +898,7 @@ impl<'a> Printer<'a> {
         true
     }
 
-    // Writes as many patterns on each line as fit.
+    /// Writes as many patterns on each line as fit.
     fn fill_bars(&mut self, index: usize, stop: usize) {
         let mut start = index;
         let mut bar = index;
@@ -920,7 +920,7 @@ impl<'a> Printer<'a> {
         }
     }
 
-    // Whether the generics of an item begin with the `<` of this index: it follows `impl`, or a name near the front.
+    /// Whether the generics of an item begin with the `<` of this index: it follows `impl`, or a name near the front.
     fn begins_generics(&self, index: usize) -> bool {
         if index.saturating_sub(self.list.start) > HEAD {
             return false;
@@ -939,8 +939,8 @@ impl<'a> Printer<'a> {
         }
     }
 
-    // Writes each of the generics that begin here on a line, if they are too long for this one. No line breaks within
-    // them else.
+    /// Writes each of the generics that begin here on a line, if they are too long for this one. No line breaks within
+    /// them else.
     fn break_generics(&mut self, index: usize) {
         let mut close = index;
         let mut depth: usize = 0;
@@ -977,7 +977,7 @@ impl<'a> Printer<'a> {
         self.set_line(close, outer);
     }
 
-    // The chain of calls that begins here, if it has dots.
+    /// The chain of calls that begins here, if it has dots.
     fn next_chain(&mut self, index: usize) -> Result<Option<Chain>, AllocError> {
         if index >= self.list.read_until {
             let chain = chain_at(self.atoms.as_slice(), index, self.list.part_end);
@@ -997,8 +997,8 @@ impl<'a> Printer<'a> {
         Ok(Some(chain))
     }
 
-    // Breaks the lines of the chain of calls that begins here before its dots, if it is too long. `used` says how many
-    // characters stand before it on the line.
+    /// Breaks the lines of the chain of calls that begins here before its dots, if it is too long. `used` says how many
+    /// characters stand before it on the line.
     fn break_chain(&mut self, index: usize, used: usize) -> Result<(), AllocError> {
         self.list.chain_from = 0;
         self.list.chain_until = 0;
@@ -1025,7 +1025,7 @@ impl<'a> Printer<'a> {
             .break_dots(list, index, (from, chain.end), self.list.chain)
     }
 
-    // Whether no line of a chain breaks before its dots.
+    /// Whether no line of a chain breaks before its dots.
     fn stays_on_line(&self, chain: &Chain, index: usize) -> bool {
         if chain.after || self.is_tall(index, chain.last) {
             return false;
@@ -1038,7 +1038,7 @@ impl<'a> Printer<'a> {
         short || self.is_tall(index, chain.end) && self.is_short_call(chain, index)
     }
 
-    // Whether only the arguments of the last call need several lines.
+    /// Whether only the arguments of the last call need several lines.
     fn is_short_call(&self, chain: &Chain, index: usize) -> bool {
         chain.call != NOWHERE
             && !self.atom(chain.call).is_empty()
@@ -1047,7 +1047,7 @@ impl<'a> Printer<'a> {
     }
 }
 
-// Whether an expression may begin after the atom.
+/// Whether an expression may begin after the atom.
 fn begins_expression(previous: &Atom) -> bool {
     if previous.is_nothing() || previous.is_keyword() || previous.is_brace() {
         return true;
@@ -1059,7 +1059,7 @@ fn begins_expression(previous: &Atom) -> bool {
         )
 }
 
-// The operators before which lines break, those that bind less before the others.
+/// The operators before which lines break, those that bind less before the others.
 #[derive(Clone, Copy, PartialEq)]
 enum Operator {
     Nothing,
@@ -1069,7 +1069,7 @@ enum Operator {
     Plus,
 }
 
-// Which of them the atom is.
+/// Which of them the atom is.
 fn operator_of(own: &Atom) -> Operator {
     if own.role != Role::Between {
         Operator::Nothing
@@ -1086,7 +1086,7 @@ fn operator_of(own: &Atom) -> Operator {
     }
 }
 
-// The column of what is inside something that begins at this one.
+/// The column of what is inside something that begins at this one.
 fn deeper(column: usize) -> usize {
     column.saturating_add(TAB).min(DEEPEST)
 }

@@ -58,7 +58,7 @@ fn set_part(atoms: &mut Vec<Atom>, start: usize, end: usize, plain: bool) {
     }
 }
 
-// Whether a statement or an attribute ends with the atom. `signs_only` says that only operators stand before it.
+/// Whether a statement or an attribute ends with the atom. `signs_only` says that only operators stand before it.
 fn ends_statement(own: &Atom, next: &Atom, signs_only: bool) -> bool {
     if own.is_brace() && matches!(own.role, Role::Block | Role::Branch | Role::Expression) {
         let goes_on = matches!(
@@ -166,7 +166,7 @@ pub fn measure(atoms: &mut Vec<Atom>, first: usize, end: usize) {
     }
 }
 
-// Sets what stands before each atom, on one line. Answers whether an `if` begins that gives a value.
+/// Sets what stands before each atom, on one line. Answers whether an `if` begins that gives a value.
 fn place(atoms: &mut Vec<Atom>, first: usize, end: usize) -> bool {
     let mut offset: usize = 0;
     let mut tall: usize = 0;
@@ -188,7 +188,7 @@ fn place(atoms: &mut Vec<Atom>, first: usize, end: usize) -> bool {
     branches
 }
 
-// Where the branches of the `if` of this index end. Where it has none, no `if` after it has any.
+/// Where the branches of the `if` of this index end. Where it has none, no `if` after it has any.
 fn branches_end(atoms: &[Atom], index: usize, end: usize) -> Option<usize> {
     for later in index..end {
         let own = atom(atoms, later);
@@ -200,8 +200,8 @@ fn branches_end(atoms: &[Atom], index: usize, end: usize) -> Option<usize> {
     None
 }
 
-// Makes blocks of the branches of the `if` of this index, which end before `past`, where they are too wide for one
-// line. Answers whether it did.
+/// Makes blocks of the branches of the `if` of this index, which end before `past`, where they are too wide for one
+/// line. Answers whether it did.
 fn spread(atoms: &mut Vec<Atom>, index: usize, past: usize) -> bool {
     if !is_tall(atoms.as_slice(), index, past) && width(atoms.as_slice(), index, past) <= BRANCHES {
         return false;

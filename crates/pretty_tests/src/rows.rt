@@ -44,7 +44,7 @@ pub fn write_rows<W: Write>(
     Ok(wrong)
 }
 
-// The stream of a row.
+/// The stream of a row.
 fn stream_of(alloc: Global, word: &str, content: &str) -> Result<Option<TokenStream>, AllocError> {
     let mut text = String::new(alloc);
     for (_, unit) in unescape_str(content) {
@@ -65,7 +65,7 @@ fn stream_of(alloc: Global, word: &str, content: &str) -> Result<Option<TokenStr
     }
 }
 
-// The stream whose outermost marks are all Joint.
+/// The stream whose outermost marks are all Joint.
 fn joint(alloc: Global, stream: &TokenStream) -> Result<TokenStream, AllocError> {
     let mut trees = Vec::new(alloc);
     for tree in stream.trees() {
@@ -80,7 +80,7 @@ fn joint(alloc: Global, stream: &TokenStream) -> Result<TokenStream, AllocError>
     TokenStream::from_trees(alloc, trees)
 }
 
-// Writes the number of a row, and what is answered of its stream.
+/// Writes the number of a row, and what is answered of its stream.
 fn write_row<W: Write>(
     alloc: Global,
     number: usize,
@@ -100,7 +100,7 @@ fn write_row<W: Write>(
     }
 }
 
-// FNV-1a of 64 bits.
+/// FNV-1a of 64 bits.
 fn digest_of(bytes: &[u8]) -> u64 {
     let mut digest: u64 = 0xcbf2_9ce4_8422_2325;
     for byte in bytes {

@@ -25,7 +25,7 @@ pub(crate) struct StreamBuilder {
     trees: Trees,
 }
 
-// Trees that are put together.
+/// Trees that are put together.
 #[derive(Drop)]
 pub(crate) enum Trees {
     // Those of a stream, or none: nothing came after it, so that it is shared.
@@ -116,7 +116,7 @@ impl StreamBuilder {
         Ok(())
     }
 
-    // Puts copies of the trees at the end. So many more are expected.
+    /// Puts copies of the trees at the end. So many more are expected.
     #[inline(never)]
     fn copy(&mut self, trees: &[TokenTree], more: usize) -> Result<(), AllocError>
         requires { IsBuilt (forest trees.now) }
@@ -168,7 +168,7 @@ impl StreamBuilder {
     }
 }
 
-// A list of copies of the stream's trees, with room for so many more.
+/// A list of copies of the stream's trees, with room for so many more.
 #[inline(never)]
 fn listed(alloc: Global, stream: &TokenStream, more: usize) -> Result<Vec<TokenTree>, AllocError>
     ensures ok { IfOk result (λ list. forest list.items ≡ stream.now) }
@@ -181,7 +181,7 @@ fn listed(alloc: Global, stream: &TokenStream, more: usize) -> Result<Vec<TokenT
     Ok(list)
 }
 
-// Puts the tree at the end of the list.
+/// Puts the tree at the end of the list.
 #[inline(always)]
 fn push(list: &mut Vec<TokenTree>, tree: TokenTree) -> Result<(), AllocError>
     requires list { IsBuilt (forest list.old.items) }
@@ -196,7 +196,7 @@ fn push(list: &mut Vec<TokenTree>, tree: TokenTree) -> Result<(), AllocError>
     Ok(())
 }
 
-// Puts a copy of the tree at the end of the list.
+/// Puts a copy of the tree at the end of the list.
 #[inline(always)]
 fn copy_onto(list: &mut Vec<TokenTree>, tree: &TokenTree) -> Result<(), AllocError>
     requires list { IsBuilt (forest list.old.items) }
@@ -210,7 +210,7 @@ fn copy_onto(list: &mut Vec<TokenTree>, tree: &TokenTree) -> Result<(), AllocErr
     Ok(())
 }
 
-// Puts copies of the trees at the end of the list. Groups share what is inside them.
+/// Puts copies of the trees at the end of the list. Groups share what is inside them.
 #[inline(always)]
 fn push_copies(list: &mut Vec<TokenTree>, trees: &[TokenTree]) -> Result<(), AllocError>
     requires list { IsBuilt (forest list.old.items) }
@@ -225,7 +225,7 @@ fn push_copies(list: &mut Vec<TokenTree>, trees: &[TokenTree]) -> Result<(), All
     Ok(())
 }
 
-// Puts a copy of the tree at the end of the list. Room is asked for first, so that the copy is made where it stands.
+/// Puts a copy of the tree at the end of the list. Room is asked for first, so that the copy is made where it stands.
 #[inline(always)]
 fn push_copy(list: &mut Vec<TokenTree>, tree: &TokenTree) -> Result<(), AllocError>
     ensures ok { OnOk result (list.new.items ≡ list.old.items ++ tree.now ∷ []) }
@@ -235,7 +235,7 @@ fn push_copy(list: &mut Vec<TokenTree>, tree: &TokenTree) -> Result<(), AllocErr
     put_copy(list, tree)
 }
 
-// Puts a copy of the tree at the end of the list, which has room for it. Each kind has a line.
+/// Puts a copy of the tree at the end of the list, which has room for it. Each kind has a line.
 #[inline(always)]
 fn put_copy(list: &mut Vec<TokenTree>, tree: &TokenTree) -> Result<(), AllocError>
     requires { vec_len list.old < vec_capacity list.old }

@@ -36,7 +36,7 @@ pub(crate) fn are_well_spaced(alloc: Global, trees: &[TokenTree]) -> Result<bool
     Ok(spaced)
 }
 
-// What is wrong with the tree that the step comes to, whatever is inside it.
+/// What is wrong with the tree that the step comes to, whatever is inside it.
 fn step_fault(step: Step<'_>) -> Option<QuoteError>
     ensures { result ≡ step_fault (step_of step.entry) }
 {
@@ -47,7 +47,7 @@ fn step_fault(step: Step<'_>) -> Option<QuoteError>
     }
 }
 
-// What is wrong with the group, whatever is inside it.
+/// What is wrong with the group, whatever is inside it.
 fn group_fault(group: &Group) -> Option<QuoteError>
     ensures { result ≡ tree_fault (GroupTree group.now) nil }
 {
@@ -57,7 +57,7 @@ fn group_fault(group: &Group) -> Option<QuoteError>
     }
 }
 
-// What is wrong with the tree before these, whatever is inside it.
+/// What is wrong with the tree before these, whatever is inside it.
 fn tree_fault(tree: &TokenTree, after: &[TokenTree]) -> Option<QuoteError>
     ensures { result ≡ tree_fault tree.now (forest after.now) }
 {
@@ -68,14 +68,14 @@ fn tree_fault(tree: &TokenTree, after: &[TokenTree]) -> Option<QuoteError>
     }
 }
 
-// Whether the mark may come before these trees, whatever its spacing.
+/// Whether the mark may come before these trees, whatever its spacing.
 fn may_stand(mark: &Punct, after: &[TokenTree]) -> bool
     ensures { result ≡ may_stand (mark_token mark.now) (next_token (forest after.now)) }
 {
     mark.as_char() != '\'' || may_be_joint('\'', after)
 }
 
-// Whether the group that the step goes into is shown, or its token is spaced as it has to be there.
+/// Whether the group that the step goes into is shown, or its token is spaced as it has to be there.
 fn step_fits(step: Step<'_>) -> bool
     ensures { result ≡ step_fits (step_of step.entry) }
 {
@@ -86,7 +86,7 @@ fn step_fits(step: Step<'_>) -> bool
     }
 }
 
-// Whether the tree may come before these as it is, whatever is inside it.
+/// Whether the tree may come before these as it is, whatever is inside it.
 fn tree_fits(tree: &TokenTree, after: &[TokenTree]) -> bool
     ensures { result ≡ tree_fits tree.now (forest after.now) }
 {
@@ -97,7 +97,7 @@ fn tree_fits(tree: &TokenTree, after: &[TokenTree]) -> bool
     }
 }
 
-// Whether the mark may come before these trees with the spacing that it has.
+/// Whether the mark may come before these trees with the spacing that it has.
 fn mark_fits(mark: &Punct, after: &[TokenTree]) -> bool
     ensures { result ≡ fits (mark_token mark.now) (next_token (forest after.now)) }
 {

@@ -17,8 +17,8 @@ use crate::turns::{checked, turns_of};
 use proc_macro2::{Group, Punct, Spacing, TokenStream, TokenTree};
 use std::alloc::{AllocError, Global};
 
-// The trees with the holes filled, where groups may nest so deep. In a turn of a repetition the turn's stream of each
-// list comes.
+/// The trees with the holes filled, where groups may nest so deep. In a turn of a repetition the turn's stream of each
+/// list comes.
 #[cycle(filled)]
 pub(crate) fn filled(
     alloc: Global,
@@ -37,7 +37,7 @@ pub(crate) fn filled(
     Ok(out.finish()?)
 }
 
-// Puts the trees with the holes filled after those of the stream, as `filled` does.
+/// Puts the trees with the holes filled after those of the stream, as `filled` does.
 #[cycle(filled)]
 fn fill_onto(
     alloc: Global,
@@ -78,7 +78,7 @@ fn fill_onto(
     Ok(())
 }
 
-// A copy of the tree before these, a mark Alone where what comes first there has a meaning.
+/// A copy of the tree before these, a mark Alone where what comes first there has a meaning.
 fn apart_before(tree: &TokenTree, after: &[TokenTree]) -> Result<TokenTree, AllocError>
     ensures { IfOk result (λ copy. copy ≡ apart_before (forest after.now) tree.now) }
 {
@@ -101,7 +101,7 @@ pub(crate) fn has_meaning(trees: &[TokenTree]) -> bool
     }
 }
 
-// The trees of the group with the holes filled, where it stands inside of such trees.
+/// The trees of the group with the holes filled, where it stands inside of such trees.
 #[cycle(filled)]
 fn filled_inside(
     alloc: Global,
@@ -137,7 +137,7 @@ pub(crate) fn are_fixed(trees: &[TokenTree]) -> bool
     true
 }
 
-// Whether the tree is neither a group nor a `#`.
+/// Whether the tree is neither a group nor a `#`.
 fn is_fixed(tree: &TokenTree) -> bool
     ensures { result ≡ is_fixed tree.now }
 {
@@ -183,7 +183,7 @@ pub(crate) fn repeat_onto(
     Ok(())
 }
 
-// Puts the separator at the end, Alone, before a turn that is not the first. So many more trees are expected.
+/// Puts the separator at the end, Alone, before a turn that is not the first. So many more trees are expected.
 fn separate(
     out: &mut StreamBuilder,
     separator: Option<&Punct>,

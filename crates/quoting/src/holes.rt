@@ -16,7 +16,7 @@ pub struct Hole<'a> {
     filling: Filling<'a>,
 }
 
-// What a hole stands for.
+/// What a hole stands for.
 #[derive(Clone, Copy)]
 pub(crate) enum Filling<'a> {
     // One stream.
@@ -47,7 +47,7 @@ impl<'a> Hole<'a> {
     }
 }
 
-// What names a hole in a template.
+/// What names a hole in a template.
 #[derive(Clone, Copy)]
 pub(crate) enum HoleName<'a> {
     Word(&'a Ident),
@@ -55,7 +55,7 @@ pub(crate) enum HoleName<'a> {
 }
 
 impl<'a> HoleName<'a> {
-    // Where it stands.
+    /// Where it stands.
     pub(crate) fn span(&self) -> Span
         ensures { result ≡ span_of self.now }
     {
@@ -65,7 +65,7 @@ impl<'a> HoleName<'a> {
         }
     }
 
-    // Whether its text is this one.
+    /// Whether its text is this one.
     fn is(&self, text: &str) -> bool
         ensures { result ≡ pointwise nat_eq (text_of self.now) (chars text.now) }
     {
@@ -75,7 +75,7 @@ impl<'a> HoleName<'a> {
         }
     }
 
-    // What the first hole of this name stands for.
+    /// What the first hole of this name stands for.
     pub(crate) fn filling<'h>(&self, holes: &[Hole<'h>]) -> Option<Filling<'h>>
         ensures { looked_up result ≡ filling_of (named_all holes.now) (text_of self.now) }
     {
@@ -87,7 +87,7 @@ impl<'a> HoleName<'a> {
         None
     }
 
-    // The stream that comes in its place: in a turn of a repetition also that of a list.
+    /// The stream that comes in its place: in a turn of a repetition also that of a list.
     pub(crate) fn put_in<'h>(
         &self,
         holes: &[Hole<'h>],

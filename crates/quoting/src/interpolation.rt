@@ -11,7 +11,7 @@ ghost use Rattle.quoting.specs.Interpolation.{after_hash, taken};
 use crate::holes::HoleName;
 use proc_macro2::{Delimiter, Group, Punct, TokenTree};
 
-// What has a meaning in a template, and the trees after it.
+/// What has a meaning in a template, and the trees after it.
 #[derive(Clone, Copy)]
 pub(crate) enum FoundInterpolation<'a> {
     // `#` and the name of a hole.
@@ -20,14 +20,14 @@ pub(crate) enum FoundInterpolation<'a> {
     Repeats(Repetition<'a>, &'a [TokenTree]),
 }
 
-// What is repeated, and the mark that stands between the turns.
+/// What is repeated, and the mark that stands between the turns.
 #[derive(Clone, Copy)]
 pub(crate) struct Repetition<'a> {
     pub(crate) body: &'a Group,
     pub(crate) separator: Option<&'a Punct>,
 }
 
-// What the tree begins before these. `None` where it stands for itself.
+/// What the tree begins before these. `None` where it stands for itself.
 #[inline(always)]
 pub(crate) fn interpolation_at<'a>(
     tree: &TokenTree,
@@ -42,7 +42,7 @@ pub(crate) fn interpolation_at<'a>(
     begun(after)
 }
 
-// What a `#` before these trees begins.
+/// What a `#` before these trees begins.
 #[inline(never)]
 fn begun(after: &[TokenTree]) -> Option<FoundInterpolation<'_>>
     ensures found { begun_as result ≡ after_hash (forest after.now) }
@@ -55,7 +55,7 @@ fn begun(after: &[TokenTree]) -> Option<FoundInterpolation<'_>>
     Some(FoundInterpolation::Names(name_of(first)?, rest))
 }
 
-// The repetition of the group before these trees, where there is one.
+/// The repetition of the group before these trees, where there is one.
 fn repetition_of<'a>(body: &'a Group, after: &'a [TokenTree]) -> Option<FoundInterpolation<'a>>
     ensures found { begun_as result ≡ repeats body.now (forest after.now) }
     ensures rest { IfSome result (λ found.
@@ -80,7 +80,7 @@ fn repetition_of<'a>(body: &'a Group, after: &'a [TokenTree]) -> Option<FoundInt
     Some(FoundInterpolation::Repeats(Repetition { body, separator }, rest))
 }
 
-// The name that the tree is: an identifier, or a literal of digits alone.
+/// The name that the tree is: an identifier, or a literal of digits alone.
 fn name_of(tree: &TokenTree) -> Option<HoleName<'_>>
     ensures { named_by result ≡ tree_name tree.now }
 {
@@ -93,14 +93,14 @@ fn name_of(tree: &TokenTree) -> Option<HoleName<'_>>
     }
 }
 
-// Whether there are ASCII digits alone.
+/// Whether there are ASCII digits alone.
 fn all_digits(text: &str) -> bool
     ensures { result ≡ list_all is_ascii_digit (chars text.now) }
 {
     text.chars().all(|c| c.is_ascii_digit())
 }
 
-// Whether the tree is this mark, Joint or Alone.
+/// Whether the tree is this mark, Joint or Alone.
 #[inline(always)]
 fn is_mark(tree: &TokenTree, mark: char) -> bool
     ensures { result ≡ tree_is_mark mark tree.now }

@@ -50,7 +50,7 @@ pub(crate) fn filled_in_place(
     Ok(out.finish()?)
 }
 
-// Puts the trees with the holes filled after those of the stream.
+/// Puts the trees with the holes filled after those of the stream.
 #[cycle(filled_in_place)]
 fn fill_rest(
     alloc: Global,
@@ -91,7 +91,7 @@ fn fill_rest(
     Ok(())
 }
 
-// Makes the tree, which begins nothing, what comes out in its place.
+/// Makes the tree, which begins nothing, what comes out in its place.
 #[cycle(filled_in_place)]
 #[inline(always)]
 fn settle(
@@ -114,7 +114,7 @@ fn settle(
     Ok(())
 }
 
-// Fills the group inside, or sets the mark Alone.
+/// Fills the group inside, or sets the mark Alone.
 #[cycle(filled_in_place)]
 #[inline(always)]
 fn change(
@@ -142,7 +142,7 @@ fn change(
     }
 }
 
-// Fills the group inside.
+/// Fills the group inside.
 #[cycle(filled_in_place)]
 fn fill_group(
     alloc: Global,
@@ -167,7 +167,7 @@ fn fill_group(
     Ok(())
 }
 
-// Whether the tree is a mark that comes out Alone before these trees.
+/// Whether the tree is a mark that comes out Alone before these trees.
 #[inline(always)]
 fn comes_apart(tree: &TokenTree, after: &[TokenTree]) -> bool
     ensures { apart result tree.now ≡ apart_before (forest after.now) tree.now }

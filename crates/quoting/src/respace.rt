@@ -39,7 +39,7 @@ pub(crate) fn respaced(alloc: Global, stream: &TokenStream) -> Result<TokenStrea
     }
 }
 
-// The trees of one list, of which the first are respaced.
+/// The trees of one list, of which the first are respaced.
 #[derive(Drop)]
 struct RespacedList<'a> {
     // The list as it was.
@@ -71,7 +71,7 @@ impl<'a> Model for RespacedList<'a> {
 }
 
 impl<'a> RespacedList<'a> {
-    // A list of which nothing is done.
+    /// A list of which nothing is done.
     fn new(stream: &'a TokenStream) -> RespacedList<'a>
         ensures whole { result.whole ≡ stream.now }
         ensures done { result.done ≡ nil }
@@ -85,14 +85,14 @@ impl<'a> RespacedList<'a> {
         }
     }
 
-    // The first tree that is left, and those after it.
+    /// The first tree that is left, and those after it.
     fn next(&self) -> Option<(&'a TokenTree, &'a [TokenTree])>
         ensures { MatchOption result (self.now.left ≡ []) (λ next. self.now.left ≡ next.0.now ∷ next.1.now) }
     {
         self.trees[self.done..].split_first()
     }
 
-    // Respaces the first tree that is left, which is no group.
+    /// Respaces the first tree that is left, which is no group.
     fn step(
         &mut self,
         alloc: Global,
@@ -111,7 +111,7 @@ impl<'a> RespacedList<'a> {
         self.keep(tree)
     }
 
-    // Puts the group of this list, all of which is done, in the place of the group that the list comes from.
+    /// Puts the group of this list, all of which is done, in the place of the group that the list comes from.
     fn close(&mut self, alloc: Global, inner: RespacedList<'_>) -> Result<(), AllocError>
         requires open { IsOpen self.old.left inner.whole }
         requires all_done { inner.left ≡ [] }
@@ -130,7 +130,7 @@ impl<'a> RespacedList<'a> {
         }
     }
 
-    // Keeps the first tree that is left as it is.
+    /// Keeps the first tree that is left as it is.
     fn keep(&mut self, tree: &TokenTree) -> Result<(), AllocError>
         requires { self.old.left ≡ tree.now ∷ others self.old.left }
         ensures { OnOk result (Adds self.old (alone tree.now) self.new) }
@@ -142,7 +142,7 @@ impl<'a> RespacedList<'a> {
         Ok(())
     }
 
-    // Puts this tree in the place of the first one that is left. What was done is copied at the first such call.
+    /// Puts this tree in the place of the first one that is left. What was done is copied at the first such call.
     fn replace(&mut self, alloc: Global, tree: TokenTree) -> Result<(), AllocError>
         requires left { 0 < length self.old.left }
         requires inside { GoesInside tree }
@@ -158,7 +158,7 @@ impl<'a> RespacedList<'a> {
         Ok(())
     }
 
-    // The list, all of which is done.
+    /// The list, all of which is done.
     fn finish(self) -> Result<TokenStream, AllocError>
         requires { self.left ≡ [] }
         ensures { IfOk result (λ stream. stream ≡ self.entry.done) }
@@ -175,7 +175,7 @@ impl<'a> RespacedList<'a> {
     }
 }
 
-// The stream of copies of these trees. Groups share what is inside them.
+/// The stream of copies of these trees. Groups share what is inside them.
 fn copied(alloc: Global, trees: &[TokenTree]) -> Result<TokenStream, AllocError>
     requires { All GoesInside trees.now }
     ensures { IfOk result (λ stream. stream ≡ forest trees.now) }
@@ -187,7 +187,7 @@ fn copied(alloc: Global, trees: &[TokenTree]) -> Result<TokenStream, AllocError>
     Ok(stream)
 }
 
-// Puts a tree of a stream at the end of another.
+/// Puts a tree of a stream at the end of another.
 fn put(stream: &mut TokenStream, tree: TokenTree) -> Result<(), AllocError>
     requires { GoesInside tree }
     ensures { OnOk result (stream.new ≡ joined stream.old (alone tree)) }
@@ -196,7 +196,7 @@ fn put(stream: &mut TokenStream, tree: TokenTree) -> Result<(), AllocError>
     stream.extend_trees([tree])
 }
 
-// How the mark is spaced before these trees: `'` is Joint, any other mark Joint where it was and may be.
+/// How the mark is spaced before these trees: `'` is Joint, any other mark Joint where it was and may be.
 fn kept_spacing(mark: &Punct, after: &[TokenTree]) -> Spacing
     ensures { is_joint result
         ≡ is_kept_joint mark.now.mark (is_joint mark.now.spacing) (next_token (forest after.now)) }
@@ -209,7 +209,7 @@ fn kept_spacing(mark: &Punct, after: &[TokenTree]) -> Spacing
     }
 }
 
-// The same mark with this spacing.
+/// The same mark with this spacing.
 pub(crate) fn spaced(mark: &Punct, spacing: Spacing) -> Punct
     ensures { result ≡ record mark.now { spacing = spacing } }
 {
@@ -219,7 +219,7 @@ pub(crate) fn spaced(mark: &Punct, spacing: Spacing) -> Punct
     spaced
 }
 
-// The same group with these trees.
+/// The same group with these trees.
 pub(crate) fn regrouped(group: &Group, stream: TokenStream) -> Group
     ensures { result ≡ record group.now { stream = stream } }
 {

@@ -15,7 +15,7 @@ use crate::owned::filled_in_place;
 use crate::quote::Quote;
 use proc_macro2::{ParseError, SourceMap, TokenStream};
 
-// How many groups may stand one inside the other in a template.
+/// How many groups may stand one inside the other in a template.
 const DEPTH_LIMIT: usize = 64;
 
 impl Quote {

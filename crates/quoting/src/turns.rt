@@ -32,7 +32,7 @@ pub(crate) fn turns_of(
     Ok(None)
 }
 
-// How many streams the list has that is named where the step comes to its `#`.
+/// How many streams the list has that is named where the step comes to its `#`.
 fn step_turns(step: Step<'_>, holes: &[Hole<'_>]) -> Option<usize>
     ensures { result ≡ step_turns (named_all holes.now) (step_of step.entry) }
 {
@@ -42,7 +42,7 @@ fn step_turns(step: Step<'_>, holes: &[Hole<'_>]) -> Option<usize>
     }
 }
 
-// How many streams the list has that the tree before these names, if it is the `#` of a list.
+/// How many streams the list has that the tree before these names, if it is the `#` of a list.
 fn named_length(tree: &TokenTree, after: &[TokenTree], holes: &[Hole<'_>]) -> Option<usize>
     ensures { result ≡ named_length (named_all holes.now) (interpolation_of tree.now (forest after.now)) }
 {
@@ -89,7 +89,7 @@ pub(crate) fn checked(
     Ok(())
 }
 
-// Checks that the name has a hole, and a list as many streams as there are turns.
+/// Checks that the name has a hole, and a list as many streams as there are turns.
 fn name_checked(name: &HoleName<'_>, holes: &[Hole<'_>], turns: usize) -> Result<(), TemplateError>
     ensures { result ≡ name_checked turns (span_of name.now) (filling_of (named_all holes.now) (text_of name.now)) }
 {

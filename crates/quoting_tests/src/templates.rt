@@ -55,7 +55,7 @@ fn parsed_holes(alloc: Global, given: Given) -> Result<Fillings, Fail> {
     Ok(Fillings { ones, lists })
 }
 
-// The holes of these names, each for what its texts parsed to.
+/// The holes of these names, each for what its texts parsed to.
 fn holes<'a>(
     alloc: Global,
     given: Given,
@@ -71,7 +71,7 @@ fn holes<'a>(
     Ok(holes)
 }
 
-// What a quote of the template prints that these holes fill.
+/// What a quote of the template prints that these holes fill.
 fn filled_by(alloc: Global, template: &str, holes: &[Hole<'_>]) -> Result<String, Fail> {
     let mut quote = Quote::new(alloc);
     quote.parse(template, &mut SourceMap::new(alloc), holes)?;
@@ -79,7 +79,7 @@ fn filled_by(alloc: Global, template: &str, holes: &[Hole<'_>]) -> Result<String
     Ok(format!(in alloc; "{stream}")?)
 }
 
-// What a quote of the filled template prints.
+/// What a quote of the filled template prints.
 fn filled(alloc: Global, template: &str, given: Given) -> Result<String, Fail> {
     let fillings = parsed_holes(alloc, given)?;
     let holes = holes(alloc, given, &fillings)?;
@@ -98,7 +98,7 @@ fn check_filled(
     Ok(())
 }
 
-// What is wrong with a template, and where it is.
+/// What is wrong with a template, and where it is.
 fn told(
     alloc: Global,
     error: &TemplateError,
@@ -113,7 +113,7 @@ fn told(
     })
 }
 
-// Where the fault of the template is, and what it is.
+/// Where the fault of the template is, and what it is.
 fn fault(
     alloc: Global,
     template: &str,
@@ -139,7 +139,7 @@ fn span_of(error: &TemplateError) -> Option<Span> {
     }
 }
 
-// The text where the tree stands.
+/// The text where the tree stands.
 fn text_of<'m>(tree: &TokenTree, map: &'m SourceMap) -> Option<&'m str> {
     let span = tree.span();
     if map.holds(span) {

@@ -73,7 +73,7 @@ pub fn with_doc_comments(alloc: Global, text: &str) -> Result<String, RelayoutEr
     Ok(out.into_string())
 }
 
-// Whether nothing but white space stands on the line after this white space, where so it was before it or not.
+/// Whether nothing but white space stands on the line after this white space, where so it was before it or not.
 #[inline(always)]
 fn is_free_after(free: bool, white: &str) -> bool
     ensures { result ≡ (free || ends_line (chars white.now)) }
@@ -81,7 +81,7 @@ fn is_free_after(free: bool, white: &str) -> bool
     free || ends_line(white)
 }
 
-// Whether a line ends in the white space.
+/// Whether a line ends in the white space.
 #[inline(always)]
 fn ends_line(white: &str) -> bool
     ensures { result ≡ ends_line (chars white.now) }
@@ -89,9 +89,9 @@ fn ends_line(white: &str) -> bool
     white.chars().any(|c| c == '\n')
 }
 
-// Writes a comment in the place of the attribute at the front of the text, and before it what is kept up to there.
-// `free` says whether nothing but white space stands before the text on its line. Answers what follows the attribute's
-// line; `None`, and nothing is written, where no attribute is to become a comment.
+/// Writes a comment in the place of the attribute at the front of the text, and before it what is kept up to there.
+/// `free` says whether nothing but white space stands before the text on its line. Answers what follows the attribute's
+/// line; `None`, and nothing is written, where no attribute is to become a comment.
 #[inline(always)]
 fn push_comment<'a>(
     alloc: Global,
@@ -116,7 +116,7 @@ fn push_comment<'a>(
     push_attribute(alloc, out, kept, text)
 }
 
-// The same, where nothing but white space stands before the text on its line.
+/// The same, where nothing but white space stands before the text on its line.
 #[inline(never)]
 fn push_attribute<'a>(
     alloc: Global,
@@ -151,7 +151,7 @@ fn push_attribute<'a>(
     push_doc(out, kept, text, inner, said.as_str(), rest)
 }
 
-// The same of an attribute of this text before the rest, if a comment gives the text.
+/// The same of an attribute of this text before the rest, if a comment gives the text.
 fn push_doc<'a>(
     out: &mut TextBuilder,
     kept: &str,
@@ -178,15 +178,15 @@ fn push_doc<'a>(
     Ok(Some(rest))
 }
 
-// How a comment begins, one with `!` or not.
+/// How a comment begins, one with `!` or not.
 fn front_of(inner: bool) -> &'static str
     ensures { result.now ≡ comment_front inner }
 {
     if inner { "//!" } else { "///" }
 }
 
-// What follows the piece at the front of the text, where no attribute is to become a comment, and whether nothing but
-// white space stands before that on its line. `free` says whether so it is before the piece. `None` where none stands.
+/// What follows the piece at the front of the text, where no attribute is to become a comment, and whether nothing but
+/// white space stands before that on its line. `free` says whether so it is before the piece. `None` where none stands.
 #[inline(always)]
 fn past_piece(text: &str, first: bool, free: bool) -> Option<(&str, bool)>
     requires { IsTrue free → HasNoAttribute (chars text.now) }
@@ -202,7 +202,7 @@ fn past_piece(text: &str, first: bool, free: bool) -> Option<(&str, bool)>
     Some((rest, is_free(free, piece.kind, own)))
 }
 
-// Whether nothing but white space stands on the line after a piece of this kind and text.
+/// Whether nothing but white space stands on the line after a piece of this kind and text.
 fn is_free(free: bool, kind: PieceKind<'_>, text: &str) -> bool
     ensures { result ≡ (is_white_gap (kind_of kind.entry (chars text.now), chars text.now)
         && (free || begins_with (codes "\n") (chars text.now))) }
@@ -213,7 +213,7 @@ fn is_free(free: bool, kind: PieceKind<'_>, text: &str) -> bool
     }
 }
 
-// What follows the front of an attribute, which is of a comment with `!` or not.
+/// What follows the front of an attribute, which is of a comment with `!` or not.
 fn past_front(text: &str) -> Option<(bool, &str)>
     ensures found { MatchOption result
         ((inner : Bool) → begins_with (attribute_front inner) (chars text.now) ≡ false)
@@ -229,7 +229,7 @@ fn past_front(text: &str) -> Option<(bool, &str)>
     None
 }
 
-// The literal at the front of the text, and what follows `]` and LF after it.
+/// The literal at the front of the text, and what follows `]` and LF after it.
 fn split_literal(text: &str) -> Option<(&str, &str)>
     ensures found { MatchOption result ((p r : List ℕ) → lexical.Literal p (codes "]\n" ++ r)
         → chars text.now ≡ p ++ (codes "]\n" ++ r) → ⊥)
@@ -246,7 +246,7 @@ fn split_literal(text: &str) -> Option<(&str, &str)>
     Some((&text[..bytes], rest))
 }
 
-// The text of which this is the string literal, as `Literal::string` writes it.
+/// The text of which this is the string literal, as `Literal::string` writes it.
 fn text_of(alloc: Global, literal: &str) -> Result<Option<String>, AllocError>
     ensures { IfOk result (λ found. MatchOption found
         ((text : List ℕ) → IsText text → chars literal.now ≡ string_text text → ⊥)
@@ -263,7 +263,7 @@ fn text_of(alloc: Global, literal: &str) -> Result<Option<String>, AllocError>
     }
 }
 
-// The text, if this is its string literal.
+/// The text, if this is its string literal.
 fn same_literal(alloc: Global, literal: &str, text: String) -> Result<Option<String>, AllocError>
     ensures { IfOk result (λ found. MatchOption found
         (chars literal.now ≡ string_text (chars (string_bytes text)) → ⊥)
@@ -277,21 +277,21 @@ fn same_literal(alloc: Global, literal: &str, text: String) -> Result<Option<Str
     }
 }
 
-// Whether both are the same text.
+/// Whether both are the same text.
 fn is_same(text: &str, other: &str) -> bool
     ensures { IsTrue result ↔ (chars text.now ≡ chars other.now) }
 {
     text == other
 }
 
-// Whether a doc comment of one line gives the text.
+/// Whether a doc comment of one line gives the text.
 fn is_doc_line(inner: bool, text: &str) -> bool
     ensures { result ≡ is_doc_line inner (chars text.now) }
 {
     is_in_line(text) && (inner || !begins(text, "/"))
 }
 
-// Whether no line ends in the text, and no CR stands in it.
+/// Whether no line ends in the text, and no CR stands in it.
 fn is_in_line(text: &str) -> bool
     ensures { result ≡ list_all in_line (chars text.now) }
 {

@@ -53,7 +53,7 @@ pub fn relayout(alloc: Global, text: &str, choices: &[White]) -> Result<String, 
     }
 }
 
-// Whether it is a line comment.
+/// Whether it is a line comment.
 fn is_line(next: PlacedPiece<'_>) -> bool
     ensures { result ≡ is_line (
       kind_of next.entry.piece.kind (chars next.entry.text.now),
@@ -66,9 +66,9 @@ fn is_line(next: PlacedPiece<'_>) -> bool
     }
 }
 
-// Takes the next choice for a run of white characters, which stands from `from` up to `to`, if it isn't empty. A run
-// that changes is written as the choice says, after the text that was kept before it. Answers the text that is kept
-// now, up to `to` and on, and the choices for later runs.
+/// Takes the next choice for a run of white characters, which stands from `from` up to `to`, if it isn't empty. A run
+/// that changes is written as the choice says, after the text that was kept before it. Answers the text that is kept
+/// now, up to `to` and on, and the choices for later runs.
 #[inline(always)]
 fn push_run<'a, 'b>(
     out: &mut TextBuilder,

@@ -23,7 +23,7 @@ pub enum White {
     },
 }
 
-// Writes what is chosen for a run, which may stand right after a line comment.
+/// Writes what is chosen for a run, which may stand right after a line comment.
 pub(crate) fn push_white(
     out: &mut TextBuilder,
     choice: White,
@@ -40,7 +40,7 @@ pub(crate) fn push_white(
     }
 }
 
-// Writes the run's line ends, and then tabs and spaces. A run without a line end is written as it is.
+/// Writes the run's line ends, and then tabs and spaces. A run without a line end is written as it is.
 fn push_lines(
     out: &mut TextBuilder,
     tabs: usize,
@@ -56,7 +56,7 @@ fn push_lines(
     push_times(out, ' ', spaces)
 }
 
-// Writes the run's line ends, and answers whether there are any.
+/// Writes the run's line ends, and answers whether there are any.
 fn push_line_ends(out: &mut TextBuilder, run: &str) -> Result<bool, AllocError>
     ensures { IfOk result (λ ended. (ended ≡ ends_line (chars run.now))
         × (out.new ≡ out.old ++ line_ends false (chars run.now))) }
@@ -71,7 +71,7 @@ fn push_line_ends(out: &mut TextBuilder, run: &str) -> Result<bool, AllocError>
     Ok(ended)
 }
 
-// Writes the character if it is LF, after CR or not.
+/// Writes the character if it is LF, after CR or not.
 fn push_line_end(out: &mut TextBuilder, returned: bool, c: char) -> Result<(), AllocError>
     ensures { OnOk result (out.new ≡ out.old ++ line_end returned c) }
 {
@@ -85,7 +85,7 @@ fn push_line_end(out: &mut TextBuilder, returned: bool, c: char) -> Result<(), A
     }
 }
 
-// Writes the character so many times.
+/// Writes the character so many times.
 fn push_times(out: &mut TextBuilder, c: char, count: usize) -> Result<(), AllocError>
     ensures { OnOk result (out.new ≡ out.old ++ repeated c count) }
 {

@@ -42,8 +42,8 @@ pub fn check_all<W: Write>(
     Ok(faulty || told)
 }
 
-// Writes why the text of the file at this path doesn't parse, and answers whether it has a fault. Nothing is written
-// for a text that parses.
+/// Writes why the text of the file at this path doesn't parse, and answers whether it has a fault. Nothing is written
+/// for a text that parses.
 fn check_text<W: Write>(
     alloc: Global,
     form: Form,
@@ -66,7 +66,7 @@ fn check_text<W: Write>(
     }
 }
 
-// The fault of the text.
+/// The fault of the text.
 fn fault<'a>(text: &'a str, explained: &Explained) -> Finding<'a>
     ensures { seen result ≡ fault (chars text.now) explained.now }
 {
@@ -74,7 +74,7 @@ fn fault<'a>(text: &'a str, explained: &Explained) -> Finding<'a>
     found_at(reason.name(), reason.message(), text, explained.at.span)
 }
 
-// Writes what is said of the fault, and what helps besides.
+/// Writes what is said of the fault, and what helps besides.
 fn write_fault<W: Write>(
     alloc: Global,
     form: Form,
@@ -91,7 +91,7 @@ fn write_fault<W: Write>(
     write_note(alloc, form, path, text, explained, hint, writer)
 }
 
-// Writes what is said below the fault.
+/// Writes what is said below the fault.
 fn write_note<W: Write>(
     alloc: Global,
     form: Form,
@@ -119,7 +119,7 @@ fn write_note<W: Write>(
     }
 }
 
-// Writes the same in these colours.
+/// Writes the same in these colours.
 fn write_notes<W: Write>(
     alloc: Global,
     colours: Colours,
@@ -136,7 +136,7 @@ fn write_notes<W: Write>(
     write_hint(alloc, colours, path, text, hint, writer)
 }
 
-// Writes of a closer that doesn't match where the opener stands that waits for another.
+/// Writes of a closer that doesn't match where the opener stands that waits for another.
 fn write_waiting<W: Write>(
     alloc: Global,
     colours: Colours,
@@ -162,7 +162,7 @@ fn write_waiting<W: Write>(
     }
 }
 
-// Writes what helps besides.
+/// Writes what helps besides.
 fn write_hint<W: Write>(
     alloc: Global,
     colours: Colours,
@@ -191,7 +191,7 @@ fn write_hint<W: Write>(
     }
 }
 
-// Writes how many comments are open, and which ended last.
+/// Writes how many comments are open, and which ended last.
 fn write_comments<W: Write>(
     alloc: Global,
     colours: Colours,
@@ -208,7 +208,7 @@ fn write_comments<W: Write>(
     write_closed(alloc, colours, path, text, closed, writer)
 }
 
-// Writes how many comments are open, if that is more than one.
+/// Writes how many comments are open, if that is more than one.
 fn write_depth<W: Write>(colours: Colours, depth: usize, writer: &mut W) -> io::Result<()>
     ensures { OnOk result (Appends (W.contents writer.old) (W.contents writer.new)
         (depth_note (codes_of colours) depth)) }
@@ -223,7 +223,7 @@ fn write_depth<W: Write>(colours: Colours, depth: usize, writer: &mut W) -> io::
     )
 }
 
-// Writes which comment ended last, if one did.
+/// Writes which comment ended last, if one did.
 fn write_closed<W: Write>(
     alloc: Global,
     colours: Colours,
@@ -249,7 +249,7 @@ fn write_closed<W: Write>(
     }
 }
 
-// Writes what stands at this place.
+/// Writes what stands at this place.
 fn write_place<W: Write>(
     alloc: Global,
     colours: Colours,
@@ -268,7 +268,7 @@ fn write_place<W: Write>(
     write_excerpt(alloc, colours, path, &place, writer)
 }
 
-// What is found where the span says.
+/// What is found where the span says.
 fn found_at<'a>(name: &'static str, says: &'static str, text: &'a str, span: Span) -> Finding<'a>
     ensures { seen result ≡ found_at name.now says.now (chars text.now) span.lo span.hi }
 {
@@ -291,5 +291,5 @@ fn found_at<'a>(name: &'static str, says: &'static str, text: &'a str, span: Spa
     }
 }
 
-// The position of the text's first character.
+/// The position of the text's first character.
 const FIRST: u32 = 1;

@@ -72,7 +72,7 @@ pub fn tell_line_ends<W: Write>(
     Ok(())
 }
 
-// Writes a line for the character at this place, if it is odd before what follows it.
+/// Writes a line for the character at this place, if it is odd before what follows it.
 fn tell_end<W: Write>(
     alloc: Global,
     form: Form,
@@ -115,7 +115,7 @@ pub fn odd<'a>(name: &'static str, says: &'static str, here: &'a str, place: Pla
     }
 }
 
-// Whether the text begins with a line feed.
+/// Whether the text begins with a line feed.
 fn begins_feed(text: &str) -> bool
     ensures { result ≡ begins_feed (chars text.now) }
 {
@@ -126,7 +126,7 @@ fn begins_feed(text: &str) -> bool
 }
 
 impl LineEnds {
-    // What is known after the character.
+    /// What is known after the character.
     fn after(self, c: char) -> LineEnds
         ensures { result ≡ ends_after self c }
     {
@@ -136,7 +136,7 @@ impl LineEnds {
         }
     }
 
-    // How lines end, the one that ends at this line feed too.
+    /// How lines end, the one that ends at this line feed too.
     fn joined(self) -> Style
         ensures { result ≡ joined self }
     {
@@ -147,7 +147,7 @@ impl LineEnds {
         }
     }
 
-    // Whether a line feed here ends its line unlike those before it, which are alike.
+    /// Whether a line feed here ends its line unlike those before it, which are alike.
     fn is_other(self) -> bool
         ensures { result ≡ is_other self }
     {

@@ -35,7 +35,7 @@ pub fn check_files<W: Write, E: Write>(
     Ok(tally)
 }
 
-// Checks the file at this path, and answers whether its text has a fault.
+/// Checks the file at this path, and answers whether its text has a fault.
 fn check_file<W: Write>(
     rt: &HostRuntime,
     options: &Options,
@@ -57,7 +57,7 @@ fn check_file<W: Write>(
     )
 }
 
-// The outcome again, where it isn't that a write failed.
+/// The outcome again, where it isn't that a write failed.
 fn unless_writing_failed(outcome: Result<bool, Failure>) -> Result<Result<bool, Failure>, Failure>
     ensures { IfOk result (λ same. same ≡ outcome) }
 {
@@ -67,7 +67,7 @@ fn unless_writing_failed(outcome: Result<bool, Failure>) -> Result<Result<bool, 
     }
 }
 
-// Says why the file at this path wasn't read. A message that can't be written changes nothing.
+/// Says why the file at this path wasn't read. A message that can't be written changes nothing.
 fn say_unread<E: Write>(
     alloc: Global,
     path: &str,

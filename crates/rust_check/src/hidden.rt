@@ -32,7 +32,7 @@ pub fn hides_as(c: char) -> Option<Hidden>
     }
 }
 
-// The same of a character of ASCII: each control but tab, line feed and CR.
+/// The same of a character of ASCII: each control but tab, line feed and CR.
 fn ascii_hides_as(c: char) -> Option<Hidden>
     ensures { result ≡ ascii_hides_as c }
 {
@@ -43,7 +43,7 @@ fn ascii_hides_as(c: char) -> Option<Hidden>
     }
 }
 
-// The same of a character past ASCII. What selects a variant of the character before it shows on that.
+/// The same of a character past ASCII. What selects a variant of the character before it shows on that.
 fn other_hides_as(c: char) -> Option<Hidden>
     ensures { result ≡ other_hides_as c }
 {

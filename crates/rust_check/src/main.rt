@@ -35,7 +35,7 @@ fn main(rt: HostRuntime) -> ExitCode {
     }
 }
 
-// Does what the words after the program's name ask for, and answers the status.
+/// Does what the words after the program's name ask for, and answers the status.
 fn run(rt: &HostRuntime) -> Result<u8, Failure> {
     let words = words(rt.alloc(), env::args(rt), USAGE)?;
     match request_of(rt.alloc(), words.as_slice())? {
@@ -45,7 +45,7 @@ fn run(rt: &HostRuntime) -> Result<u8, Failure> {
     }
 }
 
-// Checks the files, and answers the status.
+/// Checks the files, and answers the status.
 fn check(rt: &HostRuntime, options: &Options) -> Result<u8, Failure> {
     let mut writer = BufWriter::new(rt.alloc(), rt.stdout())?;
     let paths = options.paths.as_slice();
@@ -57,7 +57,7 @@ fn check(rt: &HostRuntime, options: &Options) -> Result<u8, Failure> {
     Ok(tally.status())
 }
 
-// Writes a text.
+/// Writes a text.
 fn print(rt: &HostRuntime, text: &str) -> Result<u8, Failure> {
     let mut writer = rt.stdout();
     write!(writer, "{text}")?;

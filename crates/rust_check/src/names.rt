@@ -33,14 +33,14 @@ pub fn is_mixed(name: &str) -> bool
 }
 
 impl Writing {
-    // Whether the scripts are not written together.
+    /// Whether the scripts are not written together.
     fn are_apart(self) -> bool
         ensures { result ≡ are_apart self }
     {
         matches!(self, Writing::Mixed)
     }
 
-    // With a character more, of this script.
+    /// With a character more, of this script.
     fn with(self, script: Script) -> Writing
         ensures { result ≡ written_with self script }
     {
@@ -90,14 +90,14 @@ impl Writing {
     }
 }
 
-// Whether Han is written with it: with Hangul and Bopomofo.
+/// Whether Han is written with it: with Hangul and Bopomofo.
 fn is_with_han(script: Script) -> bool
     ensures { result ≡ is_with_han script }
 {
     is_same(script, Script::Hangul) || is_same(script, Script::Bopomofo)
 }
 
-// Whether the two are one script.
+/// Whether the two are one script.
 fn is_same(a: Script, b: Script) -> bool
     ensures { result ≡ is_same a b }
 {

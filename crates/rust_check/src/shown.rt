@@ -43,7 +43,7 @@ pub fn spaces(alloc: Global, count: usize) -> Result<String, AllocError>
     Ok(out)
 }
 
-// Appends a text as it is shown.
+/// Appends a text as it is shown.
 fn push_shown(out: &mut String, text: &str) -> Result<(), AllocError>
     ensures { OnOk result (string_bytes out.new ≡ string_bytes out.old ++ each shown (chars text.now)) }
 {
@@ -53,7 +53,7 @@ fn push_shown(out: &mut String, text: &str) -> Result<(), AllocError>
     Ok(())
 }
 
-// Appends a character as it is shown.
+/// Appends a character as it is shown.
 fn push_character(out: &mut String, c: char) -> Result<(), AllocError>
     ensures { OnOk result (string_bytes out.new ≡ string_bytes out.old ++ shown c) }
 {
@@ -65,7 +65,7 @@ fn push_character(out: &mut String, c: char) -> Result<(), AllocError>
     }
 }
 
-// Appends this for each column of the text.
+/// Appends this for each column of the text.
 fn push_filled(out: &mut String, fill: &str, text: &str) -> Result<(), AllocError>
     ensures { OnOk result (string_bytes out.new ≡ string_bytes out.old ++ filled fill.now (chars text.now)) }
 {
@@ -75,7 +75,7 @@ fn push_filled(out: &mut String, fill: &str, text: &str) -> Result<(), AllocErro
     Ok(())
 }
 
-// Appends a text so many times.
+/// Appends a text so many times.
 fn push_times(out: &mut String, count: usize, text: &str) -> Result<(), AllocError>
     ensures { OnOk result (string_bytes out.new ≡ string_bytes out.old ++ times count text.now) }
 {
@@ -85,7 +85,7 @@ fn push_times(out: &mut String, count: usize, text: &str) -> Result<(), AllocErr
     Ok(())
 }
 
-// The columns that a character takes as it is shown.
+/// The columns that a character takes as it is shown.
 fn columns(c: char) -> usize
     ensures { result ≡ columns c }
 {

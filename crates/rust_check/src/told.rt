@@ -43,7 +43,7 @@ pub fn tell_hidden<W: Write>(
     Ok(found)
 }
 
-// Writes a line for each hidden character of the text's pieces, and of what follows them.
+/// Writes a line for each hidden character of the text's pieces, and of what follows them.
 fn tell_pieces<W: Write>(
     alloc: Global,
     form: Form,
@@ -77,7 +77,7 @@ fn tell_pieces<W: Write>(
     Ok(())
 }
 
-// Writes a line for what is odd about the piece, if it is a name, and takes that into account.
+/// Writes a line for what is odd about the piece, if it is a name, and takes that into account.
 fn tell_name<W: Write>(
     alloc: Global,
     form: Form,
@@ -123,7 +123,7 @@ fn tell_name<W: Write>(
     tell_if(alloc, form, path, is_other, &finding, found, writer)
 }
 
-// Writes a line for a finding, if it is one.
+/// Writes a line for a finding, if it is one.
 fn tell_if<W: Write>(
     alloc: Global,
     form: Form,
@@ -143,14 +143,14 @@ fn tell_if<W: Write>(
     write_line(alloc, form, path, finding, writer)
 }
 
-// Whether the piece is a literal.
+/// Whether the piece is a literal.
 fn is_literal(kind: PieceKind<'_>) -> bool
     ensures { (text : List ℕ) → result ≡ is_literal (kind_of kind.entry text) }
 {
     matches!(kind, PieceKind::Literal)
 }
 
-// Writes a line for each hidden character of a piece that begins at this place, and answers the place after it.
+/// Writes a line for each hidden character of a piece that begins at this place, and answers the place after it.
 fn tell_piece<W: Write>(
     alloc: Global,
     form: Form,
@@ -180,7 +180,7 @@ fn tell_piece<W: Write>(
     Ok(at)
 }
 
-// Whether the controls of the direction are balanced on the line that goes on after this character.
+/// Whether the controls of the direction are balanced on the line that goes on after this character.
 fn balanced_after(alloc: Global, balanced: bool, c: char, rest: &str) -> Result<bool, AllocError>
     ensures { IfOk result (λ is. is ≡ balanced_after balanced c (chars rest.now)) }
 {
@@ -191,7 +191,7 @@ fn balanced_after(alloc: Global, balanced: bool, c: char, rest: &str) -> Result<
     }
 }
 
-// Writes a line for the character at this place, if it hides something.
+/// Writes a line for the character at this place, if it hides something.
 fn tell_character<W: Write>(
     alloc: Global,
     form: Form,
@@ -218,7 +218,7 @@ fn tell_character<W: Write>(
     write_line(alloc, form, path, &finding, writer)
 }
 
-// Whether nothing is said of it: of white space in a literal, and of U+FEFF at the text's front.
+/// Whether nothing is said of it: of white space in a literal, and of U+FEFF at the text's front.
 fn is_spared(literal: bool, place: Place, c: char, hidden: Hidden) -> bool
     ensures { result ≡ is_spared literal place c hidden }
 {
@@ -229,7 +229,7 @@ fn is_spared(literal: bool, place: Place, c: char, hidden: Hidden) -> bool
     }
 }
 
-// A hidden character, of which `here` is the text.
+/// A hidden character, of which `here` is the text.
 fn finding<'a>(balanced: bool, place: Place, hidden: Hidden, c: char, here: &'a str) -> Finding<'a>
     requires { here.now ≡ encode_utf8 c }
     ensures { seen result ≡ found_one balanced place hidden c }
@@ -244,7 +244,7 @@ fn finding<'a>(balanced: bool, place: Place, hidden: Hidden, c: char, here: &'a 
     }
 }
 
-// The short name of what hides something.
+/// The short name of what hides something.
 fn name_of_hidden(balanced: bool, hidden: Hidden) -> &'static str
     ensures { result.now ≡ name_of_hidden balanced hidden }
 {
@@ -258,7 +258,7 @@ fn name_of_hidden(balanced: bool, hidden: Hidden) -> &'static str
     }
 }
 
-// What is said of it.
+/// What is said of it.
 fn says_of_hidden(balanced: bool, hidden: Hidden) -> &'static str
     ensures { result.now ≡ says_of_hidden balanced hidden }
 {

@@ -34,7 +34,7 @@ pub fn is_balanced(alloc: Global, text: &str) -> Result<bool, AllocError>
     Ok(opened.as_slice().is_empty())
 }
 
-// Takes a character, and answers whether it closes nothing that isn't open, the innermost last.
+/// Takes a character, and answers whether it closes nothing that isn't open, the innermost last.
 fn take(opened: &mut Vec<bool>, c: char) -> Result<bool, AllocError>
     ensures { IfOk result (λ is. open_after (Some (reverse opened.old.items)) c
         ≡ (if is then Some (reverse opened.new.items) else None)) }
@@ -52,14 +52,14 @@ fn take(opened: &mut Vec<bool>, c: char) -> Result<bool, AllocError>
     }
 }
 
-// Whether both are apart, or neither.
+/// Whether both are apart, or neither.
 fn is_same(a: bool, b: bool) -> bool
     ensures { result ≡ is_same a b }
 {
     if a { b } else { !b }
 }
 
-// What the character does to its line's direction.
+/// What the character does to its line's direction.
 fn turn_of(c: char) -> Turn
     ensures { result ≡ turn_of c }
 {

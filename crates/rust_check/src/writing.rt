@@ -51,8 +51,8 @@ pub fn write_line<W: Write>(
     }
 }
 
-// Writes what is found in the file at this path in one line: `FILE:L:C: error: what`, line and column from 1, the
-// column in characters.
+/// Writes what is found in the file at this path in one line: `FILE:L:C: error: what`, line and column from 1, the
+/// column in characters.
 fn write_short<W: Write>(path: &str, finding: &Finding<'_>, writer: &mut W) -> io::Result<()>
     ensures { OnOk result (Appends (W.contents writer.old) (W.contents writer.new)
         (short path.now (seen finding.now))) }
@@ -64,7 +64,7 @@ fn write_short<W: Write>(path: &str, finding: &Finding<'_>, writer: &mut W) -> i
     writeln!(writer, "{path}:{line}:{column}: error: {says}")
 }
 
-// Writes what is found in the file at this path, with its line of the source and carets below.
+/// Writes what is found in the file at this path, with its line of the source and carets below.
 fn write_long<W: Write>(
     alloc: Global,
     colours: Colours,
@@ -79,7 +79,7 @@ fn write_long<W: Write>(
     write_excerpt(alloc, colours, path, finding, writer)
 }
 
-// Writes what is wrong.
+/// Writes what is wrong.
 fn write_headline<W: Write>(
     colours: Colours,
     finding: &Finding<'_>,
@@ -129,7 +129,7 @@ pub fn write_excerpt<W: Write>(
     )
 }
 
-// Writes what is found in the file at this path as an object of JSON on a line.
+/// Writes what is found in the file at this path as an object of JSON on a line.
 fn write_json<W: Write>(
     alloc: Global,
     path: &str,
@@ -142,7 +142,7 @@ fn write_json<W: Write>(
     write_json_where(finding, writer)
 }
 
-// Writes the front of an object of JSON: the file and what is wrong.
+/// Writes the front of an object of JSON: the file and what is wrong.
 fn write_json_what<W: Write>(
     alloc: Global,
     path: &str,
@@ -161,7 +161,7 @@ fn write_json_what<W: Write>(
     )
 }
 
-// Writes its rest: where it stands.
+/// Writes its rest: where it stands.
 fn write_json_where<W: Write>(finding: &Finding<'_>, writer: &mut W) -> io::Result<()>
     ensures { OnOk result (Appends (W.contents writer.old) (W.contents writer.new) (json_where (seen finding.now))) }
 {

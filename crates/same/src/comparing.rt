@@ -34,7 +34,7 @@ pub fn difference<'a>(
     }
 }
 
-// Whether the other is the same word.
+/// Whether the other is the same word.
 fn is_same(alloc: Global, one: Said<'_>, other: Option<Said<'_>>) -> Result<bool, AllocError>
     requires one { HasText one }
     requires other { IfSome other HasText }
@@ -46,7 +46,7 @@ fn is_same(alloc: Global, one: Said<'_>, other: Option<Said<'_>>) -> Result<bool
     }
 }
 
-// Whether both are the same word.
+/// Whether both are the same word.
 fn is_alike(alloc: Global, one: Said<'_>, other: Said<'_>) -> Result<bool, AllocError>
     requires one { HasText one }
     requires other { HasText other }
@@ -68,7 +68,7 @@ fn is_alike(alloc: Global, one: Said<'_>, other: Said<'_>) -> Result<bool, Alloc
     })
 }
 
-// Whether the literal is the string literal of the text.
+/// Whether the literal is the string literal of the text.
 fn is_string_of(alloc: Global, text: &str, literal: &str) -> Result<bool, AllocError>
     ensures { IfOk result (λ same. IsTrue same ↔ string_text (chars text.now) ≡ chars literal.now) }
 {

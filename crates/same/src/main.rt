@@ -30,7 +30,7 @@ fn main(rt: HostRuntime) -> ExitCode {
     }
 }
 
-// Compares what the words after the program's name ask for, and answers the status.
+/// Compares what the words after the program's name ask for, and answers the status.
 fn run(rt: &HostRuntime) -> Result<u8, Failure> {
     let words = words(rt.alloc(), env::args(rt), USAGE)?;
     match words.as_slice() {
@@ -44,7 +44,7 @@ fn run(rt: &HostRuntime) -> Result<u8, Failure> {
     }
 }
 
-// Compares the files at these paths, and answers the status.
+/// Compares the files at these paths, and answers the status.
 fn compare_files(
     rt: &HostRuntime,
     comments: bool,
@@ -72,7 +72,7 @@ fn compare_files(
     }
 }
 
-// The text of the file at this path. Where it isn't had or has a fault, a line on standard error says so.
+/// The text of the file at this path. Where it isn't had or has a fault, a line on standard error says so.
 fn text_at(rt: &HostRuntime, path: &str) -> Option<String> {
     match checked(rt, path) {
         Ok(text) => Some(text),
@@ -83,7 +83,7 @@ fn text_at(rt: &HostRuntime, path: &str) -> Option<String> {
     }
 }
 
-// The text of the file at this path, which has no fault.
+/// The text of the file at this path, which has no fault.
 fn checked(rt: &HostRuntime, path: &str) -> Result<String, Failure> {
     let text = read_text(rt, path)?;
     check_text(rt.alloc(), text.as_str())?;

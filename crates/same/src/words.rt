@@ -65,7 +65,7 @@ impl<'a> Words<'a> {
         }
     }
 
-    // The first word of the piece, if it has one.
+    /// The first word of the piece, if it has one.
     fn begin(&mut self, next: PlacedPiece<'a>) -> Option<Said<'a>>
         requires lends { LendsText next.piece.kind }
         requires piece { IsUtf8 next.text.now }
@@ -105,7 +105,7 @@ impl<'a> Words<'a> {
         }
     }
 
-    // The token of this step of the doc comment.
+    /// The token of this step of the doc comment.
     fn take_step(&mut self, step: DocStep) -> Said<'a>
         ensures first { (here : List ℕ) (more : List Placed)
             → placed_onto (doc_from step (chars self.old.doc.now)) here more
@@ -129,7 +129,7 @@ impl<'a> Words<'a> {
         }
     }
 
-    // What the doc comment says.
+    /// What the doc comment says.
     fn doc_text(&self) -> &'a str
         ensures same { result.now ≡ self.now.doc.now }
         ensures utf8 { IsUtf8 result.now }

@@ -10,22 +10,22 @@ use std::alloc::{AllocError, Global};
 use std::process::Abort;
 use std::test::Fail;
 
-// The identifier `x`, which stands in no file.
+/// The identifier `x`, which stands in no file.
 fn x(alloc: Global) -> Result<Ident, IdentError> {
     Ident::new(alloc, "x", Span::call_site())
 }
 
-// The stream of `x` alone.
+/// The stream of `x` alone.
 fn only_x(alloc: Global) -> Result<TokenStream, IdentError> {
     Ok(TokenStream::from_tree(alloc, TokenTree::Ident(x(alloc)?))?)
 }
 
-// The group of this stream, which stands in no file.
+/// The group of this stream, which stands in no file.
 fn grouped(delimiter: Delimiter, stream: TokenStream) -> Group {
     group(delimiter, stream, Span::call_site())
 }
 
-// The literal `-3i32` at 1..6.
+/// The literal `-3i32` at 1..6.
 fn minus_three(alloc: Global) -> Result<Literal, AllocError> {
     let mut literal = Literal::i32_suffixed(alloc, -3)?;
     literal.set_span(span_of(1, 6));
@@ -54,7 +54,7 @@ fn a_mark_keeps_its_spacing(rt: HostRuntime) -> Result<(), Fail> {
     Ok(())
 }
 
-// An empty group in braces, and one of `x` for each delimiter.
+/// An empty group in braces, and one of `x` for each delimiter.
 fn groups(alloc: Global) -> Result<Vec<Group>, Fail> {
     let mut groups = Vec::new(alloc);
     groups.push(grouped(Delimiter::Brace, TokenStream::new(alloc)))?;
@@ -114,7 +114,7 @@ fn tokens_of_each_kind_are_put_in(rt: HostRuntime) -> Result<(), Fail> {
     Ok(())
 }
 
-// The stream of nothing, of what another has, and of `-3i32`.
+/// The stream of nothing, of what another has, and of `-3i32`.
 fn three_streams(alloc: Global, other: &TokenStream) -> Result<TokenStream, Fail> {
     let again = other.clone()?;
     let minus = TokenStream::from_tree(alloc, TokenTree::Literal(minus_three(alloc)?))?;
@@ -122,7 +122,7 @@ fn three_streams(alloc: Global, other: &TokenStream) -> Result<TokenStream, Fail
     Ok(TokenStream::from_streams(alloc, [nothing, again, minus])?)
 }
 
-// Adds what another stream has twice.
+/// Adds what another stream has twice.
 fn add_twice(stream: &mut TokenStream, other: &TokenStream) -> Result<(), Fail> {
     stream.extend_streams([other.clone()?, other.clone()?])?;
     Ok(())
@@ -171,7 +171,7 @@ fn a_stream_of_a_group_that_is_extended_leaves_the_group(rt: HostRuntime) -> Res
     Ok(())
 }
 
-// The trees `x` and `-3i32`.
+/// The trees `x` and `-3i32`.
 fn two_trees(alloc: Global) -> Result<Vec<TokenTree>, Fail> {
     let mut trees = Vec::new(alloc);
     trees.push(TokenTree::Ident(x(alloc)?))?;
@@ -179,14 +179,14 @@ fn two_trees(alloc: Global) -> Result<Vec<TokenTree>, Fail> {
     Ok(trees)
 }
 
-// The stream of these trees twice, as std collects it.
+/// The stream of these trees twice, as std collects it.
 fn collected(alloc: Global) -> Result<TokenStream, Fail> {
     let stream: TokenStream = two_trees(alloc)?.into_iter().collect(alloc)?;
     let streams = vec![in alloc; stream.clone()?, stream]?;
     Ok(streams.into_iter().collect(alloc)?)
 }
 
-// Extends the stream by a tree, a stream and a token of each kind.
+/// Extends the stream by a tree, a stream and a token of each kind.
 fn extend_by_each(alloc: Global, stream: &mut TokenStream) -> Result<(), Fail> {
     stream.extend([TokenTree::Ident(x(alloc)?)])?;
     stream.extend([only_x(alloc)?])?;

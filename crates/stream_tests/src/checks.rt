@@ -59,14 +59,14 @@ pub fn parses_well_spaced(alloc: Global, text: &str) -> Result<bool, ParseError>
     Ok(parsed(alloc, text)?.is_well_spaced())
 }
 
-// Whether the two texts, each parsed in a new map, give the same tokens, asked from both sides.
+/// Whether the two texts, each parsed in a new map, give the same tokens, asked from both sides.
 fn are_same(alloc: Global, text: &str, other: &str) -> Result<bool, ParseError> {
     let stream = parsed(alloc, text)?;
     let other = parsed(alloc, other)?;
     Ok(stream.same_tokens(&other) && other.same_tokens(&stream))
 }
 
-// The text that the stream of `text` is shown as.
+/// The text that the stream of `text` is shown as.
 fn shown(alloc: Global, map: &mut SourceMap, text: &str) -> Result<String, ParseError> {
     let stream = TokenStream::from_str(text, map)?;
     Ok(format!(in alloc; "{stream:?}")?)

@@ -80,7 +80,7 @@ fn the_spans_of_delimiters_are_shown_as_the_whole(rt: HostRuntime) -> Result<(),
     Ok(())
 }
 
-// A group of the group `[]`, which stands at 1..3.
+/// A group of the group `[]`, which stands at 1..3.
 fn nested(alloc: Global) -> Result<TokenTree, ParseError> {
     let mut map = SourceMap::new(alloc);
     let inside = TokenStream::from_str("[]", &mut map)?;

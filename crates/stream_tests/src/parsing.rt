@@ -6,8 +6,8 @@ use pm_token::ParseError;
 use std::alloc::{AllocError, Global};
 use std::process::Abort;
 
-// Whether the text parses in a map of the limit, whether the map then holds its four characters,
-// whether it refuses the empty text, since it is full, and whether it holds one more position.
+/// Whether the text parses in a map of the limit, whether the map then holds its four characters,
+/// whether it refuses the empty text, since it is full, and whether it holds one more position.
 fn at_limit(alloc: Global, text: &str, limit: u32) -> [bool; 4] {
     let mut map = SourceMap::with_limit(alloc, limit);
     let parses = TokenStream::from_str(text, &mut map).is_ok();
@@ -38,7 +38,7 @@ fn a_file_stays_in_the_map_up_to_the_limit(rt: HostRuntime) {
     check_limit(&rt, "abc)", false, 6, false);
 }
 
-// How Debug shows what the text parses to in a new map, and without a map.
+/// How Debug shows what the text parses to in a new map, and without a map.
 fn both_shown(alloc: Global, text: &str) -> Result<[String; 2], AllocError> {
     let mapped = TokenStream::from_str(text, &mut SourceMap::new(alloc));
     let unmapped = TokenStream::parse_unmapped(alloc, text);
@@ -62,7 +62,7 @@ fn a_text_is_parsed_without_a_map_as_in_a_new_one(rt: HostRuntime) {
     check_unmapped(&rt, "a ( [ b");
 }
 
-// How Debug shows the printed text of what the text parses to, by its trees and with none made.
+/// How Debug shows the printed text of what the text parses to, by its trees and with none made.
 fn both_printed(alloc: Global, text: &str) -> Result<[String; 2], AllocError> {
     let by_trees = match TokenStream::parse_unmapped(alloc, text) {
         Ok(stream) => Ok(format!(in alloc; "{stream}")?),

@@ -126,7 +126,7 @@ fn the_first_fault_of_a_name_is_answered(rt: HostRuntime) {
     are_answered(&rt, rt.alloc(), rows);
 }
 
-// No clause can say that memory suffices for a name that doesn't stand in place.
+/// No clause can say that memory suffices for a name that doesn't stand in place.
 #[test]
 fn a_long_name_is_made_where_memory_suffices(rt: HostRuntime) -> Result<(), Fail> {
     let mut name = String::new(rt.alloc());

@@ -5,7 +5,7 @@ use pm_token::{Literal, ParseError};
 use std::alloc::{AllocError, Global};
 use std::process::Abort;
 
-// Where the literal of the text stands in a new map, if it is one with this text.
+/// Where the literal of the text stands in a new map, if it is one with this text.
 fn literal_bounds(alloc: Global, text: &str) -> Option<(u32, u32)> {
     let mut map = SourceMap::new(alloc);
     let parsed = Literal::from_str(text, &mut map);
@@ -15,7 +15,7 @@ fn literal_bounds(alloc: Global, text: &str) -> Option<(u32, u32)> {
     }
 }
 
-// Where the fault of the text stands.
+/// Where the fault of the text stands.
 fn fault_bounds(alloc: Global, text: &str) -> Option<(u32, u32)> {
     let mut map = SourceMap::new(alloc);
     let parsed = Literal::from_str(text, &mut map);
@@ -50,8 +50,8 @@ fn is_made(rt: &impl Abort, alloc: Global, text: &str) -> Result<(), AllocError>
     Ok(())
 }
 
-// Whether a map with this limit was full for the text, and whether it then holds the first three
-// characters.
+/// Whether a map with this limit was full for the text, and whether it then holds the first three
+/// characters.
 fn outcome(alloc: Global, text: &str, limit: u32) -> (bool, bool) {
     let mut map = SourceMap::with_limit(alloc, limit);
     let parsed = Literal::from_str(text, &mut map);

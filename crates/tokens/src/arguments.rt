@@ -23,7 +23,7 @@ pub fn words(alloc: Global, arguments: io::Result<Args>) -> Result<Vec<String>, 
     }
 }
 
-// Whether arguments weren't had since they are no text.
+/// Whether arguments weren't had since they are no text.
 fn is_no_text(kind: io::ErrorKind) -> bool
     ensures { result ≡ is_no_text kind }
 {
@@ -36,7 +36,7 @@ mod tests {
     use std::process::Abort;
     use std::test::Fail;
 
-    // How many words the arguments have.
+    /// How many words the arguments have.
     fn count(alloc: Global, arguments: io::Result<Args>) -> Option<usize> {
         match words(alloc, arguments) {
             Ok(words) => Some(words.len()),

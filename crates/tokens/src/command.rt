@@ -78,7 +78,7 @@ pub fn answer<R: ByteSource, W: ByteSink, E: ByteSink>(
     }
 }
 
-// Says on `errors` why a run was refused, and answers the program's status after it.
+/// Says on `errors` why a run was refused, and answers the program's status after it.
 fn conclude<E: ByteSink>(answer: Result<(), RunError>, errors: &mut E) -> u8
     ensures status { result ≡ status answer }
     ensures says { Says (E.held errors.old) (E.held errors.new) (E.has_failed errors.new)
@@ -88,7 +88,7 @@ fn conclude<E: ByteSink>(answer: Result<(), RunError>, errors: &mut E) -> u8
     status(&answer)
 }
 
-// The mode that the words ask for: the one that the only word names.
+/// The mode that the words ask for: the one that the only word names.
 fn mode_of(words: &[String]) -> Option<OutputMode>
     ensures { result ≡ mode_of (map string_bytes words.now) }
 {
@@ -98,7 +98,7 @@ fn mode_of(words: &[String]) -> Option<OutputMode>
     }
 }
 
-// The mode that a word names.
+/// The mode that a word names.
 fn mode_named(word: &str) -> Option<OutputMode>
     ensures { result ≡ mode_named word.now }
 {
@@ -109,7 +109,7 @@ fn mode_named(word: &str) -> Option<OutputMode>
     }
 }
 
-// The program's status after a run.
+/// The program's status after a run.
 fn status(answer: &Result<(), RunError>) -> u8
     ensures { result ≡ status answer.now }
 {

@@ -43,7 +43,7 @@ pub fn run<R: ByteSource, W: ByteSink>(
     write_output(writer, &output)
 }
 
-// What is written for the input.
+/// What is written for the input.
 fn output_of(alloc: Global, mode: OutputMode, input: Vec<u8>) -> Result<RunOutput, RunError>
     ensures ok { IfOk result (λ output. IsOutput mode input.items (output_bytes output)) }
     ensures io { IsFalse (is_io result) }
@@ -67,7 +67,7 @@ fn output_of(alloc: Global, mode: OutputMode, input: Vec<u8>) -> Result<RunOutpu
     }
 }
 
-// What is written for the text.
+/// What is written for the text.
 fn output_of_text(alloc: Global, mode: OutputMode, text: &str) -> Result<RunOutput, ParseError>
     ensures ok { IfOk result (IsOutputOf mode (chars text.now)) }
     ensures only { IfErr result (λ error. IfLex error (λ fault.
@@ -81,8 +81,8 @@ fn output_of_text(alloc: Global, mode: OutputMode, text: &str) -> Result<RunOutp
     }
 }
 
-// Why the run is refused of a text that doesn't parse: for its fault, whose line and column are asked of a map, or
-// where the text doesn't fit the map, or memory runs out.
+/// Why the run is refused of a text that doesn't parse: for its fault, whose line and column are asked of a map, or
+/// where the text doesn't fit the map, or memory runs out.
 fn refusal_of(alloc: Global, text: &str) -> RunError
     requires { (stream : Forest) → ParsesTo (next_lo new_map) (chars text.now) stream → ⊥ }
     ensures lex { (start : LineColumn) → result ≡ RunError.Lex start → HasFaultAt text.now start }
@@ -96,7 +96,7 @@ fn refusal_of(alloc: Global, text: &str) -> RunError
     }
 }
 
-// Why a run is refused whose text wasn't parsed into the map.
+/// Why a run is refused whose text wasn't parsed into the map.
 fn refusal(error: ParseError, map: &SourceMap) -> RunError
     requires { IfLex error (Holds map.now) }
     ensures lex { IfLex error (λ fault. (start : LineColumn)
@@ -112,7 +112,7 @@ fn refusal(error: ParseError, map: &SourceMap) -> RunError
     }
 }
 
-// The printed text and a line feed.
+/// The printed text and a line feed.
 fn printed(alloc: Global, text: &str) -> Result<RunOutput, ParseError>
     ensures ok { IfOk result (IsOutputOf OutputMode.Print (chars text.now)) }
     ensures only { IfErr result (λ error. IfLex error (λ fault.
@@ -125,7 +125,7 @@ fn printed(alloc: Global, text: &str) -> Result<RunOutput, ParseError>
     Ok(RunOutput::Text(printed))
 }
 
-// A line for each tree.
+/// A line for each tree.
 fn placed(alloc: Global, text: &str) -> Result<RunOutput, ParseError>
     ensures ok { IfOk result (IsOutputOf OutputMode.Spans (chars text.now)) }
     ensures only { IfErr result (λ error. IfLex error (λ fault.

@@ -34,7 +34,7 @@ pub fn say<E: ByteSink>(errors: &mut E, answer: &Result<(), RunError>)
     };
 }
 
-// Says where a fault stands.
+/// Says where a fault stands.
 fn say_fault<E: ByteSink>(errors: &mut E, start: LineColumn) -> Result<(), RunError>
     ensures ok { OnOk result (Appends (E.held errors.old) (E.held errors.new) (fault_line start)) }
     ensures front { AppendsFront (E.held errors.old) (E.held errors.new) (fault_line start) }
@@ -47,7 +47,7 @@ fn say_fault<E: ByteSink>(errors: &mut E, start: LineColumn) -> Result<(), RunEr
     write_all(errors, b"\n")
 }
 
-// Says a number in decimal digits.
+/// Says a number in decimal digits.
 fn say_number<E: ByteSink>(errors: &mut E, number: usize) -> Result<(), RunError>
     ensures ok { OnOk result (Appends (E.held errors.old) (E.held errors.new) (decimal number)) }
     ensures front { AppendsFront (E.held errors.old) (E.held errors.new) (decimal number) }

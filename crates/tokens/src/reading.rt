@@ -38,8 +38,8 @@ pub fn read_to_end<R: ByteSource>(alloc: Global, reader: &mut R) -> Result<Vec<u
     }
 }
 
-// Makes room for a block after the bytes that are filled, by zeros. What the list has room for past
-// the block stays untouched, so that no memory is taken for it.
+/// Makes room for a block after the bytes that are filled, by zeros. What the list has room for past
+/// the block stays untouched, so that no memory is taken for it.
 fn make_room(bytes: &mut Vec<u8>, filled: usize) -> Result<(), AllocError>
     requires { filled ≤ vec_len bytes.old }
     ensures room { OnOk result (filled + BLOCK ≤ vec_len bytes.new) }
@@ -52,7 +52,7 @@ fn make_room(bytes: &mut Vec<u8>, filled: usize) -> Result<(), AllocError>
     Ok(())
 }
 
-// One read, into the part of the buffer after the bytes that are filled.
+/// One read, into the part of the buffer after the bytes that are filled.
 fn read_at<R: ByteSource>(reader: &mut R, buffer: &mut [u8], filled: usize) -> io::Result<usize>
     requires { filled < length buffer.old }
     ensures within { IfOk result (λ n. filled + n ≤ length buffer.new) }

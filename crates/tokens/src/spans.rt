@@ -11,10 +11,10 @@ use crate::writing::write_all;
 use itoa::write_digits;
 use proc_macro2::{Place, PlacedTree, TreeKind};
 
-// How many lines are written at once, at most.
+/// How many lines are written at once, at most.
 const LINES: usize = 512;
 
-// No line has more bytes: four numbers of at most ten digits, and some twelve more.
+/// No line has more bytes: four numbers of at most ten digits, and some twelve more.
 const LONGEST_LINE: usize = 64;
 
 /// Writes a line for each of the trees.
@@ -42,7 +42,7 @@ pub fn write_lines<W: ByteSink>(writer: &mut W, trees: &[PlacedTree]) -> Result<
     Ok(())
 }
 
-// Puts the lines of the trees at the end of the buffer, the last of them first, and answers where they begin.
+/// Puts the lines of the trees at the end of the buffer, the last of them first, and answers where they begin.
 fn put_lines(buffer: &mut [u8], trees: &[PlacedTree]) -> usize
     requires { length trees.now * 64 ≤ length buffer.old }
     ensures within { result ≤ length buffer.new }
@@ -57,7 +57,7 @@ fn put_lines(buffer: &mut [u8], trees: &[PlacedTree]) -> usize
     start
 }
 
-// Puts the line of a tree before `end`, and answers where it begins.
+/// Puts the line of a tree before `end`, and answers where it begins.
 fn put_line(buffer: &mut [u8], end: usize, tree: PlacedTree) -> usize
     requires { (LONGEST_LINE ≤ end) × (end ≤ length buffer.old) }
     ensures start { (result ≤ end) × (end ≤ result + LONGEST_LINE) }
@@ -69,7 +69,7 @@ fn put_line(buffer: &mut [u8], end: usize, tree: PlacedTree) -> usize
     put_place(buffer, end, tree.start)
 }
 
-// Puts a line and a column, as `1:0`, before `end`, and answers where they begin.
+/// Puts a line and a column, as `1:0`, before `end`, and answers where they begin.
 fn put_place(buffer: &mut [u8], end: usize, place: Place) -> usize
     requires { (21 ≤ end) × (end ≤ length buffer.old) }
     ensures start { (result ≤ end) × (end ≤ result + 21) }
@@ -80,7 +80,7 @@ fn put_place(buffer: &mut [u8], end: usize, place: Place) -> usize
     put_number(buffer, end, place.line)
 }
 
-// Puts a number in decimal digits before `end`, and answers where it begins.
+/// Puts a number in decimal digits before `end`, and answers where it begins.
 fn put_number(buffer: &mut [u8], end: usize, number: u32) -> usize
     requires { (10 ≤ end) × (end ≤ length buffer.old) }
     ensures start { (result ≤ end) × (end ≤ result + 10) }
@@ -89,7 +89,7 @@ fn put_number(buffer: &mut [u8], end: usize, number: u32) -> usize
     write_digits(number as u64, buffer, end)
 }
 
-// Puts a text before `end`, and answers where it begins.
+/// Puts a text before `end`, and answers where it begins.
 fn put(buffer: &mut [u8], end: usize, text: &str) -> usize
     requires { (length text.now ≤ end) × (end ≤ length buffer.old) }
     ensures start { result + length text.now ≡ end }
@@ -100,7 +100,7 @@ fn put(buffer: &mut [u8], end: usize, text: &str) -> usize
     start
 }
 
-// A space, the word for a kind, and the line's end.
+/// A space, the word for a kind, and the line's end.
 fn line_end(kind: TreeKind) -> &'static str
     ensures { result.now ≡ codes " " ++ (kind_word kind ++ codes "\n") }
 {

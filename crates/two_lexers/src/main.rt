@@ -27,7 +27,7 @@ fn main(rt: HostRuntime) -> io::Result<ExitCode> {
     run(rt.alloc(), lines.as_str(), &mut writer)
 }
 
-// Compares both lexers on the text of each line, and writes the lines on which they differ, and then the numbers.
+/// Compares both lexers on the text of each line, and writes the lines on which they differ, and then the numbers.
 fn run<W: Write>(alloc: Global, lines: &str, writer: &mut W) -> io::Result<ExitCode>
     ensures { IfOk result (λ code. IsRun (exit_status code) (W.contents writer.new)) }
 {
@@ -45,7 +45,7 @@ fn run<W: Write>(alloc: Global, lines: &str, writer: &mut W) -> io::Result<ExitC
     })
 }
 
-// Compares both lexers on the text of each line, and writes the lines on which they differ.
+/// Compares both lexers on the text of each line, and writes the lines on which they differ.
 fn compare_lines<W: Write>(alloc: Global, lines: &str, writer: &mut W) -> io::Result<Tally> {
     let mut tally = Tally {
         texts: 0,
@@ -66,7 +66,7 @@ fn compare_lines<W: Write>(alloc: Global, lines: &str, writer: &mut W) -> io::Re
     Ok(tally)
 }
 
-// The text that the content of a string literal stands for, or `None` where it is no such content.
+/// The text that the content of a string literal stands for, or `None` where it is no such content.
 fn text_of(alloc: Global, content: &str) -> Result<Option<String>, AllocError> {
     let mut text = String::new(alloc);
     for (_, unit) in unescape_str(content) {

@@ -36,7 +36,7 @@ pub fn print_getters<W: Write>(alloc: Global, text: &str, writer: &mut W) -> Res
     }
 }
 
-// Writes a line with the getters of each struct among the items of a file.
+/// Writes a line with the getters of each struct among the items of a file.
 fn print_file<W: Write>(
     alloc: Global,
     trees: &[TokenTree],
@@ -56,7 +56,7 @@ fn print_file<W: Write>(
     Ok(())
 }
 
-// Writes the line of an item, if it is a struct with named fields.
+/// Writes the line of an item, if it is a struct with named fields.
 fn print_item<W: Write>(
     alloc: Global,
     templates: &Templates,
@@ -72,7 +72,7 @@ fn print_item<W: Write>(
     }
 }
 
-// Writes a line with the getters of the struct, if it has named fields.
+/// Writes a line with the getters of the struct, if it has named fields.
 fn print_struct<W: Write>(
     alloc: Global,
     templates: &Templates,
@@ -93,7 +93,7 @@ fn print_struct<W: Write>(
     }
 }
 
-// The braces around the named fields of a struct.
+/// The braces around the named fields of a struct.
 fn named_fields<'a>(body: &Body<'a>) -> Option<&'a Group>
     ensures { MatchOption result (named_fields body.now ≡ None) (λ group. named_fields body.now ≡ Some group.now) }
 {

@@ -24,14 +24,14 @@ fn is_skip(attribute: &Attribute<'_>) -> bool
     }
 }
 
-// Whether the group holds this identifier alone.
+/// Whether the group holds this identifier alone.
 fn is_group_of(group: &Group, word: &str) -> bool
     ensures { result ≡ is_word (trees_of group.now.stream) (spelled word.now) }
 {
     is_word(group.stream_ref().trees(), word)
 }
 
-// Whether the trees are this identifier alone.
+/// Whether the trees are this identifier alone.
 fn is_word(trees: &[TokenTree], word: &str) -> bool
     ensures { result ≡ is_word trees.now (spelled word.now) }
 {

@@ -61,7 +61,7 @@ pub fn getters(
     Ok(code)
 }
 
-// The names and types of the fields that have a getter.
+/// The names and types of the fields that have a getter.
 fn chosen(alloc: Global, fields: FieldList<'_>) -> Result<FieldStreams, WriteError>
     requires { fields.named ≡ true }
     ensures { IfOk result (λ getters. (all : List FieldValue) × Lists (IsFieldOf true) fields.entry.left.now all []
@@ -82,7 +82,7 @@ fn chosen(alloc: Global, fields: FieldList<'_>) -> Result<FieldStreams, WriteErr
     Ok(FieldStreams { names, kinds })
 }
 
-// The type of a field, as it stands after `&`.
+/// The type of a field, as it stands after `&`.
 fn kind(alloc: Global, field: &Field<'_>) -> Result<TokenStream, AllocError>
     ensures { IfOk result (λ stream. stream ≡ type_of field.now) }
 {

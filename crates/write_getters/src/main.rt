@@ -31,13 +31,13 @@ fn main(rt: HostRuntime) -> ExitCode {
     }
 }
 
-// The path that the words after the program's name ask for.
+/// The path that the words after the program's name ask for.
 fn asked(rt: &HostRuntime) -> Result<String, Failure> {
     let words = words(rt.alloc(), env::args(rt), USAGE)?;
     path(rt.alloc(), words.as_slice(), USAGE)
 }
 
-// Writes the getters for the text at the path, or says why not.
+/// Writes the getters for the text at the path, or says why not.
 fn run(rt: &HostRuntime, path: &str) -> ExitCode {
     let (said, status) = match write_text(rt, path) {
         Ok(()) => return ExitCode::SUCCESS,
@@ -54,7 +54,7 @@ fn run(rt: &HostRuntime, path: &str) -> ExitCode {
     ExitCode::from(status)
 }
 
-// Writes the getters for the text at the path.
+/// Writes the getters for the text at the path.
 fn write_text(rt: &HostRuntime, path: &str) -> Result<(), WriteError> {
     let text = read_text(rt, path)?;
     let mut writer = BufWriter::new(rt.alloc(), rt.stdout())?;
@@ -62,7 +62,7 @@ fn write_text(rt: &HostRuntime, path: &str) -> Result<(), WriteError> {
     Ok(writer.flush()?)
 }
 
-// Says what is wrong with a declaration, and where that is known.
+/// Says what is wrong with a declaration, and where that is known.
 fn say_fault<E: Write>(path: &str, found: FoundFault, errors: &mut E) -> io::Result<()> {
     match found.start {
         Some(start) => say_at(path, start, found.fault, errors),

@@ -43,7 +43,7 @@ pub fn parameters(alloc: Global, generics: &[TokenTree]) -> Result<ParameterStre
     })
 }
 
-// A parameter as it is declared, without its default.
+/// A parameter as it is declared, without its default.
 fn parameter(alloc: Global, param: &Param<'_>) -> Result<TokenStream, WriteError>
     ensures { IfOk result (λ stream. stream ≡ parameter (param_trees param.now)) }
 {
@@ -54,7 +54,7 @@ fn parameter(alloc: Global, param: &Param<'_>) -> Result<TokenStream, WriteError
     Ok(stream)
 }
 
-// Puts the keyword at the end with which a parameter of this kind is declared, if there is one.
+/// Puts the keyword at the end with which a parameter of this kind is declared, if there is one.
 fn put_keyword(alloc: Global, stream: &mut TokenStream, kind: ParamKind) -> Result<(), WriteError>
     ensures { OnOk result (stream.new ≡ joined stream.old (copied (keyword kind))) }
 {
@@ -68,7 +68,7 @@ fn put_keyword(alloc: Global, stream: &mut TokenStream, kind: ParamKind) -> Resu
     }
 }
 
-// Puts `:` and copies of these bounds at the end, if there are some.
+/// Puts `:` and copies of these bounds at the end, if there are some.
 fn put_bounds(stream: &mut TokenStream, bounds: &[TokenTree]) -> Result<(), AllocError>
     ensures { OnOk result (stream.new ≡ joined stream.old (copied (after_colon bounds.now))) }
 {

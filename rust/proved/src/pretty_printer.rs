@@ -83,7 +83,7 @@ pub fn to_pretty_string(stream: &TokenStream) -> Result<String, QuoteError>
     }
 }
 
-// The tokens of a stream as text for people, if it is well spaced.
+/// The tokens of a stream as text for people, if it is well spaced.
 fn lay_out(stream: &TokenStream) -> Result<String, LayoutError>
 {
     let mut printer = Printer::new(stream)?;

@@ -95,7 +95,7 @@ impl TokenStream {
     }
 }
 
-// Puts the tree after those of a list, which is copied first where it is shared.
+/// Puts the tree after those of a list, which is copied first where it is shared.
 #[inline(always)]
 fn push(
     alloc: Global,
@@ -112,7 +112,7 @@ fn push(
     }
 }
 
-// Puts both trees of a negative literal after those of a list, or none.
+/// Puts both trees of a negative literal after those of a list, or none.
 #[inline(never)]
 fn push_negative(
     alloc: Global,
@@ -131,7 +131,7 @@ fn push_negative(
     }
 }
 
-// Makes a list with no trees, where there is no list.
+/// Makes a list with no trees, where there is no list.
 #[inline(always)]
 fn make_list(alloc: Global, trees: &mut Option<Rc<Vec<TokenTree>>>) -> Result<(), AllocError>
     ensures held { held trees.new ≡ held trees.old }
@@ -143,7 +143,7 @@ fn make_list(alloc: Global, trees: &mut Option<Rc<Vec<TokenTree>>>) -> Result<()
     Ok(())
 }
 
-// A list with no trees.
+/// A list with no trees.
 #[inline(never)]
 fn first_list(alloc: Global) -> Result<Rc<Vec<TokenTree>>, AllocError>
     ensures { IfOk result (λ list. list.value.items ≡ []) }
@@ -151,7 +151,7 @@ fn first_list(alloc: Global) -> Result<Rc<Vec<TokenTree>>, AllocError>
     Ok(Rc::new(alloc, Vec::with_capacity(alloc, FIRST_ROOM)?)?)
 }
 
-// Puts the tree after the others.
+/// Puts the tree after the others.
 #[inline(always)]
 fn push_onto(trees: &mut Vec<TokenTree>, tree: TokenTree) -> Result<(), AllocError>
     ensures ok { OnOk result (forest trees.new.items ≡ joined (forest trees.old.items) (alone tree)) }
@@ -161,7 +161,7 @@ fn push_onto(trees: &mut Vec<TokenTree>, tree: TokenTree) -> Result<(), AllocErr
     Ok(())
 }
 
-// Puts both trees after the others, or none: room for both is there before the first is put in.
+/// Puts both trees after the others, or none: room for both is there before the first is put in.
 fn push_two(trees: &mut Vec<TokenTree>, minus: Punct, literal: Literal) -> Result<(), AllocError>
     ensures ok { OnOk result (forest trees.new.items
         ≡ joined (forest trees.old.items) (before (PunctTree minus) (alone (LiteralTree literal)))) }
@@ -173,7 +173,7 @@ fn push_two(trees: &mut Vec<TokenTree>, minus: Punct, literal: Literal) -> Resul
     Ok(())
 }
 
-// Puts the trees of one list after those of the other. They are moved where no stream shares them.
+/// Puts the trees of one list after those of the other. They are moved where no stream shares them.
 fn append_shared(
     trees: &mut Option<Rc<Vec<TokenTree>>>,
     more: Rc<Vec<TokenTree>>,
@@ -189,7 +189,7 @@ fn append_shared(
     Ok(())
 }
 
-// Puts these trees after the others, all of them or none.
+/// Puts these trees after the others, all of them or none.
 #[tactic(auto, using(crate::proofs::BuildingLemmas::forest_append))]
 fn push_all(trees: &mut Vec<TokenTree>, mut more: Vec<TokenTree>) -> Result<(), AllocError>
     ensures ok { OnOk result

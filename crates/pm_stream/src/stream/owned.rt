@@ -19,7 +19,7 @@ impl TokenStream {
     }
 }
 
-// The trees that a stream holds: the list itself where this was its last owner, and else a copy.
+/// The trees that a stream holds: the list itself where this was its last owner, and else a copy.
 fn owned(alloc: Global, trees: Option<Rc<Vec<TokenTree>>>) -> Result<Vec<TokenTree>, AllocError>
     ensures { IfOk result (λ list. forest list.items ≡ held trees) }
 {

@@ -109,7 +109,7 @@ fn begins_plain(byte: u8) -> bool
     byte.is_ascii_alphabetic() || byte == b'_'
 }
 
-// Words that make the table below a square.
+/// Words that make the table below a square.
 const NO: bool = false;
 
 const YES: bool = true;

@@ -94,7 +94,7 @@ fn each_tree_of_a_doc_comment_stands_where_it_does(rt: HostRuntime) {
     check_input(&rt, "spans", input, lines, b"", 0);
 }
 
-// The words of the text.
+/// The words of the text.
 fn words_of(alloc: Global, text: &str) -> Result<Vec<String>, AllocError> {
     let mut words = Vec::new(alloc);
     for word in text.split_whitespace() {

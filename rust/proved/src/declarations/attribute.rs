@@ -94,7 +94,7 @@ pub fn split_attribute(trees: &[TokenTree]) -> Option<(Attribute<'_>, &[TokenTre
     }
 }
 
-// The same, where an inner attribute alone may stand: these trees follow the first mark.
+/// The same, where an inner attribute alone may stand: these trees follow the first mark.
 fn split_inner<'a>(
     trees: &'a [TokenTree],
     hash: &Punct,
@@ -111,7 +111,7 @@ fn split_inner<'a>(
     }
 }
 
-// The mark that the trees begin with, and the trees after it.
+/// The mark that the trees begin with, and the trees after it.
 fn split_mark(trees: &[TokenTree]) -> Option<(&Punct, &[TokenTree])>
 {
     match trees.split_first() {
@@ -216,7 +216,7 @@ impl<'a> Attribute<'a> {
     }
 }
 
-// How many trees a path at the front has.
+/// How many trees a path at the front has.
 fn path_len(trees: &[TokenTree]) -> usize
 {
     let mut left = trees;
@@ -229,7 +229,7 @@ fn path_len(trees: &[TokenTree]) -> usize
     trees.len()
 }
 
-// Whether a path may go on with the tree.
+/// Whether a path may go on with the tree.
 fn goes_on(tree: &TokenTree) -> bool
 {
     match tree {
@@ -247,7 +247,7 @@ pub(crate) fn has_no_delimiters(delimiter: Delimiter) -> bool
     }
 }
 
-// The arguments that these trees after a path are.
+/// The arguments that these trees after a path are.
 fn args_of(rest: &[TokenTree]) -> AttributeArgs<'_>
 {
     match rest.split_first() {

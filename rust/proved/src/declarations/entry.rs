@@ -121,7 +121,7 @@ impl<'a> Entry<'a> {
     }
 }
 
-// The span of the first of the trees.
+/// The span of the first of the trees.
 fn first_span(trees: &[TokenTree]) -> Option<Span>
 {
     match trees.first() {
@@ -130,7 +130,7 @@ fn first_span(trees: &[TokenTree]) -> Option<Span>
     }
 }
 
-// The entry that all of these trees are.
+/// The entry that all of these trees are.
 pub(crate) fn whole_entry(trees: &[TokenTree]) -> Result<Entry<'_>, Fault>
 {
     match parse_entry(trees) {
@@ -155,7 +155,7 @@ fn is_segment(class: Class) -> bool
     }
 }
 
-// Past a segment of a path.
+/// Past a segment of a path.
 fn segment(trees: &[TokenTree]) -> Result<&[TokenTree], &[TokenTree]>
 {
     match first_sign(trees) {
@@ -170,7 +170,7 @@ fn segment(trees: &[TokenTree]) -> Result<&[TokenTree], &[TokenTree]>
     }
 }
 
-// Past a `::`, or nothing.
+/// Past a `::`, or nothing.
 fn separator(trees: &[TokenTree]) -> Result<&[TokenTree], &[TokenTree]>
 {
     if begins(trees, Class::PathSeparator) {
@@ -180,13 +180,13 @@ fn separator(trees: &[TokenTree]) -> Result<&[TokenTree], &[TokenTree]>
     }
 }
 
-// Past `::` and a segment.
+/// Past `::` and a segment.
 fn next_segment(trees: &[TokenTree]) -> Result<&[TokenTree], &[TokenTree]>
 {
     segment(past(trees, Class::PathSeparator)?)
 }
 
-// Past more segments.
+/// Past more segments.
 fn more_segments(trees: &[TokenTree]) -> Result<&[TokenTree], &[TokenTree]>
 {
     let mut left = trees;
@@ -199,13 +199,13 @@ fn more_segments(trees: &[TokenTree]) -> Result<&[TokenTree], &[TokenTree]>
     Ok(left)
 }
 
-// Past a segment, and more of them.
+/// Past a segment, and more of them.
 fn segments(trees: &[TokenTree]) -> Result<&[TokenTree], &[TokenTree]>
 {
     more_segments(segment(trees)?)
 }
 
-// Past the path of an entry.
+/// Past the path of an entry.
 fn entry_path(trees: &[TokenTree]) -> Result<&[TokenTree], &[TokenTree]>
 {
     segments(separator(trees)?)
@@ -219,7 +219,7 @@ fn is_literal(class: Class) -> bool
     }
 }
 
-// Past a literal without a sign.
+/// Past a literal without a sign.
 fn plain_literal(trees: &[TokenTree]) -> Result<&[TokenTree], &[TokenTree]>
 {
     match first_sign(trees) {
@@ -234,7 +234,7 @@ fn plain_literal(trees: &[TokenTree]) -> Result<&[TokenTree], &[TokenTree]>
     }
 }
 
-// Past a literal.
+/// Past a literal.
 fn literal(trees: &[TokenTree]) -> Result<&[TokenTree], &[TokenTree]>
 {
     if begins(trees, Class::Minus) {
@@ -244,7 +244,7 @@ fn literal(trees: &[TokenTree]) -> Result<&[TokenTree], &[TokenTree]>
     }
 }
 
-// Past an expression.
+/// Past an expression.
 fn past_expression(trees: &[TokenTree]) -> Result<&[TokenTree], &[TokenTree]>
 {
     let start = Place {
@@ -256,7 +256,7 @@ fn past_expression(trees: &[TokenTree]) -> Result<&[TokenTree], &[TokenTree]>
     walk_past(trees, start)
 }
 
-// Whether a sign goes on after an operand, but begins no value.
+/// Whether a sign goes on after an operand, but begins no value.
 fn continues(class: Class) -> bool
 {
     match class {
@@ -265,7 +265,7 @@ fn continues(class: Class) -> bool
     }
 }
 
-// Past the value of an entry.
+/// Past the value of an entry.
 fn past_value(trees: &[TokenTree]) -> Result<&[TokenTree], &[TokenTree]>
 {
     match first_sign(trees) {
@@ -280,7 +280,7 @@ fn past_value(trees: &[TokenTree]) -> Result<&[TokenTree], &[TokenTree]>
     }
 }
 
-// The group at the front of the trees that is a list, and the trees after it.
+/// The group at the front of the trees that is a list, and the trees after it.
 fn split_list(trees: &[TokenTree]) -> Option<(&Group, &[TokenTree])>
 {
     match split_group(trees) {
@@ -295,7 +295,7 @@ fn split_list(trees: &[TokenTree]) -> Option<(&Group, &[TokenTree])>
     }
 }
 
-// What follows the path of an entry, and the trees after it.
+/// What follows the path of an entry, and the trees after it.
 fn args_of(trees: &[TokenTree]) -> Result<(EntryKind<'_>, &[TokenTree]), &[TokenTree]>
 {
     match split_list(trees) {
@@ -304,7 +304,7 @@ fn args_of(trees: &[TokenTree]) -> Result<(EntryKind<'_>, &[TokenTree]), &[Token
     }
 }
 
-// The value of an entry, or nothing, and the trees after it.
+/// The value of an entry, or nothing, and the trees after it.
 fn value_of(trees: &[TokenTree]) -> Result<(EntryKind<'_>, &[TokenTree]), &[TokenTree]>
 {
     match first_sign(trees) {
@@ -322,7 +322,7 @@ fn value_of(trees: &[TokenTree]) -> Result<(EntryKind<'_>, &[TokenTree]), &[Toke
     }
 }
 
-// Whether a literal begins with a sign of this class.
+/// Whether a literal begins with a sign of this class.
 fn begins_literal(class: Class) -> bool
 {
     match class {
@@ -331,7 +331,7 @@ fn begins_literal(class: Class) -> bool
     }
 }
 
-// The entry at the front of the trees, and the trees after it; or those from the fault on.
+/// The entry at the front of the trees, and the trees after it; or those from the fault on.
 fn entry_of(trees: &[TokenTree]) -> Result<(Entry<'_>, &[TokenTree]), &[TokenTree]>
 {
     match first_sign(trees) {
@@ -346,7 +346,7 @@ fn entry_of(trees: &[TokenTree]) -> Result<(Entry<'_>, &[TokenTree]), &[TokenTre
     }
 }
 
-// The same, where a literal begins.
+/// The same, where a literal begins.
 fn literal_of(trees: &[TokenTree]) -> Result<(Entry<'_>, &[TokenTree]), &[TokenTree]>
 {
     match literal(trees) {
@@ -364,7 +364,7 @@ fn literal_of(trees: &[TokenTree]) -> Result<(Entry<'_>, &[TokenTree]), &[TokenT
     }
 }
 
-// The same, where no literal begins.
+/// The same, where no literal begins.
 fn named_of(trees: &[TokenTree]) -> Result<(Entry<'_>, &[TokenTree]), &[TokenTree]>
 {
     match entry_path(trees) {

@@ -115,7 +115,7 @@ fn wrong<'a>(
     }
 }
 
-// How many names come before that of the entry; all of them if it has none of these.
+/// How many names come before that of the entry; all of them if it has none of these.
 fn place_of(entry: &Entry<'_>, known: &[&str]) -> usize
 {
     let mut at = 0;
@@ -139,7 +139,7 @@ impl<'a> PartialEq for EntryError<'a> {
 impl<'a> Eq for EntryError<'a> {
 }
 
-// The number of a problem, which differs from that of each other one.
+/// The number of a problem, which differs from that of each other one.
 fn number_of(problem: EntryProblem) -> u8
 {
     match problem {
@@ -149,7 +149,7 @@ fn number_of(problem: EntryProblem) -> u8
     }
 }
 
-// Writes a space and the name, or nothing.
+/// Writes a space and the name, or nothing.
 fn write_name<W: fmt::Write>(name: Option<&Ident>, f: &mut fmt::Formatter<W>) -> fmt::Result
 {
     match name {
@@ -162,7 +162,7 @@ fn write_name<W: fmt::Write>(name: Option<&Ident>, f: &mut fmt::Formatter<W>) ->
     }
 }
 
-// Writes the end of the sentence, with the names that are known.
+/// Writes the end of the sentence, with the names that are known.
 fn write_known<W: fmt::Write>(known: &[&str], f: &mut fmt::Formatter<W>) -> fmt::Result
 {
     match known.split_first() {
@@ -175,7 +175,7 @@ fn write_known<W: fmt::Write>(known: &[&str], f: &mut fmt::Formatter<W>) -> fmt:
     }
 }
 
-// Writes more names that are known.
+/// Writes more names that are known.
 fn write_more<W: fmt::Write>(words: &[&str], f: &mut fmt::Formatter<W>) -> fmt::Result
 {
     for word in words {
@@ -184,14 +184,14 @@ fn write_more<W: fmt::Write>(words: &[&str], f: &mut fmt::Formatter<W>) -> fmt::
     Ok(())
 }
 
-// Writes one more name.
+/// Writes one more name.
 fn write_next<W: fmt::Write>(word: &str, f: &mut fmt::Formatter<W>) -> fmt::Result
 {
     f.write_str(", ")?;
     write_quoted(word, f)
 }
 
-// Writes a name, as it stands in a sentence.
+/// Writes a name, as it stands in a sentence.
 fn write_quoted<W: fmt::Write>(word: &str, f: &mut fmt::Formatter<W>) -> fmt::Result
 {
     f.write_str("`")?;

@@ -62,7 +62,7 @@ impl<'a> Iterator for Entries<'a> {
     }
 }
 
-// The first entry of a list, and the trees after its comma.
+/// The first entry of a list, and the trees after its comma.
 pub(crate) fn first_entry(trees: &[TokenTree]) -> Result<(Entry<'_>, &[TokenTree]), Fault>
 {
     match parse_entry(trees) {

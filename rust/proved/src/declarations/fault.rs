@@ -15,7 +15,7 @@ pub struct Fault {
 }
 
 impl Fault {
-    // The fault after so many trees, before those that are left.
+    /// The fault after so many trees, before those that are left.
     pub(crate) fn ahead_of(at: usize, left: &[TokenTree]) -> Fault
     {
         let span = match left.split_first() {
@@ -46,7 +46,7 @@ impl PartialEq for Fault {
 impl Eq for Fault {
 }
 
-// Whether both are the same span, or none.
+/// Whether both are the same span, or none.
 pub(crate) fn are_same(span: Option<Span>, other: Option<Span>) -> bool
 {
     match (span, other) {

@@ -75,7 +75,7 @@ pub fn parse_tuple_field(trees: &[TokenTree]) -> Result<(Field<'_>, &[TokenTree]
     }
 }
 
-// The parts of a named field.
+/// The parts of a named field.
 fn named_field(trees: &[TokenTree]) -> Result<Field<'_>, Fault>
 {
     let (attributes, rest) = split_attributes(trees)?;
@@ -92,7 +92,7 @@ fn named_field(trees: &[TokenTree]) -> Result<Field<'_>, Fault>
     }
 }
 
-// The parts of a field without a name.
+/// The parts of a field without a name.
 fn tuple_field(trees: &[TokenTree]) -> Result<Field<'_>, Fault>
 {
     let (attributes, rest) = split_attributes(trees)?;

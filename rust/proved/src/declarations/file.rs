@@ -161,7 +161,7 @@ impl<'a> AnyItem<'a> {
     }
 }
 
-// The group in braces that is the last of the trees.
+/// The group in braces that is the last of the trees.
 fn last_braces(trees: &[TokenTree]) -> Option<&Group>
 {
     match trees.split_last() {
@@ -170,7 +170,7 @@ fn last_braces(trees: &[TokenTree]) -> Option<&Group>
     }
 }
 
-// The group that the tree is, if it has braces.
+/// The group that the tree is, if it has braces.
 fn braces(tree: &TokenTree) -> Option<&Group>
 {
     match tree {

@@ -9,7 +9,7 @@ use crate::declarations::place::{
 };
 use crate::declarations::types::{Turn, TypeState};
 
-// The rest of a function's front.
+/// The rest of a function's front.
 fn qualified(class: Class) -> Option<Shift>
 {
     match class {
@@ -19,7 +19,7 @@ fn qualified(class: Class) -> Option<Shift>
     }
 }
 
-// A keyword that begins an item.
+/// A keyword that begins an item.
 fn item_keyword(keyword: Keyword) -> Option<Shift>
 {
     match keyword {
@@ -41,7 +41,7 @@ fn item_keyword(keyword: Keyword) -> Option<Shift>
     }
 }
 
-// A word that begins one.
+/// A word that begins one.
 fn item_word(word: Word) -> Option<Shift>
 {
     match word {
@@ -53,7 +53,7 @@ fn item_word(word: Word) -> Option<Shift>
     }
 }
 
-// After its visibility.
+/// After its visibility.
 pub(crate) fn declaration(class: Class) -> Option<Shift>
 {
     match class {
@@ -63,7 +63,7 @@ pub(crate) fn declaration(class: Class) -> Option<Shift>
     }
 }
 
-// Where it has none: a macro call or a group without delimiters too.
+/// Where it has none: a macro call or a group without delimiters too.
 pub(crate) fn unmarked_item(class: Class) -> Option<Shift>
 {
     match class {
@@ -78,7 +78,7 @@ pub(crate) fn unmarked_item(class: Class) -> Option<Shift>
     }
 }
 
-// A struct, an enum or a union.
+/// A struct, an enum or a union.
 pub(crate) fn type_item(class: Class) -> Option<Shift>
 {
     match class {
@@ -137,7 +137,7 @@ fn async_front(class: Class) -> Option<Shift>
     }
 }
 
-// After `const`. `safe` may be a name, or belong to a function.
+/// After `const`. `safe` may be a name, or belong to a function.
 fn const_front(class: Class) -> Option<Shift>
 {
     match class {
@@ -157,7 +157,7 @@ fn const_safe(class: Class) -> Option<Shift>
     }
 }
 
-// After `extern` and what an ABI it may have.
+/// After `extern` and what an ABI it may have.
 fn extern_abi(class: Class) -> Option<Shift>
 {
     match class {
@@ -182,7 +182,7 @@ fn extern_front(class: Class) -> Option<Shift>
     }
 }
 
-// After the `extern` of what must be a function.
+/// After the `extern` of what must be a function.
 fn function_extern(class: Class) -> Option<Shift>
 {
     match class {
@@ -215,7 +215,7 @@ fn static_front(class: Class) -> Option<Shift>
     }
 }
 
-// After a word that begins an item: the path of a macro call, or a front.
+/// After a word that begins an item: the path of a macro call, or a front.
 fn call_word(word: Word, class: Class) -> Option<Shift>
 {
     match (word, class) {
@@ -240,7 +240,7 @@ fn call_path(class: Class) -> Option<Shift>
     }
 }
 
-// The group of a call.
+/// The group of a call.
 fn call_group(class: Class) -> Option<Shift>
 {
     match class {
@@ -253,7 +253,7 @@ fn call_group(class: Class) -> Option<Shift>
     }
 }
 
-// After the `!` of a call: a name, as of `macro_rules!`, or its group.
+/// After the `!` of a call: a name, as of `macro_rules!`, or its group.
 fn call_name(class: Class) -> Option<Shift>
 {
     match class {
@@ -270,7 +270,7 @@ fn macro_parameters(class: Class) -> Option<Shift>
     }
 }
 
-// In the brackets of parameters and not of a type.
+/// In the brackets of parameters and not of a type.
 fn impl_angle(class: Class) -> Option<Shift>
 {
     match class {
@@ -283,7 +283,7 @@ fn impl_angle(class: Class) -> Option<Shift>
     }
 }
 
-// After a word that may be a parameter, or begin a type.
+/// After a word that may be a parameter, or begin a type.
 fn impl_word(class: Class) -> Option<Shift>
 {
     match class {
@@ -305,7 +305,7 @@ fn impl_word(class: Class) -> Option<Shift>
     }
 }
 
-// After `impl`, but for types.
+/// After `impl`, but for types.
 fn impl_front(class: Class) -> Option<Shift>
 {
     match class {
@@ -319,7 +319,7 @@ fn impl_front(class: Class) -> Option<Shift>
     }
 }
 
-// After its `const`, but for types.
+/// After its `const`, but for types.
 fn impl_const(class: Class) -> Option<Shift>
 {
     match class {
@@ -348,7 +348,7 @@ fn use_front(class: Class) -> Option<Shift>
     }
 }
 
-// After a name that `as` may follow.
+/// After a name that `as` may follow.
 fn renamed(item: Item, class: Class) -> Option<Shift>
 {
     match class {
@@ -398,7 +398,7 @@ fn until(item: Item, class: Class) -> Option<Shift>
     }
 }
 
-// What a sign leads to in the front of an item.
+/// What a sign leads to in the front of an item.
 pub(crate) fn front_step(item: Item, front: Front, class: Class) -> Option<Shift>
 {
     match (front, class) {
@@ -443,7 +443,7 @@ pub(crate) fn front_step(item: Item, front: Front, class: Class) -> Option<Shift
     }
 }
 
-// The type that may begin in a front: that of an `impl`.
+/// The type that may begin in a front: that of an `impl`.
 pub(crate) fn front_type(front: Front) -> Option<TypeStart>
 {
     match front {
@@ -455,7 +455,7 @@ pub(crate) fn front_type(front: Front) -> Option<TypeStart>
     }
 }
 
-// Whether an item's name is wanted.
+/// Whether an item's name is wanted.
 pub(crate) fn front_names(front: Front) -> bool
 {
     match front {

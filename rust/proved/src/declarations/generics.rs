@@ -172,7 +172,7 @@ pub fn parse_predicate(trees: &[TokenTree]) -> Result<(Predicate<'_>, &[TokenTre
     }
 }
 
-// Whether the tree is this mark.
+/// Whether the tree is this mark.
 fn is_mark_of(mark: char, tree: &TokenTree) -> bool
 {
     match tree {

@@ -84,7 +84,7 @@ impl Place {
     }
 }
 
-// Whether an item's name is wanted.
+/// Whether an item's name is wanted.
 fn wants_name(state: State) -> bool
 {
     match state {
@@ -94,7 +94,7 @@ fn wants_name(state: State) -> bool
     }
 }
 
-// What it may be.
+/// What it may be.
 fn is_name(class: Class) -> bool
 {
     match class {
@@ -103,7 +103,7 @@ fn is_name(class: Class) -> bool
     }
 }
 
-// A step within a type or bounds.
+/// A step within a type or bounds.
 fn range_step(place: Place, state: TypeState, class: Class) -> Option<Place>
 {
     let taken = type_step(state, class, place.depth == 0)?;
@@ -141,7 +141,7 @@ fn shifted(depth: usize, shift: Option<Shift>) -> Option<Place>
     })
 }
 
-// Where an expression goes on after its angle brackets.
+/// Where an expression goes on after its angle brackets.
 fn after_angle(rule: Rule, state: TypeState) -> State
 {
     match rule {
@@ -152,7 +152,7 @@ fn after_angle(rule: Rule, state: TypeState) -> State
     }
 }
 
-// The state after a step within a type, which may close the brackets of an expression.
+/// The state after a step within a type, which may close the brackets of an expression.
 fn range_state(rule: Rule, state: TypeState, turn: Turn, depth: usize) -> State
 {
     match turn {
@@ -167,7 +167,7 @@ fn range_state(rule: Rule, state: TypeState, turn: Turn, depth: usize) -> State
     }
 }
 
-// After a generic parameter that is whole.
+/// After a generic parameter that is whole.
 fn parameter_end(item: Item, class: Class) -> Option<Shift>
 {
     match class {
@@ -177,7 +177,7 @@ fn parameter_end(item: Item, class: Class) -> Option<Shift>
     }
 }
 
-// A generic parameter.
+/// A generic parameter.
 fn parameter(item: Item, class: Class) -> Option<Shift>
 {
     match class {
@@ -188,7 +188,7 @@ fn parameter(item: Item, class: Class) -> Option<Shift>
     }
 }
 
-// After a lifetime that is a parameter.
+/// After a lifetime that is a parameter.
 fn lifetime_name(item: Item, class: Class) -> Option<Shift>
 {
     match class {
@@ -197,7 +197,7 @@ fn lifetime_name(item: Item, class: Class) -> Option<Shift>
     }
 }
 
-// After the name of a parameter that is a type.
+/// After the name of a parameter that is a type.
 fn type_name(item: Item, class: Class) -> Option<Shift>
 {
     match class {
@@ -207,7 +207,7 @@ fn type_name(item: Item, class: Class) -> Option<Shift>
     }
 }
 
-// The default of a constant, but for types.
+/// The default of a constant, but for types.
 fn const_default(item: Item, class: Class) -> Option<Shift>
 {
     match class {
@@ -217,7 +217,7 @@ fn const_default(item: Item, class: Class) -> Option<Shift>
     }
 }
 
-// What a part begins with, after its attributes and visibility.
+/// What a part begins with, after its attributes and visibility.
 fn begin(part: Part, item: Item, rule: Rule, class: Class) -> Option<Shift>
 {
     match (part, class) {
@@ -230,7 +230,7 @@ fn begin(part: Part, item: Item, rule: Rule, class: Class) -> Option<Shift>
     }
 }
 
-// The same where no visibility stands before it.
+/// The same where no visibility stands before it.
 fn unmarked(part: Part, item: Item, rule: Rule, class: Class) -> Option<Shift>
 {
     match part {
@@ -247,7 +247,7 @@ fn has_visibility(part: Part) -> bool
     }
 }
 
-// After the attributes of a part.
+/// After the attributes of a part.
 fn attributed(part: Part, item: Item, rule: Rule, class: Class) -> Option<Shift>
 {
     match class {
@@ -268,7 +268,7 @@ fn has_attributes(part: Part) -> bool
     }
 }
 
-// Before another attribute of a part, or what follows them.
+/// Before another attribute of a part, or what follows them.
 fn before(part: Part, item: Item, rule: Rule, class: Class) -> Option<Shift>
 {
     match class {
@@ -278,7 +278,7 @@ fn before(part: Part, item: Item, rule: Rule, class: Class) -> Option<Shift>
     }
 }
 
-// Before a part. Generic parameters may end there.
+/// Before a part. Generic parameters may end there.
 fn before_first(part: Part, item: Item, rule: Rule, class: Class) -> Option<Shift>
 {
     match (part, class) {
@@ -287,7 +287,7 @@ fn before_first(part: Part, item: Item, rule: Rule, class: Class) -> Option<Shif
     }
 }
 
-// After the `pub` of a part.
+/// After the `pub` of a part.
 fn public(part: Part, item: Item, rule: Rule, class: Class) -> Option<Shift>
 {
     match class {
@@ -296,7 +296,7 @@ fn public(part: Part, item: Item, rule: Rule, class: Class) -> Option<Shift>
     }
 }
 
-// Before the discriminant of a variant.
+/// Before the discriminant of a variant.
 fn variant_value(item: Item, class: Class) -> Option<Shift>
 {
     match class {
@@ -305,7 +305,7 @@ fn variant_value(item: Item, class: Class) -> Option<Shift>
     }
 }
 
-// After the name of a variant.
+/// After the name of a variant.
 fn variant_body(item: Item, rule: Rule, class: Class) -> Option<Shift>
 {
     match class {
@@ -316,7 +316,7 @@ fn variant_body(item: Item, rule: Rule, class: Class) -> Option<Shift>
     }
 }
 
-// What may follow a type or bounds.
+/// What may follow a type or bounds.
 fn follow(item: Item, rule: Rule, class: Class) -> Option<Shift>
 {
     match (rule, class) {
@@ -337,7 +337,7 @@ fn follow(item: Item, rule: Rule, class: Class) -> Option<Shift>
     }
 }
 
-// What a sign leads to at a spot.
+/// What a sign leads to at a spot.
 fn spot_step(item: Item, rule: Rule, spot: Spot, class: Class) -> Option<Shift>
 {
     match (spot, class) {
@@ -378,7 +378,7 @@ fn spot_step(item: Item, rule: Rule, spot: Spot, class: Class) -> Option<Shift>
     }
 }
 
-// After the generic parameters of an `impl` a type begins.
+/// After the generic parameters of an `impl` a type begins.
 fn closing_type(item: Item) -> Option<TypeStart>
 {
     match item {
@@ -387,7 +387,7 @@ fn closing_type(item: Item) -> Option<TypeStart>
     }
 }
 
-// The type that may begin at a spot.
+/// The type that may begin at a spot.
 fn spot_type(item: Item, rule: Rule, spot: Spot) -> Option<TypeStart>
 {
     match spot {
@@ -403,7 +403,7 @@ fn spot_type(item: Item, rule: Rule, spot: Spot) -> Option<TypeStart>
     }
 }
 
-// Whether what is read may end after a type or bounds.
+/// Whether what is read may end after a type or bounds.
 fn rule_ends(item: Item, rule: Rule) -> bool
 {
     match rule {
@@ -414,7 +414,7 @@ fn rule_ends(item: Item, rule: Rule) -> bool
     }
 }
 
-// Whether attributes and a visibility are all of it.
+/// Whether attributes and a visibility are all of it.
 fn is_front(part: Part) -> bool
 {
     match part {
@@ -423,7 +423,7 @@ fn is_front(part: Part) -> bool
     }
 }
 
-// Whether what is read may end before a part: a list may.
+/// Whether what is read may end before a part: a list may.
 fn part_ends(item: Item, rule: Rule, part: Part) -> bool
 {
     match (item, rule, part) {

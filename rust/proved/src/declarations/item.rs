@@ -94,7 +94,7 @@ pub fn parse_type_item(trees: &[TokenTree]) -> Result<TypeItem<'_>, Fault>
     }
 }
 
-// The parts of an item.
+/// The parts of an item.
 fn item_of(trees: &[TokenTree]) -> Result<TypeItem<'_>, Fault>
 {
     let (attributes, rest) = split_attributes(trees)?;
@@ -115,7 +115,7 @@ fn item_of(trees: &[TokenTree]) -> Result<TypeItem<'_>, Fault>
     })
 }
 
-// What follows the generic parameters.
+/// What follows the generic parameters.
 #[derive(Clone, Copy)]
 struct Ending<'a> {
     where_clause: &'a [TokenTree],
@@ -161,7 +161,7 @@ fn struct_ending(trees: &[TokenTree]) -> Result<Ending<'_>, Fault>
     }
 }
 
-// The same, where no fields in parentheses stand.
+/// The same, where no fields in parentheses stand.
 fn plain_ending(trees: &[TokenTree]) -> Result<Ending<'_>, Fault>
 {
     let (where_clause, rest) = split_where(trees)?;
@@ -179,7 +179,7 @@ fn plain_ending(trees: &[TokenTree]) -> Result<Ending<'_>, Fault>
     }
 }
 
-// A where clause and the braces after it.
+/// A where clause and the braces after it.
 fn braces_of(trees: &[TokenTree]) -> Result<(&[TokenTree], &Group, &[TokenTree]), Fault>
 {
     let (where_clause, rest) = split_where(trees)?;
@@ -189,7 +189,7 @@ fn braces_of(trees: &[TokenTree]) -> Result<(&[TokenTree], &Group, &[TokenTree])
     }
 }
 
-// The identifier that the trees begin with, and the trees after it.
+/// The identifier that the trees begin with, and the trees after it.
 pub(crate) fn split_name(trees: &[TokenTree]) -> Result<(&Ident, &[TokenTree]), Fault>
 {
     match trees.split_first() {
@@ -198,7 +198,7 @@ pub(crate) fn split_name(trees: &[TokenTree]) -> Result<(&Ident, &[TokenTree]), 
     }
 }
 
-// The group that the trees begin with, and the trees after it.
+/// The group that the trees begin with, and the trees after it.
 pub(crate) fn split_group(trees: &[TokenTree]) -> Option<(&Group, &[TokenTree])>
 {
     match trees.split_first() {
@@ -207,7 +207,7 @@ pub(crate) fn split_group(trees: &[TokenTree]) -> Option<(&Group, &[TokenTree])>
     }
 }
 
-// The same, if it has parentheses.
+/// The same, if it has parentheses.
 pub(crate) fn split_parentheses(trees: &[TokenTree]) -> Option<(&Group, &[TokenTree])>
 {
     match split_group(trees) {

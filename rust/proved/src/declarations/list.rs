@@ -138,7 +138,7 @@ impl<'a> Iterator for VariantList<'a> {
     }
 }
 
-// The first field of a list, and the trees after its comma.
+/// The first field of a list, and the trees after its comma.
 fn first_field(named: bool, trees: &[TokenTree]) -> Result<(Field<'_>, &[TokenTree]), Fault>
 {
     match field_at(named, trees) {
@@ -150,7 +150,7 @@ fn first_field(named: bool, trees: &[TokenTree]) -> Result<(Field<'_>, &[TokenTr
     }
 }
 
-// The field at the front of the trees, with a name or without, and the trees after it.
+/// The field at the front of the trees, with a name or without, and the trees after it.
 fn field_at(named: bool, trees: &[TokenTree]) -> Result<(Field<'_>, &[TokenTree]), Fault>
 {
     if named {
@@ -160,7 +160,7 @@ fn field_at(named: bool, trees: &[TokenTree]) -> Result<(Field<'_>, &[TokenTree]
     }
 }
 
-// The first variant of a list, and the trees after its comma.
+/// The first variant of a list, and the trees after its comma.
 fn first_variant(trees: &[TokenTree]) -> Result<(Variant<'_>, &[TokenTree]), Fault>
 {
     match parse_variant(trees) {
@@ -172,13 +172,13 @@ fn first_variant(trees: &[TokenTree]) -> Result<(Variant<'_>, &[TokenTree]), Fau
     }
 }
 
-// The fault before these trees, the last of all.
+/// The fault before these trees, the last of all.
 pub(crate) fn fault_after(trees: &[TokenTree], rest: &[TokenTree]) -> Fault
 {
     Fault::ahead_of(trees.len() - rest.len(), rest)
 }
 
-// The trees after the comma at the front, or none where none are left.
+/// The trees after the comma at the front, or none where none are left.
 pub(crate) fn past_comma(trees: &[TokenTree]) -> Option<&[TokenTree]>
 {
     match trees.split_first() {

@@ -46,7 +46,7 @@ pub enum Shape {
     Reference,
 }
 
-// Whether a pattern may begin with the sign, which is no angle bracket.
+/// Whether a pattern may begin with the sign, which is no angle bracket.
 fn is_pattern(class: Class) -> bool
 {
     match class {
@@ -59,7 +59,7 @@ fn is_pattern(class: Class) -> bool
     }
 }
 
-// Whether a pattern may go on with the sign.
+/// Whether a pattern may go on with the sign.
 fn continues(class: Class) -> bool
 {
     match class {
@@ -76,13 +76,13 @@ fn opens(class: Class) -> bool
     }
 }
 
-// Whether a pattern may begin with the sign.
+/// Whether a pattern may begin with the sign.
 fn may_begin(class: Class) -> bool
 {
     is_pattern(class) || opens(class)
 }
 
-// Past a type.
+/// Past a type.
 fn past_type(trees: &[TokenTree]) -> Result<&[TokenTree], &[TokenTree]>
 {
     let start = Place {
@@ -94,7 +94,7 @@ fn past_type(trees: &[TokenTree]) -> Result<&[TokenTree], &[TokenTree]>
     walk_past(trees, start)
 }
 
-// Past attributes.
+/// Past attributes.
 fn past_attributes(trees: &[TokenTree]) -> Result<&[TokenTree], &[TokenTree]>
 {
     let start = Place {
@@ -106,7 +106,7 @@ fn past_attributes(trees: &[TokenTree]) -> Result<&[TokenTree], &[TokenTree]>
     walk_past(trees, start)
 }
 
-// Past a sign with which a pattern goes on, if one is next.
+/// Past a sign with which a pattern goes on, if one is next.
 fn pattern_sign(trees: &[TokenTree]) -> Option<&[TokenTree]>
 {
     match first_sign(trees) {
@@ -115,7 +115,7 @@ fn pattern_sign(trees: &[TokenTree]) -> Option<&[TokenTree]>
     }
 }
 
-// Past more signs of a pattern.
+/// Past more signs of a pattern.
 fn pattern_signs(trees: &[TokenTree]) -> &[TokenTree]
 {
     let mut left = trees;
@@ -125,7 +125,7 @@ fn pattern_signs(trees: &[TokenTree]) -> &[TokenTree]
     left
 }
 
-// Past braces, or nothing.
+/// Past braces, or nothing.
 fn braces(trees: &[TokenTree]) -> Result<&[TokenTree], &[TokenTree]>
 {
     if begins(trees, Class::Braces) {
@@ -135,7 +135,7 @@ fn braces(trees: &[TokenTree]) -> Result<&[TokenTree], &[TokenTree]>
     }
 }
 
-// Whether angle brackets are next.
+/// Whether angle brackets are next.
 fn begins_angle(trees: &[TokenTree]) -> bool
 {
     match first_sign(trees) {
@@ -144,7 +144,7 @@ fn begins_angle(trees: &[TokenTree]) -> bool
     }
 }
 
-// Past a path from its angle brackets on, and fields in braces.
+/// Past a path from its angle brackets on, and fields in braces.
 fn pattern_angle(trees: &[TokenTree]) -> Result<&[TokenTree], &[TokenTree]>
 {
     match past_type(trees) {
@@ -153,7 +153,7 @@ fn pattern_angle(trees: &[TokenTree]) -> Result<&[TokenTree], &[TokenTree]>
     }
 }
 
-// Past a path from its angle brackets on, or nothing.
+/// Past a path from its angle brackets on, or nothing.
 fn perhaps_angle(trees: &[TokenTree]) -> Result<&[TokenTree], &[TokenTree]>
 {
     if begins_angle(trees) {
@@ -163,13 +163,13 @@ fn perhaps_angle(trees: &[TokenTree]) -> Result<&[TokenTree], &[TokenTree]>
     }
 }
 
-// Past the rest of a pattern.
+/// Past the rest of a pattern.
 fn pattern_rest(trees: &[TokenTree]) -> Result<&[TokenTree], &[TokenTree]>
 {
     perhaps_angle(pattern_signs(trees))
 }
 
-// Whether a pattern begins.
+/// Whether a pattern begins.
 fn begins_pattern(trees: &[TokenTree]) -> bool
 {
     match first_sign(trees) {
@@ -178,7 +178,7 @@ fn begins_pattern(trees: &[TokenTree]) -> bool
     }
 }
 
-// Past a pattern.
+/// Past a pattern.
 fn past_pattern(trees: &[TokenTree]) -> Result<&[TokenTree], &[TokenTree]>
 {
     if begins_pattern(trees) {
@@ -188,7 +188,7 @@ fn past_pattern(trees: &[TokenTree]) -> Result<&[TokenTree], &[TokenTree]>
     }
 }
 
-// Past `self` or `mut self`.
+/// Past `self` or `mut self`.
 fn may_mutate(trees: &[TokenTree]) -> Result<&[TokenTree], &[TokenTree]>
 {
     if begins(trees, Class::Keyword(Keyword::Mut)) {
@@ -198,19 +198,19 @@ fn may_mutate(trees: &[TokenTree]) -> Result<&[TokenTree], &[TokenTree]>
     }
 }
 
-// Past `..`.
+/// Past `..`.
 fn two_dots(trees: &[TokenTree]) -> Result<&[TokenTree], &[TokenTree]>
 {
     past(past(trees, Class::Dot)?, Class::Dot)
 }
 
-// Past `...`.
+/// Past `...`.
 fn dots(trees: &[TokenTree]) -> Result<&[TokenTree], &[TokenTree]>
 {
     two_dots(past(trees, Class::Dot)?)
 }
 
-// What follows `mut`, up to a `:`.
+/// What follows `mut`, up to a `:`.
 fn after_mut(trees: &[TokenTree]) -> Result<(Shape, &[TokenTree]), &[TokenTree]>
 {
     match first_sign(trees) {
@@ -225,7 +225,7 @@ fn after_mut(trees: &[TokenTree]) -> Result<(Shape, &[TokenTree]), &[TokenTree]>
     }
 }
 
-// A pattern, up to its `:`.
+/// A pattern, up to its `:`.
 fn pattern_shape(trees: &[TokenTree]) -> Result<(Shape, &[TokenTree]), &[TokenTree]>
 {
     match past_pattern(trees) {
@@ -234,7 +234,7 @@ fn pattern_shape(trees: &[TokenTree]) -> Result<(Shape, &[TokenTree]), &[TokenTr
     }
 }
 
-// What follows `& mut`, up to a `:`.
+/// What follows `& mut`, up to a `:`.
 fn after_and_mut(trees: &[TokenTree]) -> Result<(Shape, &[TokenTree]), &[TokenTree]>
 {
     match first_sign(trees) {
@@ -249,7 +249,7 @@ fn after_and_mut(trees: &[TokenTree]) -> Result<(Shape, &[TokenTree]), &[TokenTr
     }
 }
 
-// What follows `&`, up to a `:`.
+/// What follows `&`, up to a `:`.
 fn after_and(trees: &[TokenTree]) -> Result<(Shape, &[TokenTree]), &[TokenTree]>
 {
     match first_sign(trees) {
@@ -272,7 +272,7 @@ fn after_and(trees: &[TokenTree]) -> Result<(Shape, &[TokenTree]), &[TokenTree]>
     }
 }
 
-// A receiver or a pattern, up to a `:`.
+/// A receiver or a pattern, up to a `:`.
 fn named_front(trees: &[TokenTree]) -> Result<(Shape, &[TokenTree]), &[TokenTree]>
 {
     match first_sign(trees) {
@@ -292,7 +292,7 @@ fn named_front(trees: &[TokenTree]) -> Result<(Shape, &[TokenTree]), &[TokenTree
     }
 }
 
-// The kind of a receiver with the type that follows it, and the trees after it.
+/// The kind of a receiver with the type that follows it, and the trees after it.
 fn self_type(trees: &[TokenTree]) -> Result<(ParameterKind<'_>, &[TokenTree]), &[TokenTree]>
 {
     match first_sign(trees) {
@@ -310,7 +310,7 @@ fn self_type(trees: &[TokenTree]) -> Result<(ParameterKind<'_>, &[TokenTree]), &
     }
 }
 
-// The kind of a parameter with a pattern, after its `:`, and the trees after it.
+/// The kind of a parameter with a pattern, after its `:`, and the trees after it.
 fn typed_end(trees: &[TokenTree]) -> Result<(ParameterKind<'_>, &[TokenTree]), &[TokenTree]>
 {
     if begins(trees, Class::Dot) {
@@ -326,7 +326,7 @@ fn typed_end(trees: &[TokenTree]) -> Result<(ParameterKind<'_>, &[TokenTree]), &
     }
 }
 
-// The same, from its `:` on.
+/// The same, from its `:` on.
 fn typed(trees: &[TokenTree]) -> Result<(ParameterKind<'_>, &[TokenTree]), &[TokenTree]>
 {
     match first_sign(trees) {
@@ -341,7 +341,7 @@ fn typed(trees: &[TokenTree]) -> Result<(ParameterKind<'_>, &[TokenTree]), &[Tok
     }
 }
 
-// The kind of a parameter, after what is read up to its `:` or its end, and the trees after it.
+/// The kind of a parameter, after what is read up to its `:` or its end, and the trees after it.
 fn end_of(
     shape: Shape,
     trees: &[TokenTree],
@@ -363,7 +363,7 @@ pub struct Named<'a> {
     pub kind: ParameterKind<'a>,
 }
 
-// A receiver, or a pattern with its type, and the trees after it.
+/// A receiver, or a pattern with its type, and the trees after it.
 fn named_of(trees: &[TokenTree]) -> Result<(Named<'_>, &[TokenTree]), &[TokenTree]>
 {
     match named_front(trees) {
@@ -378,7 +378,7 @@ fn named_of(trees: &[TokenTree]) -> Result<(Named<'_>, &[TokenTree]), &[TokenTre
     }
 }
 
-// The same, or `...`.
+/// The same, or `...`.
 fn rest_of(trees: &[TokenTree]) -> Result<(Named<'_>, &[TokenTree]), &[TokenTree]>
 {
     if begins(trees, Class::Dot) {
@@ -397,7 +397,7 @@ fn rest_of(trees: &[TokenTree]) -> Result<(Named<'_>, &[TokenTree]), &[TokenTree
     }
 }
 
-// The parameter at the front of the trees, and the trees after it; or those from the fault on.
+/// The parameter at the front of the trees, and the trees after it; or those from the fault on.
 fn parameter_of(trees: &[TokenTree]) -> Result<(Parameter<'_>, &[TokenTree]), &[TokenTree]>
 {
     match past_attributes(trees) {
@@ -544,7 +544,7 @@ impl<'a> Iterator for Parameters<'a> {
     }
 }
 
-// The first parameter of a list, and the trees after its comma.
+/// The first parameter of a list, and the trees after its comma.
 fn first_parameter(trees: &[TokenTree]) -> Result<(Parameter<'_>, &[TokenTree]), Fault>
 {
     match parse_parameter(trees) {

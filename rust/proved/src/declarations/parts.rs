@@ -7,7 +7,7 @@ use crate::declarations::types::TypeState;
 use crate::declarations::walk::split_from;
 use crate::pm_stream::TokenTree;
 
-// What is read where no item is declared around it.
+/// What is read where no item is declared around it.
 fn split_alone<'a>(
     trees: &'a [TokenTree],
     rule: Rule,

@@ -6,13 +6,13 @@ use crate::declarations::class::{Class, code};
 use crate::declarations::signs::first_sign;
 use crate::pm_stream::TokenTree;
 
-// Whether a sign is of this class.
+/// Whether a sign is of this class.
 pub(crate) fn is(class: Class, found: Class) -> bool
 {
     code(class) == code(found)
 }
 
-// Whether a sign of this class is next.
+/// Whether a sign of this class is next.
 pub(crate) fn begins(trees: &[TokenTree], class: Class) -> bool
 {
     match first_sign(trees) {
@@ -21,7 +21,7 @@ pub(crate) fn begins(trees: &[TokenTree], class: Class) -> bool
     }
 }
 
-// Past a sign of this class.
+/// Past a sign of this class.
 pub(crate) fn past(trees: &[TokenTree], class: Class) -> Result<&[TokenTree], &[TokenTree]>
 {
     match first_sign(trees) {
@@ -36,7 +36,7 @@ pub(crate) fn past(trees: &[TokenTree], class: Class) -> Result<&[TokenTree], &[
     }
 }
 
-// The trees before the rest.
+/// The trees before the rest.
 pub(crate) fn part<'a>(trees: &'a [TokenTree], rest: &[TokenTree]) -> &'a [TokenTree]
 {
     trees.split_at(trees.len() - rest.len()).0

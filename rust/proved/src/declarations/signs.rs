@@ -29,7 +29,7 @@ pub fn first_sign<'a>(trees: &'a [TokenTree]) -> Option<(Class, &'a [TokenTree])
     }
 }
 
-// The class of two trees that are read as one sign, if they are.
+/// The class of two trees that are read as one sign, if they are.
 fn pair_class(first: &TokenTree, second: &TokenTree) -> Option<Class>
 {
     let TokenTree::Punct(mark) = first else {
@@ -54,7 +54,7 @@ fn pair_class(first: &TokenTree, second: &TokenTree) -> Option<Class>
     }
 }
 
-// The class of two marks that are read as one sign, Joint or not.
+/// The class of two marks that are read as one sign, Joint or not.
 fn loose_class(first: char, second: char) -> Option<Class>
 {
     if first == '#' && second == '!' {
@@ -63,7 +63,7 @@ fn loose_class(first: char, second: char) -> Option<Class>
     None
 }
 
-// The same, where the first is Joint.
+/// The same, where the first is Joint.
 fn joint_class(first: char, second: char) -> Option<Class>
 {
     if let Some(class) = marks_class(first, second) {
@@ -72,7 +72,7 @@ fn joint_class(first: char, second: char) -> Option<Class>
     loose_class(first, second)
 }
 
-// The class of two marks that are read as one sign only where the first is Joint.
+/// The class of two marks that are read as one sign only where the first is Joint.
 fn marks_class(first: char, second: char) -> Option<Class>
 {
     if first == ':' && second == ':' {
@@ -116,7 +116,7 @@ fn group_class(group: &Group) -> Class
     }
 }
 
-// A group without delimiters, as macros by example pass a fragment.
+/// A group without delimiters, as macros by example pass a fragment.
 fn unseen_class(inside: &TokenStream) -> Class
 {
     if is_visibility(inside) {
@@ -125,7 +125,7 @@ fn unseen_class(inside: &TokenStream) -> Class
     Class::Invisible
 }
 
-// Whether trees are a visibility: none, or `pub`, perhaps with a restriction.
+/// Whether trees are a visibility: none, or `pub`, perhaps with a restriction.
 fn is_visibility(inside: &TokenStream) -> bool
 {
     let Some((first, rest)) = inside.trees().split_first() else {
@@ -137,13 +137,13 @@ fn is_visibility(inside: &TokenStream) -> bool
     }
 }
 
-// Whether an identifier is `pub`, and what follows it belongs to it.
+/// Whether an identifier is `pub`, and what follows it belongs to it.
 fn is_pub(ident: &Ident, belongs: bool) -> bool
 {
     ident.eq_str("pub") && belongs
 }
 
-// Whether the trees after `pub` are a restriction, or none.
+/// Whether the trees after `pub` are a restriction, or none.
 fn may_restrict(trees: &[TokenTree]) -> bool
 {
     let Some((first, rest)) = trees.split_first() else {
@@ -155,7 +155,7 @@ fn may_restrict(trees: &[TokenTree]) -> bool
     }
 }
 
-// Whether a group restricts `pub`, being the last tree.
+/// Whether a group restricts `pub`, being the last tree.
 fn restricts_in(group: &Group, last: bool) -> bool
 {
     match group.delimiter() {
@@ -164,7 +164,7 @@ fn restricts_in(group: &Group, last: bool) -> bool
     }
 }
 
-// Whether trees in parentheses restrict `pub`: `crate`, `self` or `super` alone, or `in` and others.
+/// Whether trees in parentheses restrict `pub`: `crate`, `self` or `super` alone, or `in` and others.
 fn is_restriction(inside: &TokenStream) -> bool
 {
     let Some((first, rest)) = inside.trees().split_first() else {
@@ -176,7 +176,7 @@ fn is_restriction(inside: &TokenStream) -> bool
     }
 }
 
-// Whether an identifier restricts `pub`, alone in parentheses or not.
+/// Whether an identifier restricts `pub`, alone in parentheses or not.
 fn restricts(ident: &Ident, alone: bool) -> bool
 {
     ident.eq_str("in")
@@ -205,7 +205,7 @@ fn mark_class(mark: char, joint: bool) -> Class
     }
 }
 
-// A mark that stands in expressions alone.
+/// A mark that stands in expressions alone.
 fn operator_class(mark: char) -> Class
 {
     match mark {
@@ -216,7 +216,7 @@ fn operator_class(mark: char) -> Class
     }
 }
 
-// It is compared with those words alone that begin as it does: the compiler makes one choice of the tests of `first`.
+/// It is compared with those words alone that begin as it does: the compiler makes one choice of the tests of `first`.
 pub(crate) fn name_class(ident: &Ident) -> Class
 {
     let first = ident.first_byte();
@@ -232,7 +232,7 @@ pub(crate) fn name_class(ident: &Ident) -> Class
     }
 }
 
-// Whether the identifier, whose first byte is this one, is written so.
+/// Whether the identifier, whose first byte is this one, is written so.
 #[cfg_attr(not(debug_assertions), inline(always))]
 fn is_written(ident: &Ident, first: u8, text: &str) -> bool
 {
@@ -242,7 +242,7 @@ fn is_written(ident: &Ident, first: u8, text: &str) -> bool
     }
 }
 
-// The keywords that stand in a path.
+/// The keywords that stand in a path.
 #[cfg_attr(not(debug_assertions), inline(always))]
 fn path_class(ident: &Ident, first: u8) -> Option<Class>
 {
@@ -264,7 +264,7 @@ fn path_class(ident: &Ident, first: u8) -> Option<Class>
     None
 }
 
-// The keywords that are operands, or stand before or after one that may be left out.
+/// The keywords that are operands, or stand before or after one that may be left out.
 #[cfg_attr(not(debug_assertions), inline(always))]
 fn operand_class(ident: &Ident, first: u8) -> Option<Class>
 {
@@ -308,7 +308,7 @@ fn keyword_of(ident: &Ident, first: u8) -> Option<Keyword>
     }
 }
 
-// The keywords that begin items alone.
+/// The keywords that begin items alone.
 #[cfg_attr(not(debug_assertions), inline(always))]
 fn item_keyword(ident: &Ident, first: u8) -> Option<Keyword>
 {
@@ -342,7 +342,7 @@ fn item_keyword(ident: &Ident, first: u8) -> Option<Keyword>
     None
 }
 
-// The keywords before a type's operand.
+/// The keywords before a type's operand.
 #[cfg_attr(not(debug_assertions), inline(always))]
 fn type_keyword(ident: &Ident, first: u8) -> Option<Keyword>
 {
@@ -379,7 +379,7 @@ fn type_keyword(ident: &Ident, first: u8) -> Option<Keyword>
     None
 }
 
-// The keywords that no rule names, in the order of the alphabet.
+/// The keywords that no rule names, in the order of the alphabet.
 #[cfg_attr(not(debug_assertions), inline(always))]
 fn is_early_keyword(ident: &Ident, first: u8) -> bool
 {

@@ -50,7 +50,7 @@ pub struct TypeStep {
     pub turn: Turn,
 }
 
-// Whether a type may end there, outside of angle brackets.
+/// Whether a type may end there, outside of angle brackets.
 pub(crate) fn may_end(state: TypeState) -> bool
 {
     match state {
@@ -75,7 +75,7 @@ fn open_bracket() -> Option<TypeStep>
     })
 }
 
-// Only within angle brackets.
+/// Only within angle brackets.
 fn close_bracket(outside: bool) -> Option<TypeStep>
 {
     if outside {
@@ -88,7 +88,7 @@ fn close_bracket(outside: bool) -> Option<TypeStep>
     }
 }
 
-// The step at a keyword that stands before an operand.
+/// The step at a keyword that stands before an operand.
 fn front(keyword: Keyword) -> Option<TypeStep>
 {
     match keyword {
@@ -105,7 +105,7 @@ fn front(keyword: Keyword) -> Option<TypeStep>
     }
 }
 
-// The step where an operand may stand.
+/// The step where an operand may stand.
 fn operand(class: Class, outside: bool) -> Option<TypeStep>
 {
     match class {
@@ -132,7 +132,7 @@ fn operand(class: Class, outside: bool) -> Option<TypeStep>
     }
 }
 
-// The step after an operand.
+/// The step after an operand.
 fn continuation(class: Class, outside: bool) -> Option<TypeStep>
 {
     match class {
@@ -149,7 +149,7 @@ fn continuation(class: Class, outside: bool) -> Option<TypeStep>
     }
 }
 
-// The step before a bound, or at the end of bounds.
+/// The step before a bound, or at the end of bounds.
 fn bound(class: Class, outside: bool) -> Option<TypeStep>
 {
     match class {
@@ -159,7 +159,7 @@ fn bound(class: Class, outside: bool) -> Option<TypeStep>
     }
 }
 
-// The step after a lifetime.
+/// The step after a lifetime.
 fn after_lifetime(class: Class, outside: bool) -> Option<TypeStep>
 {
     match class {
@@ -168,7 +168,7 @@ fn after_lifetime(class: Class, outside: bool) -> Option<TypeStep>
     }
 }
 
-// The step before an argument, or at the end of arguments.
+/// The step before an argument, or at the end of arguments.
 fn argument(class: Class, outside: bool) -> Option<TypeStep>
 {
     match class {
@@ -177,7 +177,7 @@ fn argument(class: Class, outside: bool) -> Option<TypeStep>
     }
 }
 
-// The step after a path and `!`.
+/// The step after a path and `!`.
 fn macro_group(class: Class) -> Option<TypeStep>
 {
     match class {
@@ -188,7 +188,7 @@ fn macro_group(class: Class) -> Option<TypeStep>
     }
 }
 
-// The step after `*`.
+/// The step after `*`.
 fn pointer(class: Class) -> Option<TypeStep>
 {
     match class {
@@ -197,7 +197,7 @@ fn pointer(class: Class) -> Option<TypeStep>
     }
 }
 
-// The step after `~`.
+/// The step after `~`.
 fn tilde(class: Class) -> Option<TypeStep>
 {
     match class {
@@ -206,7 +206,7 @@ fn tilde(class: Class) -> Option<TypeStep>
     }
 }
 
-// The step after `extern`.
+/// The step after `extern`.
 fn abi(class: Class, outside: bool) -> Option<TypeStep>
 {
     match class {
@@ -215,7 +215,7 @@ fn abi(class: Class, outside: bool) -> Option<TypeStep>
     }
 }
 
-// The step after the `-` of a constant argument.
+/// The step after the `-` of a constant argument.
 fn minus(class: Class) -> Option<TypeStep>
 {
     match class {
@@ -224,7 +224,7 @@ fn minus(class: Class) -> Option<TypeStep>
     }
 }
 
-// The step after `for`.
+/// The step after `for`.
 fn for_binder(class: Class) -> Option<TypeStep>
 {
     match class {
@@ -233,7 +233,7 @@ fn for_binder(class: Class) -> Option<TypeStep>
     }
 }
 
-// The step within `for<..>`.
+/// The step within `for<..>`.
 fn binder(class: Class) -> Option<TypeStep>
 {
     match class {
@@ -243,7 +243,7 @@ fn binder(class: Class) -> Option<TypeStep>
     }
 }
 
-// The step from a state, outside of angle brackets or not.
+/// The step from a state, outside of angle brackets or not.
 pub(crate) fn type_step(state: TypeState, class: Class, outside: bool) -> Option<TypeStep>
 {
     match state {

@@ -48,7 +48,7 @@ pub fn parse_variant(trees: &[TokenTree]) -> Result<(Variant<'_>, &[TokenTree]),
     }
 }
 
-// The parts of a variant.
+/// The parts of a variant.
 fn variant_of(trees: &[TokenTree]) -> Result<Variant<'_>, Fault>
 {
     let (attributes, rest) = split_attributes(trees)?;
@@ -64,7 +64,7 @@ fn variant_of(trees: &[TokenTree]) -> Result<Variant<'_>, Fault>
     })
 }
 
-// The fields that the trees begin with, if a group stands there, and the trees after it.
+/// The fields that the trees begin with, if a group stands there, and the trees after it.
 fn fields_first(trees: &[TokenTree]) -> (Fields<'_>, &[TokenTree])
 {
     match split_group(trees) {
@@ -79,7 +79,7 @@ fn fields_first(trees: &[TokenTree]) -> (Fields<'_>, &[TokenTree])
     }
 }
 
-// The trees after the first, if there are any.
+/// The trees after the first, if there are any.
 fn after_first(trees: &[TokenTree]) -> &[TokenTree]
 {
     match trees.split_first() {

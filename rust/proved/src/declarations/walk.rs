@@ -17,7 +17,7 @@ pub(crate) struct Split<'a> {
     pub named: &'a [TokenTree],
 }
 
-// What is read from this place on, and the trees after it.
+/// What is read from this place on, and the trees after it.
 pub(crate) fn split_from<'a>(trees: &'a [TokenTree], start: Place) -> Result<Split<'a>, Fault>
 {
     let stop = walk_from(trees, start);
@@ -35,7 +35,7 @@ pub(crate) fn split_from<'a>(trees: &'a [TokenTree], start: Place) -> Result<Spl
     }
 }
 
-// Reads all trees from this place on.
+/// Reads all trees from this place on.
 pub(crate) fn read_whole(trees: &[TokenTree], start: Place) -> Result<(), Fault>
 {
     let stop = walk_from(trees, start);
@@ -46,7 +46,7 @@ pub(crate) fn read_whole(trees: &[TokenTree], start: Place) -> Result<(), Fault>
     }
 }
 
-// Past what is read from this place on, or past the longest front that can go on.
+/// Past what is read from this place on, or past the longest front that can go on.
 pub(crate) fn walk_past<'a>(
     trees: &'a [TokenTree],
     start: Place,
@@ -60,7 +60,7 @@ pub(crate) fn walk_past<'a>(
     }
 }
 
-// Where a walk over signs stops.
+/// Where a walk over signs stops.
 #[derive(Clone, Copy)]
 struct Stop<'a> {
     place: Place,
@@ -70,7 +70,7 @@ struct Stop<'a> {
     named: &'a [TokenTree],
 }
 
-// How far the signs are steps from this place on.
+/// How far the signs are steps from this place on.
 fn walk_from<'a>(trees: &'a [TokenTree], start: Place) -> Stop<'a>
 {
     let mut place = start;
@@ -89,7 +89,7 @@ fn later<'a>(begins: bool, trees: &'a [TokenTree], named: &'a [TokenTree]) -> &'
     if begins { trees } else { named }
 }
 
-// What the first sign of the trees leads to, if it may stand there, the trees after it, and whether it is a name.
+/// What the first sign of the trees leads to, if it may stand there, the trees after it, and whether it is a name.
 fn next_place<'a>(place: Place, trees: &'a [TokenTree]) -> Option<(Place, &'a [TokenTree], bool)>
 {
     let (class, after) = first_sign(trees)?;

@@ -81,7 +81,7 @@ pub fn impl_header_where(
     Ok(quote.into_stream())
 }
 
-// All before the where clause.
+/// All before the where clause.
 fn front(item: &TypeItem<'_>, trait_path: &TokenStream) -> Result<Quote, HeaderError>
 {
     let mut quote = Quote::new();

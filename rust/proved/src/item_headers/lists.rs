@@ -18,13 +18,13 @@ pub(crate) enum Lead {
     Where,
 }
 
-// Puts a mark that is Alone at the end.
+/// Puts a mark that is Alone at the end.
 pub(crate) fn push_mark(quote: &mut Quote, character: char) -> Result<(), AllocError>
 {
     quote.push(TokenTree::Punct(Punct::new(character, Spacing::Alone)))
 }
 
-// Puts a word at the end.
+/// Puts a word at the end.
 pub(crate) fn push_word(quote: &mut Quote, name: &str) -> Result<(), IdentError>
 {
     let ident = Ident::new(name, Span::call_site())?;
@@ -32,7 +32,7 @@ pub(crate) fn push_word(quote: &mut Quote, name: &str) -> Result<(), IdentError>
     Ok(())
 }
 
-// Puts copies of these trees at the end.
+/// Puts copies of these trees at the end.
 pub(crate) fn push_trees(quote: &mut Quote, trees: &[TokenTree]) -> Result<(), AllocError>
 {
     let mut left = trees;
@@ -44,7 +44,7 @@ pub(crate) fn push_trees(quote: &mut Quote, trees: &[TokenTree]) -> Result<(), A
     Ok(())
 }
 
-// Puts `:` and copies of these trees at the end, if there are any.
+/// Puts `:` and copies of these trees at the end, if there are any.
 pub(crate) fn push_led(quote: &mut Quote, trees: &[TokenTree]) -> Result<(), AllocError>
 {
     if trees.is_empty() {
@@ -55,7 +55,7 @@ pub(crate) fn push_led(quote: &mut Quote, trees: &[TokenTree]) -> Result<(), All
     Ok(())
 }
 
-// Puts what stands before an element at the end: the first, or one after others.
+/// Puts what stands before an element at the end: the first, or one after others.
 pub(crate) fn push_lead(
     quote: &mut Quote,
     lead: Lead,
@@ -77,7 +77,7 @@ fn push_first_lead(quote: &mut Quote, lead: Lead) -> Result<(), IdentError>
     }
 }
 
-// Puts `::<` at the end.
+/// Puts `::<` at the end.
 fn push_turbofish(quote: &mut Quote) -> Result<(), AllocError>
 {
     push_joint_colon(quote)?;
@@ -86,7 +86,7 @@ fn push_turbofish(quote: &mut Quote) -> Result<(), AllocError>
     Ok(())
 }
 
-// Puts a `:` that is Joint at the end.
+/// Puts a `:` that is Joint at the end.
 fn push_joint_colon(quote: &mut Quote) -> Result<(), AllocError>
 {
     quote.push(TokenTree::Punct(Punct::new(':', Spacing::Joint)))

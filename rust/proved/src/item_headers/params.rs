@@ -105,7 +105,7 @@ pub fn turbofish(item: &TypeItem<'_>) -> Result<TokenStream, HeaderError>
     Ok(quote.into_stream())
 }
 
-// Puts the parameters at the end, in brackets.
+/// Puts the parameters at the end, in brackets.
 pub(crate) fn push_generics(
     quote: &mut Quote,
     trees: &[TokenTree],
@@ -140,7 +140,7 @@ fn push_param(
     }
 }
 
-// Puts all of a parameter but its default at the end.
+/// Puts all of a parameter but its default at the end.
 fn push_declared(quote: &mut Quote, param: &Param<'_>) -> Result<(), IdentError>
 {
     push_trees(quote, param.attributes)?;
@@ -149,7 +149,7 @@ fn push_declared(quote: &mut Quote, param: &Param<'_>) -> Result<(), IdentError>
     Ok(push_led(quote, param.bounds)?)
 }
 
-// Puts the keyword of a parameter at the end, if it has one.
+/// Puts the keyword of a parameter at the end, if it has one.
 fn push_keyword(quote: &mut Quote, kind: ParamKind) -> Result<(), IdentError>
 {
     match kind {

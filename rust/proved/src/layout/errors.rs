@@ -16,7 +16,7 @@ pub enum LayoutError {
     Write(io::Error),
 }
 
-// What `==` compares.
+/// What `==` compares.
 #[derive(Clone, Copy, PartialEq, Eq)]
 enum Kind {
     NotWellSpaced,
@@ -25,7 +25,7 @@ enum Kind {
 }
 
 impl LayoutError {
-    // Its kind, and that of the writer's error.
+    /// Its kind, and that of the writer's error.
     fn kind(&self) -> Kind
     {
         match self {

@@ -46,8 +46,8 @@ pub trait Chooser {
     fn gap(&mut self, place: Place<'_>) -> Gap;
 }
 
-// The gap that is written where this one is chosen: none after a Joint mark, and a space where none is chosen and
-// the text that comes with the next step would go on with what stands before it.
+/// The gap that is written where this one is chosen: none after a Joint mark, and a space where none is chosen and
+/// the text that comes with the next step would go on with what stands before it.
 #[cfg_attr(not(debug_assertions), inline(always))]
 pub(crate) fn fitting(before: Option<Step<'_>>, chosen: Gap, next: Step<'_>) -> Gap
 {
@@ -66,7 +66,7 @@ pub(crate) fn fitting(before: Option<Step<'_>>, chosen: Gap, next: Step<'_>) -> 
     Gap::Nothing
 }
 
-// Whether the step is past a literal of letters, digits and `_` alone.
+/// Whether the step is past a literal of letters, digits and `_` alone.
 fn is_plain(step: Step<'_>) -> bool
 {
     match step {
@@ -75,13 +75,13 @@ fn is_plain(step: Step<'_>) -> bool
     }
 }
 
-// Whether an identifier may go on with each character.
+/// Whether an identifier may go on with each character.
 fn is_all_continue(text: &str) -> bool
 {
     text.chars().all(|c| crate::shim::unicode_ident::is_xid_continue(c))
 }
 
-// Whether the step is past the first of the two dots of a range.
+/// Whether the step is past the first of the two dots of a range.
 fn begins_range(step: Step<'_>) -> bool
 {
     match step {
@@ -90,7 +90,7 @@ fn begins_range(step: Step<'_>) -> bool
     }
 }
 
-// Whether the tree is `.` Joint.
+/// Whether the tree is `.` Joint.
 fn is_joint_dot(tree: &TokenTree) -> bool
 {
     match tree {
@@ -99,7 +99,7 @@ fn is_joint_dot(tree: &TokenTree) -> bool
     }
 }
 
-// Whether the first of the trees is `.`.
+/// Whether the first of the trees is `.`.
 fn is_dot_next(trees: &[TokenTree]) -> bool
 {
     match trees.first() {
@@ -108,7 +108,7 @@ fn is_dot_next(trees: &[TokenTree]) -> bool
     }
 }
 
-// Whether the step is past a Joint mark.
+/// Whether the step is past a Joint mark.
 #[cfg_attr(not(debug_assertions), inline(always))]
 fn is_joint(step: Step<'_>) -> bool
 {
@@ -118,7 +118,7 @@ fn is_joint(step: Step<'_>) -> bool
     }
 }
 
-// Whether what the next step writes would go on with the token that the step is past.
+/// Whether what the next step writes would go on with the token that the step is past.
 #[cfg_attr(not(debug_assertions), inline(always))]
 fn goes_on(step: Step<'_>, next: Step<'_>) -> bool
 {
@@ -136,7 +136,7 @@ fn goes_on(step: Step<'_>, next: Step<'_>) -> bool
     }
 }
 
-// The first character that the step writes.
+/// The first character that the step writes.
 #[cfg_attr(not(debug_assertions), inline(always))]
 fn first_of(step: Step<'_>) -> Option<char>
 {
@@ -147,7 +147,7 @@ fn first_of(step: Step<'_>) -> Option<char>
     }
 }
 
-// And that of a token, or of a group's opener.
+/// And that of a token, or of a group's opener.
 #[cfg_attr(not(debug_assertions), inline(always))]
 fn first_of_tree(tree: &TokenTree) -> Option<char>
 {
@@ -160,13 +160,13 @@ fn first_of_tree(tree: &TokenTree) -> Option<char>
     }
 }
 
-// Whether the character, right after a name, would go on with it, or make a literal or a lifetime of it.
+/// Whether the character, right after a name, would go on with it, or make a literal or a lifetime of it.
 fn parts_name(c: char) -> bool
 {
     crate::shim::unicode_ident::is_xid_continue(c) || c == '"' || c == '\'' || c == '#'
 }
 
-// Whether the character would go on with the literal of this text.
+/// Whether the character would go on with the literal of this text.
 fn parts_literal(text: &str, c: char) -> bool
 {
     if begins_with_digit(text) {
@@ -176,7 +176,7 @@ fn parts_literal(text: &str, c: char) -> bool
     }
 }
 
-// Whether a digit begins the text.
+/// Whether a digit begins the text.
 fn begins_with_digit(text: &str) -> bool
 {
     match text.chars().next() {
@@ -185,7 +185,7 @@ fn begins_with_digit(text: &str) -> bool
     }
 }
 
-// Writes the gap.
+/// Writes the gap.
 #[cfg_attr(not(debug_assertions), inline(always))]
 pub(crate) fn push_gap(text: &mut TextBuilder, gap: Gap) -> Result<(), AllocError>
 {
@@ -204,7 +204,7 @@ pub(crate) fn push_gap(text: &mut TextBuilder, gap: Gap) -> Result<(), AllocErro
     }
 }
 
-// Writes so many spaces.
+/// Writes so many spaces.
 fn push_spaces(text: &mut TextBuilder, count: usize) -> Result<(), AllocError>
 {
     let mut left = count;
@@ -215,7 +215,7 @@ fn push_spaces(text: &mut TextBuilder, count: usize) -> Result<(), AllocError>
     text.push_text(few_spaces(left))
 }
 
-// Less than eight spaces.
+/// Less than eight spaces.
 fn few_spaces(count: usize) -> &'static str
 {
     match count {

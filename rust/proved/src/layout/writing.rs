@@ -51,7 +51,7 @@ pub fn text_with<C: Chooser>(
     Ok(text)
 }
 
-// The tokens of a stream that is well spaced with the gaps that the chooser gives.
+/// The tokens of a stream that is well spaced with the gaps that the chooser gives.
 fn laid_out<C: Chooser>(
     stream: &TokenStream,
     chooser: &mut C,
@@ -83,7 +83,7 @@ fn laid_out<C: Chooser>(
     Ok(text.into_string())
 }
 
-// In how many groups a step is taken, where it comes in so many.
+/// In how many groups a step is taken, where it comes in so many.
 fn depth_at(depth: usize, step: Step<'_>) -> usize
 {
     match step {
@@ -92,7 +92,7 @@ fn depth_at(depth: usize, step: Step<'_>) -> usize
     }
 }
 
-// In how many the next one is.
+/// In how many the next one is.
 fn depth_past(depth: usize, step: Step<'_>) -> usize
 {
     match step {
@@ -102,7 +102,7 @@ fn depth_past(depth: usize, step: Step<'_>) -> usize
     }
 }
 
-// Writes the token, opener or closer.
+/// Writes the token, opener or closer.
 #[cfg_attr(not(debug_assertions), inline(always))]
 fn push_step(text: &mut TextBuilder, step: Step<'_>) -> Result<(), AllocError>
 {
@@ -113,7 +113,7 @@ fn push_step(text: &mut TextBuilder, step: Step<'_>) -> Result<(), AllocError>
     }
 }
 
-// Writes the token, or the group's opener. What a token owns is copied from where it stands.
+/// Writes the token, or the group's opener. What a token owns is copied from where it stands.
 #[cfg_attr(not(debug_assertions), inline(always))]
 fn push_tree(text: &mut TextBuilder, tree: &TokenTree) -> Result<(), AllocError>
 {
@@ -125,7 +125,7 @@ fn push_tree(text: &mut TextBuilder, tree: &TokenTree) -> Result<(), AllocError>
     }
 }
 
-// Writes the identifier.
+/// Writes the identifier.
 #[cfg_attr(not(debug_assertions), inline(always))]
 fn push_name(text: &mut TextBuilder, ident: &Ident) -> Result<(), AllocError>
 {
@@ -136,7 +136,7 @@ fn push_name(text: &mut TextBuilder, ident: &Ident) -> Result<(), AllocError>
     text.push_text(name_of(ident))
 }
 
-// Writes the mark of a delimiter, if it has one.
+/// Writes the mark of a delimiter, if it has one.
 #[cfg_attr(not(debug_assertions), inline(always))]
 fn push_mark(text: &mut TextBuilder, mark: Option<char>) -> Result<(), AllocError>
 {
@@ -146,7 +146,7 @@ fn push_mark(text: &mut TextBuilder, mark: Option<char>) -> Result<(), AllocErro
     }
 }
 
-// The mark that opens a group.
+/// The mark that opens a group.
 pub(crate) fn opener(delimiter: Delimiter) -> Option<char>
 {
     match delimiter {
@@ -157,7 +157,7 @@ pub(crate) fn opener(delimiter: Delimiter) -> Option<char>
     }
 }
 
-// And that closes it.
+/// And that closes it.
 pub(crate) fn closer(delimiter: Delimiter) -> Option<char>
 {
     match delimiter {

@@ -120,7 +120,7 @@ impl<'a> PieceWalk<'a> {
         }
     }
 
-    // Passes the white characters at the front of the rest, and answers their text.
+    /// Passes the white characters at the front of the rest, and answers their text.
     #[cfg_attr(not(debug_assertions), inline(always))]
     fn pass_white(&mut self) -> &'a str
     {

@@ -24,7 +24,7 @@ pub enum Class {
     RawSpecial,
 }
 
-// A byte may be of several classes, each of which is a bit.
+/// A byte may be of several classes, each of which is a bit.
 const BLANK: u8 = 1;
 
 const WHITE: u8 = 2;

@@ -55,7 +55,7 @@ impl Group {
     }
 }
 
-// The literal of the three trees `doc`, `=` Alone and a literal, and `None` of others.
+/// The literal of the three trees `doc`, `=` Alone and a literal, and `None` of others.
 fn doc_in(trees: &[TokenTree]) -> Option<&Literal>
 {
     let [
@@ -73,13 +73,13 @@ fn doc_in(trees: &[TokenTree]) -> Option<&Literal>
     }
 }
 
-// Whether it is the identifier `doc`.
+/// Whether it is the identifier `doc`.
 fn is_doc(name: &Ident) -> bool
 {
     name.eq_str("doc")
 }
 
-// Whether it is the mark `=` Alone.
+/// Whether it is the mark `=` Alone.
 fn is_equals(mark: &Punct) -> bool
 {
     mark.as_char() == '=' && mark.spacing() == Spacing::Alone

@@ -129,7 +129,7 @@ impl TokenSink for Printer {
         })
     }
 
-    // Out of line, so that less is kept in registers for the pieces that come more often.
+    /// Out of line, so that less is kept in registers for the pieces that come more often.
     #[inline(never)]
     fn close(
         &mut self,

@@ -10,7 +10,7 @@ use crate::shim::prelude::Grow;
 use crate::pm_stream::stream::{TokenStream, TokenTree};
 use crate::pm_token::{Literal, Punct};
 
-// Two lists of trees that are to be compared.
+/// Two lists of trees that are to be compared.
 #[derive(Clone, Copy)]
 struct Lists<'a> {
     trees: &'a [TokenTree],
@@ -39,7 +39,7 @@ impl TokenStream {
     }
 }
 
-// Whether these trees are those of the other list, up to spans.
+/// Whether these trees are those of the other list, up to spans.
 fn are_same(trees: &[TokenTree], others: &[TokenTree]) -> bool
 {
     let mut outer = Vec::new();
@@ -78,7 +78,7 @@ fn are_same(trees: &[TokenTree], others: &[TokenTree]) -> bool
     }
 }
 
-// Whether both are the same token, or groups with the same delimiter.
+/// Whether both are the same token, or groups with the same delimiter.
 fn begin_alike(tree: &TokenTree, other: &TokenTree) -> bool
 {
     match (tree, other) {

@@ -27,7 +27,7 @@ pub struct Steps<'a> {
     left: &'a [TokenTree],
 }
 
-// A group that is open, and the trees after it.
+/// A group that is open, and the trees after it.
 #[derive(Clone, Copy)]
 struct OpenGroup<'a> {
     group: &'a Group,
@@ -134,8 +134,8 @@ impl<'a> Steps<'a> {
         Some((group, after))
     }
 
-    // Passes over so many trees, each with what is in it: those that are left of the innermost group, and then those
-    // after it, and so on.
+    /// Passes over so many trees, each with what is in it: those that are left of the innermost group, and then those
+    /// after it, and so on.
     pub(crate) fn pass_trees(&mut self, count: usize)
     {
         let mut count = count;
@@ -149,7 +149,7 @@ impl<'a> Steps<'a> {
         self.left = &self.left[count..];
     }
 
-    // The tree that the next step comes to, if it comes to one.
+    /// The tree that the next step comes to, if it comes to one.
     pub(crate) fn front(&self) -> Option<&'a TokenTree>
     {
         let Some((tree, _)) = self.left.split_first() else {

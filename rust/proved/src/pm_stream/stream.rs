@@ -82,7 +82,7 @@ impl Drop for TokenStream {
     }
 }
 
-// The last group of a list that has no other owner. The tokens after it are dropped.
+/// The last group of a list that has no other owner. The tokens after it are dropped.
 #[cfg_attr(not(debug_assertions), inline(always))]
 fn take_group(shared: &mut Rc<Vec<TokenTree>>) -> Option<Group>
 {
@@ -92,7 +92,7 @@ fn take_group(shared: &mut Rc<Vec<TokenTree>>) -> Option<Group>
     }
 }
 
-// The last group. The tokens after it are dropped.
+/// The last group. The tokens after it are dropped.
 #[cfg_attr(not(debug_assertions), inline(always))]
 fn pop_group(trees: &mut Vec<TokenTree>) -> Option<Group>
 {
@@ -119,7 +119,7 @@ fn pop_group(trees: &mut Vec<TokenTree>) -> Option<Group>
     None
 }
 
-// Puts a tree after the others, in a list that has no other owner.
+/// Puts a tree after the others, in a list that has no other owner.
 fn put_last(shared: &mut Rc<Vec<TokenTree>>, tree: TokenTree) -> Result<(), TokenTree>
 {
     match Rc::get_mut(shared) {
@@ -191,7 +191,7 @@ impl TokenStream {
         listed(&self.trees)
     }
 
-    // The last group, where the trees have no other owner. The tokens after it are dropped.
+    /// The last group, where the trees have no other owner. The tokens after it are dropped.
     fn take_group(&mut self) -> Option<Group>
     {
         let Some(shared) = &mut self.trees else {
@@ -200,7 +200,7 @@ impl TokenStream {
         take_group(shared)
     }
 
-    // Puts a group of the outer trees after its own, or gives them back.
+    /// Puts a group of the outer trees after its own, or gives them back.
     fn push_outer(&mut self, outer: TokenStream) -> Result<(), TokenStream>
     {
         let Some(shared) = &mut self.trees else {
@@ -218,7 +218,7 @@ impl TokenStream {
         Ok(())
     }
 
-    // What is true of every stream. It computes nothing: it hands the type's invariant to proofs.
+    /// What is true of every stream. It computes nothing: it hands the type's invariant to proofs.
     fn built(&self)
     {
         let _ = &self.trees;
@@ -281,7 +281,7 @@ impl TokenTree {
         }
     }
 
-    // The trees within a group, and none of a token.
+    /// The trees within a group, and none of a token.
     fn into_inside(self) -> TokenStream
     {
         match self {

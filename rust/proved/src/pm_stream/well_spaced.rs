@@ -33,7 +33,7 @@ impl TokenStream {
     }
 }
 
-// Whether these trees and all trees inside them are well spaced.
+/// Whether these trees and all trees inside them are well spaced.
 fn are_well_spaced(trees: &[TokenTree]) -> bool
 {
     let mut steps = Steps::new(trees);
@@ -60,7 +60,7 @@ fn are_well_spaced(trees: &[TokenTree]) -> bool
     }
 }
 
-// Whether the group that the step goes into is shown, or its token may stand there.
+/// Whether the group that the step goes into is shown, or its token may stand there.
 fn step_fits(step: Step<'_>) -> bool
 {
     match step {
@@ -70,13 +70,13 @@ fn step_fits(step: Step<'_>) -> bool
     }
 }
 
-// Whether a group with the delimiter shows where it begins and ends.
+/// Whether a group with the delimiter shows where it begins and ends.
 fn is_shown(delimiter: Delimiter) -> bool
 {
     delimiter != Delimiter::None
 }
 
-// Whether the tree may stand before these, whatever is inside it.
+/// Whether the tree may stand before these, whatever is inside it.
 fn fits(tree: &TokenTree, after: &[TokenTree]) -> bool
 {
     match tree {
@@ -86,7 +86,7 @@ fn fits(tree: &TokenTree, after: &[TokenTree]) -> bool
     }
 }
 
-// Whether the mark may stand before these trees.
+/// Whether the mark may stand before these trees.
 fn mark_fits(punct: &Punct, after: &[TokenTree]) -> bool
 {
     let mark = punct.as_char();
@@ -122,7 +122,7 @@ pub fn may_be_joint(mark: char, after: &[TokenTree]) -> bool
     }
 }
 
-// Whether the first tree may stand right after `'`.
+/// Whether the first tree may stand right after `'`.
 fn follows_quote(trees: &[TokenTree]) -> bool
 {
     match trees.first() {
@@ -132,7 +132,7 @@ fn follows_quote(trees: &[TokenTree]) -> bool
     }
 }
 
-// Whether the first tree may stand right after this Joint mark, which isn't `'`.
+/// Whether the first tree may stand right after this Joint mark, which isn't `'`.
 fn follows_joint(mark: char, trees: &[TokenTree]) -> bool
 {
     match trees.first() {
@@ -142,7 +142,7 @@ fn follows_joint(mark: char, trees: &[TokenTree]) -> bool
     }
 }
 
-// Whether it is how a literal begins that may stand right after `'`.
+/// Whether it is how a literal begins that may stand right after `'`.
 fn is_quotable(text: &str) -> bool
 {
     begins(text, "b\"")
@@ -152,7 +152,7 @@ fn is_quotable(text: &str) -> bool
         || begins(text, "cr\"")
 }
 
-// Whether a `'` stands at the front of the text.
+/// Whether a `'` stands at the front of the text.
 fn begins_with_quote(text: &str) -> bool
 {
     text.chars().next() == Some('\'')

@@ -145,7 +145,7 @@ impl Ident {
         }
     }
 
-    // The same, of any identifier.
+    /// The same, of any identifier.
     #[inline(never)]
     fn is_written(&self, text: &str) -> bool
     {

@@ -35,7 +35,7 @@ pub fn assign_roles(
     Ok(())
 }
 
-// Finds the `<` and `>` that enclose types, from this `<` on.
+/// Finds the `<` and `>` that enclose types, from this `<` on.
 fn pair_angles(
     atoms: &mut Vec<Atom>,
     opens: &mut Vec<usize>,
@@ -68,7 +68,7 @@ fn pair_angles(
     Ok(())
 }
 
-// Whether no type goes on with the atom, which stands after this one.
+/// Whether no type goes on with the atom, which stands after this one.
 fn ends_types(atom: &Atom, previous: &Atom) -> bool {
     match atom.kind {
         Kind::Word(word) => matches!(
@@ -91,7 +91,7 @@ fn ends_types(atom: &Atom, previous: &Atom) -> bool {
     }
 }
 
-// What the next braces belong to.
+/// What the next braces belong to.
 #[derive(Clone, Copy, PartialEq)]
 enum Head {
     Nothing,
@@ -106,10 +106,10 @@ enum Head {
     Other,
 }
 
-// No statement begins.
+/// No statement begins.
 const NO_START: usize = usize::MAX;
 
-// What was read of a list.
+/// What was read of a list.
 #[derive(Clone, Copy)]
 struct State {
     // Where the statement or the arm begins. Right after braces that end one, the index of the atom after them.
@@ -122,7 +122,7 @@ struct State {
 }
 
 impl State {
-    // Gives the atom of this index its role, and says whether a space stands before it.
+    /// Gives the atom of this index its role, and says whether a space stands before it.
     fn take(&mut self, atoms: &mut Vec<Atom>, first: usize, end: usize, index: usize) {
         let own = atom(atoms.as_slice(), index);
         let previous = before(atoms.as_slice(), first, index);
@@ -164,7 +164,7 @@ impl State {
         }
     }
 
-    // Whether an `if` begins that gives a value, at this word, with which `head` begins.
+    /// Whether an `if` begins that gives a value, at this word, with which `head` begins.
     fn take_head(&mut self, word: Word, head: Head, previous: &Atom, next: &Atom) -> bool {
         let item = matches!(head, Head::Fn | Head::Impl | Head::Item);
         if word == Word::For && (self.head == Head::Impl || next.is_mark('<')) {
@@ -253,7 +253,7 @@ impl State {
         }
     }
 
-    // Whether a statement, an arm or an attribute ends with the group of this index, which is to have this role.
+    /// Whether a statement, an arm or an attribute ends with the group of this index, which is to have this role.
     fn ends(&self, atoms: &[Atom], index: usize, role: Role, next: &Atom) -> bool {
         let passed = index.saturating_sub(self.start);
         if role == Role::Attribute {
@@ -366,7 +366,7 @@ impl State {
     }
 }
 
-// What begins with the word.
+/// What begins with the word.
 fn head_of(word: Word) -> Option<Head> {
     Some(match word {
         Word::Fn => Head::Fn,
@@ -380,7 +380,7 @@ fn head_of(word: Word) -> Option<Head> {
     })
 }
 
-// Of an operator that has two sides after a value.
+/// Of an operator that has two sides after a value.
 fn side(value: bool) -> Role {
     if value { Role::Between } else { Role::Before }
 }

@@ -21,7 +21,7 @@ pub(crate) struct StreamBuilder {
     trees: Trees,
 }
 
-// Trees that are put together.
+/// Trees that are put together.
 pub(crate) enum Trees {
     // Those of a stream, or none: nothing came after it, so that it is shared.
     Shared(TokenStream),
@@ -85,7 +85,7 @@ impl StreamBuilder {
         Ok(())
     }
 
-    // Puts copies of the trees at the end. So many more are expected.
+    /// Puts copies of the trees at the end. So many more are expected.
     #[inline(never)]
     fn copy(&mut self, trees: &[TokenTree], more: usize) -> Result<(), AllocError>
     {
@@ -133,7 +133,7 @@ impl StreamBuilder {
     }
 }
 
-// A list of copies of the stream's trees, with room for so many more.
+/// A list of copies of the stream's trees, with room for so many more.
 #[inline(never)]
 fn listed(stream: &TokenStream, more: usize) -> Result<Vec<TokenTree>, AllocError>
 {
@@ -144,7 +144,7 @@ fn listed(stream: &TokenStream, more: usize) -> Result<Vec<TokenTree>, AllocErro
     Ok(list)
 }
 
-// Puts the tree at the end of the list.
+/// Puts the tree at the end of the list.
 #[cfg_attr(not(debug_assertions), inline(always))]
 fn push(list: &mut Vec<TokenTree>, tree: TokenTree) -> Result<(), AllocError>
 {
@@ -155,7 +155,7 @@ fn push(list: &mut Vec<TokenTree>, tree: TokenTree) -> Result<(), AllocError>
     Ok(())
 }
 
-// Puts a copy of the tree at the end of the list.
+/// Puts a copy of the tree at the end of the list.
 #[cfg_attr(not(debug_assertions), inline(always))]
 fn copy_onto(list: &mut Vec<TokenTree>, tree: &TokenTree) -> Result<(), AllocError>
 {
@@ -165,7 +165,7 @@ fn copy_onto(list: &mut Vec<TokenTree>, tree: &TokenTree) -> Result<(), AllocErr
     Ok(())
 }
 
-// Puts copies of the trees at the end of the list. Groups share what is inside them.
+/// Puts copies of the trees at the end of the list. Groups share what is inside them.
 #[cfg_attr(not(debug_assertions), inline(always))]
 fn push_copies(list: &mut Vec<TokenTree>, trees: &[TokenTree]) -> Result<(), AllocError>
 {
@@ -176,7 +176,7 @@ fn push_copies(list: &mut Vec<TokenTree>, trees: &[TokenTree]) -> Result<(), All
     Ok(())
 }
 
-// Puts a copy of the tree at the end of the list. Room is asked for first, so that the copy is made where it stands.
+/// Puts a copy of the tree at the end of the list. Room is asked for first, so that the copy is made where it stands.
 #[cfg_attr(not(debug_assertions), inline(always))]
 fn push_copy(list: &mut Vec<TokenTree>, tree: &TokenTree) -> Result<(), AllocError>
 {
@@ -184,7 +184,7 @@ fn push_copy(list: &mut Vec<TokenTree>, tree: &TokenTree) -> Result<(), AllocErr
     put_copy(list, tree)
 }
 
-// Puts a copy of the tree at the end of the list, which has room for it. Each kind has a line.
+/// Puts a copy of the tree at the end of the list, which has room for it. Each kind has a line.
 #[cfg_attr(not(debug_assertions), inline(always))]
 fn put_copy(list: &mut Vec<TokenTree>, tree: &TokenTree) -> Result<(), AllocError>
 {

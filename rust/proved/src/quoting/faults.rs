@@ -23,7 +23,7 @@ pub(crate) fn are_well_spaced(trees: &[TokenTree]) -> Result<bool, QuoteError>
     Ok(spaced)
 }
 
-// What is wrong with the tree that the step comes to, whatever is inside it.
+/// What is wrong with the tree that the step comes to, whatever is inside it.
 fn step_fault(step: Step<'_>) -> Option<QuoteError>
 {
     match step {
@@ -33,7 +33,7 @@ fn step_fault(step: Step<'_>) -> Option<QuoteError>
     }
 }
 
-// What is wrong with the group, whatever is inside it.
+/// What is wrong with the group, whatever is inside it.
 fn group_fault(group: &Group) -> Option<QuoteError>
 {
     match group.delimiter() {
@@ -42,7 +42,7 @@ fn group_fault(group: &Group) -> Option<QuoteError>
     }
 }
 
-// What is wrong with the tree before these, whatever is inside it.
+/// What is wrong with the tree before these, whatever is inside it.
 fn tree_fault(tree: &TokenTree, after: &[TokenTree]) -> Option<QuoteError>
 {
     match tree {
@@ -52,13 +52,13 @@ fn tree_fault(tree: &TokenTree, after: &[TokenTree]) -> Option<QuoteError>
     }
 }
 
-// Whether the mark may come before these trees, whatever its spacing.
+/// Whether the mark may come before these trees, whatever its spacing.
 fn may_stand(mark: &Punct, after: &[TokenTree]) -> bool
 {
     mark.as_char() != '\'' || may_be_joint('\'', after)
 }
 
-// Whether the group that the step goes into is shown, or its token is spaced as it has to be there.
+/// Whether the group that the step goes into is shown, or its token is spaced as it has to be there.
 fn step_fits(step: Step<'_>) -> bool
 {
     match step {
@@ -68,7 +68,7 @@ fn step_fits(step: Step<'_>) -> bool
     }
 }
 
-// Whether the tree may come before these as it is, whatever is inside it.
+/// Whether the tree may come before these as it is, whatever is inside it.
 fn tree_fits(tree: &TokenTree, after: &[TokenTree]) -> bool
 {
     match tree {
@@ -78,7 +78,7 @@ fn tree_fits(tree: &TokenTree, after: &[TokenTree]) -> bool
     }
 }
 
-// Whether the mark may come before these trees with the spacing that it has.
+/// Whether the mark may come before these trees with the spacing that it has.
 fn mark_fits(mark: &Punct, after: &[TokenTree]) -> bool
 {
     match mark.spacing() {

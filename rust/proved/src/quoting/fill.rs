@@ -14,8 +14,8 @@ use crate::quoting::turns::{checked, turns_of};
 use crate::proc_macro2::{Group, Punct, Spacing, TokenStream, TokenTree};
 use crate::shim::alloc::AllocError;
 
-// The trees with the holes filled, where groups may nest so deep. In a turn of a repetition the turn's stream of each
-// list comes.
+/// The trees with the holes filled, where groups may nest so deep. In a turn of a repetition the turn's stream of each
+/// list comes.
 pub(crate) fn filled(
     template: &TokenStream,
     holes: &[Hole<'_>],
@@ -29,7 +29,7 @@ pub(crate) fn filled(
     Ok(out.finish()?)
 }
 
-// Puts the trees with the holes filled after those of the stream, as `filled` does.
+/// Puts the trees with the holes filled after those of the stream, as `filled` does.
 fn fill_onto(
     out: &mut StreamBuilder,
     template: &[TokenTree],
@@ -63,7 +63,7 @@ fn fill_onto(
     Ok(())
 }
 
-// A copy of the tree before these, a mark Alone where what comes first there has a meaning.
+/// A copy of the tree before these, a mark Alone where what comes first there has a meaning.
 fn apart_before(tree: &TokenTree, after: &[TokenTree]) -> Result<TokenTree, AllocError>
 {
     match tree {
@@ -84,7 +84,7 @@ pub(crate) fn has_meaning(trees: &[TokenTree]) -> bool
     }
 }
 
-// The trees of the group with the holes filled, where it stands inside of such trees.
+/// The trees of the group with the holes filled, where it stands inside of such trees.
 fn filled_inside(
     group: &Group,
     holes: &[Hole<'_>],
@@ -114,7 +114,7 @@ pub(crate) fn are_fixed(trees: &[TokenTree]) -> bool
     true
 }
 
-// Whether the tree is neither a group nor a `#`.
+/// Whether the tree is neither a group nor a `#`.
 fn is_fixed(tree: &TokenTree) -> bool
 {
     match tree {
@@ -153,7 +153,7 @@ pub(crate) fn repeat_onto(
     Ok(())
 }
 
-// Puts the separator at the end, Alone, before a turn that is not the first. So many more trees are expected.
+/// Puts the separator at the end, Alone, before a turn that is not the first. So many more trees are expected.
 fn separate(
     out: &mut StreamBuilder,
     separator: Option<&Punct>,

@@ -11,7 +11,7 @@ pub struct Hole<'a> {
     filling: Filling<'a>,
 }
 
-// What a hole stands for.
+/// What a hole stands for.
 #[derive(Clone, Copy)]
 pub(crate) enum Filling<'a> {
     // One stream.
@@ -58,7 +58,7 @@ impl<'a> Hole<'a> {
     }
 }
 
-// What names a hole in a template.
+/// What names a hole in a template.
 #[derive(Clone, Copy)]
 pub(crate) enum HoleName<'a> {
     Word(&'a Ident),
@@ -66,7 +66,7 @@ pub(crate) enum HoleName<'a> {
 }
 
 impl<'a> HoleName<'a> {
-    // Where it stands.
+    /// Where it stands.
     pub(crate) fn span(&self) -> Span
     {
         match self {
@@ -75,7 +75,7 @@ impl<'a> HoleName<'a> {
         }
     }
 
-    // Whether its text is this one.
+    /// Whether its text is this one.
     fn is(&self, text: &str) -> bool
     {
         match self {
@@ -84,7 +84,7 @@ impl<'a> HoleName<'a> {
         }
     }
 
-    // What the first hole of this name stands for.
+    /// What the first hole of this name stands for.
     pub(crate) fn filling<'h>(&self, holes: &[Hole<'h>]) -> Option<Filling<'h>>
     {
         for hole in holes {
@@ -95,7 +95,7 @@ impl<'a> HoleName<'a> {
         None
     }
 
-    // The stream that comes in its place: in a turn of a repetition also that of a list.
+    /// The stream that comes in its place: in a turn of a repetition also that of a list.
     pub(crate) fn put_in<'h>(
         &self,
         holes: &[Hole<'h>],

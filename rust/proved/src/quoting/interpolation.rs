@@ -4,7 +4,7 @@
 use crate::quoting::holes::HoleName;
 use crate::proc_macro2::{Delimiter, Group, Punct, TokenTree};
 
-// What has a meaning in a template, and the trees after it.
+/// What has a meaning in a template, and the trees after it.
 #[derive(Clone, Copy)]
 pub(crate) enum FoundInterpolation<'a> {
     // `#` and the name of a hole.
@@ -13,14 +13,14 @@ pub(crate) enum FoundInterpolation<'a> {
     Repeats(Repetition<'a>, &'a [TokenTree]),
 }
 
-// What is repeated, and the mark that stands between the turns.
+/// What is repeated, and the mark that stands between the turns.
 #[derive(Clone, Copy)]
 pub(crate) struct Repetition<'a> {
     pub(crate) body: &'a Group,
     pub(crate) separator: Option<&'a Punct>,
 }
 
-// What the tree begins before these. `None` where it stands for itself.
+/// What the tree begins before these. `None` where it stands for itself.
 #[cfg_attr(not(debug_assertions), inline(always))]
 pub(crate) fn interpolation_at<'a>(
     tree: &TokenTree,
@@ -33,7 +33,7 @@ pub(crate) fn interpolation_at<'a>(
     begun(after)
 }
 
-// What a `#` before these trees begins.
+/// What a `#` before these trees begins.
 #[inline(never)]
 fn begun(after: &[TokenTree]) -> Option<FoundInterpolation<'_>>
 {
@@ -44,7 +44,7 @@ fn begun(after: &[TokenTree]) -> Option<FoundInterpolation<'_>>
     Some(FoundInterpolation::Names(name_of(first)?, rest))
 }
 
-// The repetition of the group before these trees, where there is one.
+/// The repetition of the group before these trees, where there is one.
 fn repetition_of<'a>(body: &'a Group, after: &'a [TokenTree]) -> Option<FoundInterpolation<'a>>
 {
     if body.delimiter() != Delimiter::Parenthesis {
@@ -66,7 +66,7 @@ fn repetition_of<'a>(body: &'a Group, after: &'a [TokenTree]) -> Option<FoundInt
     Some(FoundInterpolation::Repeats(Repetition { body, separator }, rest))
 }
 
-// The name that the tree is: an identifier, or a literal of digits alone.
+/// The name that the tree is: an identifier, or a literal of digits alone.
 fn name_of(tree: &TokenTree) -> Option<HoleName<'_>>
 {
     match tree {
@@ -78,13 +78,13 @@ fn name_of(tree: &TokenTree) -> Option<HoleName<'_>>
     }
 }
 
-// Whether there are ASCII digits alone.
+/// Whether there are ASCII digits alone.
 fn all_digits(text: &str) -> bool
 {
     text.chars().all(|c| c.is_ascii_digit())
 }
 
-// Whether the tree is this mark, Joint or Alone.
+/// Whether the tree is this mark, Joint or Alone.
 #[cfg_attr(not(debug_assertions), inline(always))]
 fn is_mark(tree: &TokenTree, mark: char) -> bool
 {

@@ -40,7 +40,7 @@ pub(crate) fn filled_in_place(
     Ok(out.finish()?)
 }
 
-// Puts the trees with the holes filled after those of the stream.
+/// Puts the trees with the holes filled after those of the stream.
 fn fill_rest(
     out: &mut StreamBuilder,
     rest: Vec<TokenTree>,
@@ -74,7 +74,7 @@ fn fill_rest(
     Ok(())
 }
 
-// Makes the tree, which begins nothing, what comes out in its place.
+/// Makes the tree, which begins nothing, what comes out in its place.
 #[cfg_attr(not(debug_assertions), inline(always))]
 fn settle(
     tree: &mut TokenTree,
@@ -89,7 +89,7 @@ fn settle(
     Ok(())
 }
 
-// Fills the group inside, or sets the mark Alone.
+/// Fills the group inside, or sets the mark Alone.
 #[cfg_attr(not(debug_assertions), inline(always))]
 fn change(
     tree: &mut TokenTree,
@@ -110,7 +110,7 @@ fn change(
     }
 }
 
-// Fills the group inside.
+/// Fills the group inside.
 fn fill_group(
     group: &mut Group,
     holes: &[Hole<'_>],
@@ -129,7 +129,7 @@ fn fill_group(
     Ok(())
 }
 
-// Whether the tree is a mark that comes out Alone before these trees.
+/// Whether the tree is a mark that comes out Alone before these trees.
 #[cfg_attr(not(debug_assertions), inline(always))]
 fn comes_apart(tree: &TokenTree, after: &[TokenTree]) -> bool
 {

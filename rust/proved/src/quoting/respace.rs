@@ -33,7 +33,7 @@ pub(crate) fn respaced(stream: &TokenStream) -> Result<TokenStream, AllocError>
     }
 }
 
-// The trees of one list, of which the first are respaced.
+/// The trees of one list, of which the first are respaced.
 struct RespacedList<'a> {
     // The list as it was.
     stream: &'a TokenStream,
@@ -45,7 +45,7 @@ struct RespacedList<'a> {
 }
 
 impl<'a> RespacedList<'a> {
-    // A list of which nothing is done.
+    /// A list of which nothing is done.
     fn new(stream: &'a TokenStream) -> RespacedList<'a>
     {
         RespacedList {
@@ -56,13 +56,13 @@ impl<'a> RespacedList<'a> {
         }
     }
 
-    // The first tree that is left, and those after it.
+    /// The first tree that is left, and those after it.
     fn next(&self) -> Option<(&'a TokenTree, &'a [TokenTree])>
     {
         self.trees[self.done..].split_first()
     }
 
-    // Respaces the first tree that is left, which is no group.
+    /// Respaces the first tree that is left, which is no group.
     fn step(
         &mut self,
         tree: &TokenTree,
@@ -78,7 +78,7 @@ impl<'a> RespacedList<'a> {
         self.keep(tree)
     }
 
-    // Puts the group of this list, all of which is done, in the place of the group that the list comes from.
+    /// Puts the group of this list, all of which is done, in the place of the group that the list comes from.
     fn close(&mut self, inner: RespacedList<'_>) -> Result<(), AllocError>
     {
         let Some((tree, _)) = self.next() else {
@@ -94,7 +94,7 @@ impl<'a> RespacedList<'a> {
         }
     }
 
-    // Keeps the first tree that is left as it is.
+    /// Keeps the first tree that is left as it is.
     fn keep(&mut self, tree: &TokenTree) -> Result<(), AllocError>
     {
         if let Some(changed) = &mut self.changed {
@@ -104,7 +104,7 @@ impl<'a> RespacedList<'a> {
         Ok(())
     }
 
-    // Puts this tree in the place of the first one that is left. What was done is copied at the first such call.
+    /// Puts this tree in the place of the first one that is left. What was done is copied at the first such call.
     fn replace(&mut self, tree: TokenTree) -> Result<(), AllocError>
     {
         let mut changed = match self.changed.take() {
@@ -117,7 +117,7 @@ impl<'a> RespacedList<'a> {
         Ok(())
     }
 
-    // The list, all of which is done.
+    /// The list, all of which is done.
     fn finish(self) -> Result<TokenStream, AllocError>
     {
         let RespacedList {
@@ -132,7 +132,7 @@ impl<'a> RespacedList<'a> {
     }
 }
 
-// The stream of copies of these trees. Groups share what is inside them.
+/// The stream of copies of these trees. Groups share what is inside them.
 fn copied(trees: &[TokenTree]) -> Result<TokenStream, AllocError>
 {
     let mut stream = TokenStream::new();
@@ -142,14 +142,14 @@ fn copied(trees: &[TokenTree]) -> Result<TokenStream, AllocError>
     Ok(stream)
 }
 
-// Puts a tree of a stream at the end of another.
+/// Puts a tree of a stream at the end of another.
 fn put(stream: &mut TokenStream, tree: TokenTree) -> Result<(), AllocError>
 {
     laws::trees_stand_whole();
     stream.extend_trees([tree])
 }
 
-// How the mark is spaced before these trees: `'` is Joint, any other mark Joint where it was and may be.
+/// How the mark is spaced before these trees: `'` is Joint, any other mark Joint where it was and may be.
 fn kept_spacing(mark: &Punct, after: &[TokenTree]) -> Spacing
 {
     let c = mark.as_char();
@@ -160,7 +160,7 @@ fn kept_spacing(mark: &Punct, after: &[TokenTree]) -> Spacing
     }
 }
 
-// The same mark with this spacing.
+/// The same mark with this spacing.
 pub(crate) fn spaced(mark: &Punct, spacing: Spacing) -> Punct
 {
     let span = mark.span();
@@ -169,7 +169,7 @@ pub(crate) fn spaced(mark: &Punct, spacing: Spacing) -> Punct
     spaced
 }
 
-// The same group with these trees.
+/// The same group with these trees.
 pub(crate) fn regrouped(group: &Group, stream: TokenStream) -> Group
 {
     let mut regrouped = Group::new(group.delimiter(), stream);

@@ -8,7 +8,7 @@ use crate::quoting::owned::filled_in_place;
 use crate::quoting::quote::Quote;
 use crate::proc_macro2::{ParseError, SourceMap, TokenStream};
 
-// How many groups may stand one inside the other in a template.
+/// How many groups may stand one inside the other in a template.
 const DEPTH_LIMIT: usize = 64;
 
 impl Quote {

@@ -24,7 +24,7 @@ pub(crate) fn turns_of(
     Ok(None)
 }
 
-// How many streams the list has that is named where the step comes to its `#`.
+/// How many streams the list has that is named where the step comes to its `#`.
 fn step_turns(step: Step<'_>, holes: &[Hole<'_>]) -> Option<usize>
 {
     match step {
@@ -33,7 +33,7 @@ fn step_turns(step: Step<'_>, holes: &[Hole<'_>]) -> Option<usize>
     }
 }
 
-// How many streams the list has that the tree before these names, if it is the `#` of a list.
+/// How many streams the list has that the tree before these names, if it is the `#` of a list.
 fn named_length(tree: &TokenTree, after: &[TokenTree], holes: &[Hole<'_>]) -> Option<usize>
 {
     let Some(FoundInterpolation::Names(name, _)) = interpolation_at(tree, after) else {
@@ -78,7 +78,7 @@ pub(crate) fn checked(
     Ok(())
 }
 
-// Checks that the name has a hole, and a list as many streams as there are turns.
+/// Checks that the name has a hole, and a list as many streams as there are turns.
 fn name_checked(name: &HoleName<'_>, holes: &[Hole<'_>], turns: usize) -> Result<(), TemplateError>
 {
     match name.filling(holes) {

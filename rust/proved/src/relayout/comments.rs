@@ -69,23 +69,23 @@ pub fn with_doc_comments(text: &str) -> Result<String, RelayoutError>
     Ok(out.into_string())
 }
 
-// Whether nothing but white space stands on the line after this white space, where so it was before it or not.
+/// Whether nothing but white space stands on the line after this white space, where so it was before it or not.
 #[cfg_attr(not(debug_assertions), inline(always))]
 fn is_free_after(free: bool, white: &str) -> bool
 {
     free || ends_line(white)
 }
 
-// Whether a line ends in the white space.
+/// Whether a line ends in the white space.
 #[cfg_attr(not(debug_assertions), inline(always))]
 fn ends_line(white: &str) -> bool
 {
     white.chars().any(|c| c == '\n')
 }
 
-// Writes a comment in the place of the attribute at the front of the text, and before it what is kept up to there.
-// `free` says whether nothing but white space stands before the text on its line. Answers what follows the attribute's
-// line; `None`, and nothing is written, where no attribute is to become a comment.
+/// Writes a comment in the place of the attribute at the front of the text, and before it what is kept up to there.
+/// `free` says whether nothing but white space stands before the text on its line. Answers what follows the attribute's
+/// line; `None`, and nothing is written, where no attribute is to become a comment.
 #[cfg_attr(not(debug_assertions), inline(always))]
 fn push_comment<'a>(
     out: &mut TextBuilder,
@@ -103,7 +103,7 @@ fn push_comment<'a>(
     push_attribute(out, kept, text)
 }
 
-// The same, where nothing but white space stands before the text on its line.
+/// The same, where nothing but white space stands before the text on its line.
 #[inline(never)]
 fn push_attribute<'a>(
     out: &mut TextBuilder,
@@ -132,7 +132,7 @@ fn push_attribute<'a>(
     push_doc(out, kept, text, inner, said.as_str(), rest)
 }
 
-// The same of an attribute of this text before the rest, if a comment gives the text.
+/// The same of an attribute of this text before the rest, if a comment gives the text.
 fn push_doc<'a>(
     out: &mut TextBuilder,
     kept: &str,
@@ -152,14 +152,14 @@ fn push_doc<'a>(
     Ok(Some(rest))
 }
 
-// How a comment begins, one with `!` or not.
+/// How a comment begins, one with `!` or not.
 fn front_of(inner: bool) -> &'static str
 {
     if inner { "//!" } else { "///" }
 }
 
-// What follows the piece at the front of the text, where no attribute is to become a comment, and whether nothing but
-// white space stands before that on its line. `free` says whether so it is before the piece. `None` where none stands.
+/// What follows the piece at the front of the text, where no attribute is to become a comment, and whether nothing but
+/// white space stands before that on its line. `free` says whether so it is before the piece. `None` where none stands.
 #[cfg_attr(not(debug_assertions), inline(always))]
 fn past_piece(text: &str, first: bool, free: bool) -> Option<(&str, bool)>
 {
@@ -170,7 +170,7 @@ fn past_piece(text: &str, first: bool, free: bool) -> Option<(&str, bool)>
     Some((rest, is_free(free, piece.kind, own)))
 }
 
-// Whether nothing but white space stands on the line after a piece of this kind and text.
+/// Whether nothing but white space stands on the line after a piece of this kind and text.
 fn is_free(free: bool, kind: PieceKind<'_>, text: &str) -> bool
 {
     match kind {
@@ -179,7 +179,7 @@ fn is_free(free: bool, kind: PieceKind<'_>, text: &str) -> bool
     }
 }
 
-// What follows the front of an attribute, which is of a comment with `!` or not.
+/// What follows the front of an attribute, which is of a comment with `!` or not.
 fn past_front(text: &str) -> Option<(bool, &str)>
 {
     if let Some(rest) = strip(text, "#[doc = ") {
@@ -191,7 +191,7 @@ fn past_front(text: &str) -> Option<(bool, &str)>
     None
 }
 
-// The literal at the front of the text, and what follows `]` and LF after it.
+/// The literal at the front of the text, and what follows `]` and LF after it.
 fn split_literal(text: &str) -> Option<(&str, &str)>
 {
     let Some(bytes) = literal_at(text) else {
@@ -203,7 +203,7 @@ fn split_literal(text: &str) -> Option<(&str, &str)>
     Some((&text[..bytes], rest))
 }
 
-// The text of which this is the string literal, as `Literal::string` writes it.
+/// The text of which this is the string literal, as `Literal::string` writes it.
 fn text_of(literal: &str) -> Result<Option<String>, AllocError>
 {
     if !Literal::is_whole(literal) {
@@ -217,7 +217,7 @@ fn text_of(literal: &str) -> Result<Option<String>, AllocError>
     }
 }
 
-// The text, if this is its string literal.
+/// The text, if this is its string literal.
 fn same_literal(literal: &str, text: String) -> Result<Option<String>, AllocError>
 {
     let again = string_literal(text.as_str(), Span::call_site())?;
@@ -228,19 +228,19 @@ fn same_literal(literal: &str, text: String) -> Result<Option<String>, AllocErro
     }
 }
 
-// Whether both are the same text.
+/// Whether both are the same text.
 fn is_same(text: &str, other: &str) -> bool
 {
     text == other
 }
 
-// Whether a doc comment of one line gives the text.
+/// Whether a doc comment of one line gives the text.
 fn is_doc_line(inner: bool, text: &str) -> bool
 {
     is_in_line(text) && (inner || !begins(text, "/"))
 }
 
-// Whether no line ends in the text, and no CR stands in it.
+/// Whether no line ends in the text, and no CR stands in it.
 fn is_in_line(text: &str) -> bool
 {
     skip_to_either(Cursor::new(text), b'\n', b'\r')

@@ -4,8 +4,8 @@
 use crate::pm_token::parts::{TextBuilder, is_bare};
 use crate::shim::alloc::AllocError;
 
-// The characters of ASCII at the front of a literal's content that stand for themselves, and what follows them. `None`
-// where no quote begins the text.
+/// The characters of ASCII at the front of a literal's content that stand for themselves, and what follows them. `None`
+/// where no quote begins the text.
 #[cfg_attr(not(debug_assertions), inline(always))]
 pub(crate) fn plain_front(text: &str) -> Option<(&str, &str)>
 {
@@ -13,9 +13,9 @@ pub(crate) fn plain_front(text: &str) -> Option<(&str, &str)>
     Some(split_plain(content))
 }
 
-// The text whose literal has this content, from such a front on, before `]` and LF, and what follows these. `None` says
-// nothing: characters past ASCII may stand for themselves too, and an escape is a backslash and a letter. It takes
-// memory only where such a literal stands.
+/// The text whose literal has this content, from such a front on, before `]` and LF, and what follows these. `None`
+/// says nothing: characters past ASCII may stand for themselves too, and an escape is a backslash and a letter. It
+/// takes memory only where such a literal stands.
 pub(crate) fn escaped_text<'a>(
     front: &str,
     after: &'a str,
@@ -44,21 +44,21 @@ pub(crate) fn escaped_text<'a>(
     Ok(None)
 }
 
-// What follows this ASCII front of the text.
+/// What follows this ASCII front of the text.
 #[cfg_attr(not(debug_assertions), inline(always))]
 pub(crate) fn strip<'a>(text: &'a str, front: &str) -> Option<&'a str>
 {
     text.strip_prefix(front)
 }
 
-// The characters of ASCII at the front that stand for themselves in a literal, and what follows them.
+/// The characters of ASCII at the front that stand for themselves in a literal, and what follows them.
 #[cfg_attr(not(debug_assertions), inline(always))]
 fn split_plain(text: &str) -> (&str, &str)
 {
     text.split_at(plain_size(text.as_bytes()))
 }
 
-// How many bytes at the front are characters of ASCII that stand for themselves.
+/// How many bytes at the front are characters of ASCII that stand for themselves.
 #[cfg_attr(not(debug_assertions), inline(always))]
 fn plain_size(bytes: &[u8]) -> usize
 {
@@ -72,14 +72,14 @@ fn plain_size(bytes: &[u8]) -> usize
     count
 }
 
-// Whether the byte is a character of ASCII that stands for itself.
+/// Whether the byte is a character of ASCII that stands for itself.
 #[cfg_attr(not(debug_assertions), inline(always))]
 fn is_plain(byte: u8) -> bool
 {
     byte >= b' ' && byte < 0x7F && byte != b'\\' && byte != b'"'
 }
 
-// How many bytes the content of a literal has at the front, of characters and escapes that `split_unit` may read.
+/// How many bytes the content of a literal has at the front, of characters and escapes that `split_unit` may read.
 fn content_size(bytes: &[u8]) -> usize
 {
     let mut count = 0;
@@ -96,12 +96,12 @@ fn content_size(bytes: &[u8]) -> usize
     count
 }
 
-// Whether `meaning` knows the letter.
+/// Whether `meaning` knows the letter.
 fn is_letter(byte: u8) -> bool {
     matches!(byte, b'\\' | b'"' | b't' | b'n' | b'r')
 }
 
-// The character that is written at the front, by itself past ASCII or by a short escape, and what follows it.
+/// The character that is written at the front, by itself past ASCII or by a short escape, and what follows it.
 fn split_unit(text: &str) -> Option<(char, &str)>
 {
     let (c, after) = split_first(text)?;
@@ -116,7 +116,7 @@ fn split_unit(text: &str) -> Option<(char, &str)>
     Some((meaning(letter)?, behind))
 }
 
-// The first character of a text, and the text after it.
+/// The first character of a text, and the text after it.
 fn split_first(text: &str) -> Option<(char, &str)>
 {
     let mut characters = text.chars();
@@ -124,13 +124,13 @@ fn split_first(text: &str) -> Option<(char, &str)>
     Some((first, characters.as_str()))
 }
 
-// Whether the character is past ASCII and stands for itself.
+/// Whether the character is past ASCII and stands for itself.
 fn stands_past_ascii(c: char) -> bool
 {
     !c.is_ascii() && is_bare(c)
 }
 
-// What this letter means after a backslash, where it is the escape by which a literal has that character.
+/// What this letter means after a backslash, where it is the escape by which a literal has that character.
 fn meaning(letter: char) -> Option<char>
 {
     match letter {

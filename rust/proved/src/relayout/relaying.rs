@@ -60,7 +60,7 @@ pub fn relayout(text: &str, choices: &[White]) -> Result<String, RelayoutError>
     }
 }
 
-// Whether it is a line comment.
+/// Whether it is a line comment.
 fn is_line(next: PlacedPiece<'_>) -> bool
 {
     match next.piece.kind {
@@ -69,9 +69,9 @@ fn is_line(next: PlacedPiece<'_>) -> bool
     }
 }
 
-// Takes the next choice for a run of white characters, which stands from `from` up to `to`, if it isn't empty. A run
-// that changes is written as the choice says, after the text that was kept before it. Answers the text that is kept
-// now, up to `to` and on, and the choices for later runs.
+/// Takes the next choice for a run of white characters, which stands from `from` up to `to`, if it isn't empty. A run
+/// that changes is written as the choice says, after the text that was kept before it. Answers the text that is kept
+/// now, up to `to` and on, and the choices for later runs.
 #[cfg_attr(not(debug_assertions), inline(always))]
 fn push_run<'a, 'b>(
     out: &mut TextBuilder,

@@ -44,7 +44,7 @@ pub fn calls(name: &str, mut cursor: Cursor<'_>) -> Result<Vec<Span>, AllocError
     }
 }
 
-// Puts in the span of the first tree, if there is one.
+/// Puts in the span of the first tree, if there is one.
 fn push_span(spans: &mut Vec<Span>, here: Cursor<'_>) -> Result<(), AllocError>
 {
     if let Some(span) = here.span() {
@@ -53,8 +53,8 @@ fn push_span(spans: &mut Vec<Span>, here: Cursor<'_>) -> Result<(), AllocError>
     Ok(())
 }
 
-// Whether what stands right after a name makes it a call: arguments, `!` and those of a macro, or a turbofish and
-// arguments.
+/// Whether what stands right after a name makes it a call: arguments, `!` and those of a macro, or a turbofish and
+/// arguments.
 fn is_called(after: Cursor<'_>) -> bool
 {
     match after.next() {
@@ -67,13 +67,13 @@ fn is_called(after: Cursor<'_>) -> bool
     }
 }
 
-// Whether it is the keyword `fn`.
+/// Whether it is the keyword `fn`.
 fn is_fn(ident: Name<'_>) -> bool
 {
     !ident.raw && is_text(ident.text, "fn")
 }
 
-// Whether both are the same.
+/// Whether both are the same.
 fn is_text(text: &str, other: &str) -> bool
 {
     text == other

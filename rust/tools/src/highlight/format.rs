@@ -24,7 +24,7 @@ pub fn request_of(words: &[String]) -> Option<(Format, &str)>
     }
 }
 
-// The format that a word names.
+/// The format that a word names.
 fn format_named(word: &str) -> Option<Format>
 {
     match word {

@@ -39,7 +39,7 @@ pub fn marked(format: Format, text: &str) -> Result<String, Failure>
     }
 }
 
-// The styles of the delimiters, the first last.
+/// The styles of the delimiters, the first last.
 fn styles_of_delimiters(text: &str) -> Result<Vec<Style>, AllocError>
 {
     let mut nesting = Nesting::new();
@@ -52,7 +52,7 @@ fn styles_of_delimiters(text: &str) -> Result<Vec<Style>, AllocError>
     Ok(styles)
 }
 
-// What is to be known to style the next piece.
+/// What is to be known to style the next piece.
 struct Styling {
     // The styles of the delimiters from here on, the first last.
     delimiters: Vec<Style>,
@@ -61,7 +61,7 @@ struct Styling {
 }
 
 impl Styling {
-    // What the next piece is shown as.
+    /// What the next piece is shown as.
     fn style_of(&mut self, next: PlacedPiece<'_>) -> Style
     {
         let is_after_quote = self.is_after_quote;
@@ -76,7 +76,7 @@ impl Styling {
     }
 }
 
-// Whether the piece is the mark `'`.
+/// Whether the piece is the mark `'`.
 fn is_quote(kind: PieceKind<'_>) -> bool
 {
     match kind {
@@ -85,7 +85,7 @@ fn is_quote(kind: PieceKind<'_>) -> bool
     }
 }
 
-// Why the text doesn't parse, if it doesn't.
+/// Why the text doesn't parse, if it doesn't.
 fn explained(text: &str) -> Result<Option<Explained>, Failure>
 {
     match explain(text) {

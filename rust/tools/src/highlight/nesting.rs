@@ -61,7 +61,7 @@ impl Nesting {
         }
     }
 
-    // Takes an opener.
+    /// Takes an opener.
     fn open(&mut self, opener: char) -> Result<(), AllocError>
     {
         let closer = closer_of(opener);
@@ -79,14 +79,14 @@ impl Nesting {
         Ok(self.styles.push_fallibly(Style::Unclosed)?)
     }
 
-    // Takes a closer.
+    /// Takes a closer.
     fn close(&mut self, closer: char) -> Result<(), AllocError>
     {
         let style = self.matched(closer);
         Ok(self.styles.push_fallibly(style)?)
     }
 
-    // Takes out the opener that the closer matches and those inside it, and answers the style of both.
+    /// Takes out the opener that the closer matches and those inside it, and answers the style of both.
     fn matched(&mut self, closer: char) -> Style
     {
         if !self.awaited.has(closer) {
@@ -122,7 +122,7 @@ impl Nesting {
 }
 
 impl Awaited {
-    // Whether some opener waits for the closer.
+    /// Whether some opener waits for the closer.
     fn has(self, closer: char) -> bool
     {
         match closer {
@@ -133,7 +133,7 @@ impl Awaited {
     }
 }
 
-// Sets the style at the index, if one stands there.
+/// Sets the style at the index, if one stands there.
 fn set_style(styles: &mut Vec<Style>, index: usize, style: Style)
 {
     if index < styles.len() {
@@ -141,7 +141,7 @@ fn set_style(styles: &mut Vec<Style>, index: usize, style: Style)
     }
 }
 
-// The closer of an opener.
+/// The closer of an opener.
 fn closer_of(opener: char) -> char
 {
     match opener {

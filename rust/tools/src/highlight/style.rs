@@ -91,7 +91,7 @@ impl Style {
     }
 }
 
-// The class of a delimiter, six colours in turn.
+/// The class of a delimiter, six colours in turn.
 fn depth_class(depth: usize) -> &'static str
 {
     match depth % 6 {
@@ -104,7 +104,7 @@ fn depth_class(depth: usize) -> &'static str
     }
 }
 
-// The colour of a delimiter.
+/// The colour of a delimiter.
 fn depth_colour(depth: usize) -> &'static str
 {
     match depth % 6 {
@@ -135,7 +135,7 @@ pub fn style_of(kind: PieceKind<'_>, text: &str) -> Style
     }
 }
 
-// A comment begins with a slash, which isn't white.
+/// A comment begins with a slash, which isn't white.
 fn gap_style(text: &str) -> Style
 {
     match text.as_bytes() {
@@ -160,7 +160,7 @@ fn literal_style(text: &str) -> Style
     }
 }
 
-// Whether a dot, or an exponent and not a suffix, follows the digits of a number.
+/// Whether a dot, or an exponent and not a suffix, follows the digits of a number.
 fn is_float(number: &str) -> bool
 {
     let mut after_e = false;
@@ -177,8 +177,8 @@ fn is_float(number: &str) -> bool
     false
 }
 
-// Whether the text is a word that is no name unless raw: a keyword of the edition 2024, or a reserved one. It is
-// compared with those alone that begin as it does.
+/// Whether the text is a word that is no name unless raw: a keyword of the edition 2024, or a reserved one. It is
+/// compared with those alone that begin as it does.
 fn is_keyword(text: &str) -> bool
 {
     match text.as_bytes() {

@@ -35,10 +35,10 @@ pub fn push_unread(
     }
 }
 
-// The position of a text's first character.
+/// The position of a text's first character.
 const FIRST: u32 = 1;
 
-// What is marked for a reason: what is at fault, or what stands before it where that is nothing, as at a text's end.
+/// What is marked for a reason: what is at fault, or what stands before it where that is nothing, as at a text's end.
 fn fault_of(why: &Explained) -> Stretch
 {
     if why.at.start == why.at.end {
@@ -48,7 +48,7 @@ fn fault_of(why: &Explained) -> Stretch
     }
 }
 
-// Appends a text of which for the reason so many characters are at fault after so many others.
+/// Appends a text of which for the reason so many characters are at fault after so many others.
 fn push_faulty(
     sheet: &mut Sheet,
     reason: &Reason,
@@ -65,7 +65,7 @@ fn push_faulty(
     Ok(())
 }
 
-// Appends a text of which the first character is at fault, for no known reason.
+/// Appends a text of which the first character is at fault, for no known reason.
 fn push_stuck(sheet: &mut Sheet, text: &str) -> Result<(), AllocError>
 {
     let mut after = text.chars();
@@ -77,7 +77,7 @@ fn push_stuck(sheet: &mut Sheet, text: &str) -> Result<(), AllocError>
     Ok(())
 }
 
-// The first `count` characters of the text, or all where it has fewer, and what follows them.
+/// The first `count` characters of the text, or all where it has fewer, and what follows them.
 fn split_chars(text: &str, count: u32) -> (&str, &str)
 {
     let mut rest = text.chars();

@@ -45,7 +45,7 @@ impl Sheet {
         self.push_marked(class.as_str(), Style::NoPiece.colour(), text)
     }
 
-    // Appends the text in this class or in this colour, but no mark with nothing in it.
+    /// Appends the text in this class or in this colour, but no mark with nothing in it.
     fn push_marked(&mut self, class: &str, colour: &str, text: &str) -> Result<(), AllocError>
     {
         if text.is_empty() {
@@ -57,7 +57,7 @@ impl Sheet {
         }
     }
 
-    // Appends the text in a `<span>` of the class, or bare where the class is empty.
+    /// Appends the text in a `<span>` of the class, or bare where the class is empty.
     fn push_span(&mut self, class: &str, text: &str) -> Result<(), AllocError>
     {
         if class.is_empty() {
@@ -71,7 +71,7 @@ impl Sheet {
         Ok(())
     }
 
-    // Appends the text in the colour, or bare where the colour is empty.
+    /// Appends the text in the colour, or bare where the colour is empty.
     fn push_coloured(&mut self, colour: &str, text: &str) -> Result<(), AllocError>
     {
         if colour.is_empty() {
@@ -84,7 +84,7 @@ impl Sheet {
         self.out.push_str_fallibly("\x1b[0m")
     }
 
-    // Appends the text itself, escaped, with an anchor after each line feed.
+    /// Appends the text itself, escaped, with an anchor after each line feed.
     fn push_escaped(&mut self, text: &str) -> Result<(), AllocError>
     {
         let mut rest = self.push_bare(text)?.chars();
@@ -95,7 +95,7 @@ impl Sheet {
         Ok(())
     }
 
-    // Appends what stands before the first byte that is escaped, all at once, and answers the text from there on.
+    /// Appends what stands before the first byte that is escaped, all at once, and answers the text from there on.
     fn push_bare<'a>(&mut self, text: &'a str) -> Result<&'a str, AllocError>
     {
         let size = bare_size(text.as_bytes());
@@ -103,7 +103,7 @@ impl Sheet {
         Ok(&text[size..])
     }
 
-    // Appends a character.
+    /// Appends a character.
     fn push_character(&mut self, c: char) -> Result<(), AllocError>
     {
         match c {
@@ -116,7 +116,7 @@ impl Sheet {
         }
     }
 
-    // Begins a line, with its anchor. A text with more lines than can be counted has no page in memory.
+    /// Begins a line, with its anchor. A text with more lines than can be counted has no page in memory.
     fn push_line_feed(&mut self) -> Result<(), AllocError>
     {
         let Some(line) = self.line.checked_add(1) else {
@@ -129,7 +129,7 @@ impl Sheet {
     }
 }
 
-// How many bytes stand before the first that is escaped, or before the end.
+/// How many bytes stand before the first that is escaped, or before the end.
 fn bare_size(bytes: &[u8]) -> usize
 {
     let mut size = 0;
@@ -142,7 +142,7 @@ fn bare_size(bytes: &[u8]) -> usize
     size
 }
 
-// Whether the byte isn't appended as it is.
+/// Whether the byte isn't appended as it is.
 fn is_escaped(byte: u8) -> bool
 {
     match byte {

@@ -36,7 +36,7 @@ pub fn is_indented(text: &str, step: Step) -> Result<bool, Failure>
     Ok(indented.as_str() == text)
 }
 
-// The text with its lines indented. No trees are built to learn whether it parses.
+/// The text with its lines indented. No trees are built to learn whether it parses.
 fn indent(text: &str, step: Step) -> Result<String, Failure>
 {
     match explain(text) {
@@ -48,7 +48,7 @@ fn indent(text: &str, step: Step) -> Result<String, Failure>
 }
 }
 
-// The failure of a text that doesn't parse: the line and column of its fault. Only here a map is needed to find them.
+/// The failure of a text that doesn't parse: the line and column of its fault. Only here a map is needed to find them.
 fn fault_of(text: &str) -> Failure
 {
     let mut map = SourceMap::new();
@@ -58,7 +58,7 @@ fn fault_of(text: &str) -> Failure
     }
 }
 
-// The text with its lines indented, if it parses. It fails only where memory runs out.
+/// The text with its lines indented, if it parses. It fails only where memory runs out.
 fn indent_parsed(text: &str, step: Step) -> Result<String, Failure>
 {
     let choices = choices(text, step)?;

@@ -36,7 +36,7 @@ pub fn choices(text: &str, step: Step) -> Result<Vec<White>, AllocError>
     }
 }
 
-// How many groups are open after the piece.
+/// How many groups are open after the piece.
 fn open_after(next: PlacedPiece<'_>, open: usize) -> usize {
     match next.piece.kind {
         PieceKind::Opener(_) => open.saturating_add(1),
@@ -45,7 +45,7 @@ fn open_after(next: PlacedPiece<'_>, open: usize) -> usize {
     }
 }
 
-// Chooses what stands in the place of a run, if there is one, before this text, where so many groups are open.
+/// Chooses what stands in the place of a run, if there is one, before this text, where so many groups are open.
 fn push_choice(
     choices: &mut Vec<White>,
     run: &str,
@@ -66,7 +66,7 @@ fn push_choice(
     Ok(())
 }
 
-// How many closers a line begins with.
+/// How many closers a line begins with.
 fn closers(line: &str) -> usize {
     let mut count: usize = 0;
     for c in line.chars() {
@@ -79,7 +79,7 @@ fn closers(line: &str) -> usize {
     count
 }
 
-// The white space at the front of a line on this level.
+/// The white space at the front of a line on this level.
 fn indentation(level: usize, step: Step) -> White
 {
     match step {

@@ -50,7 +50,7 @@ pub fn options_of(words: &[String]) -> Result<Options, Failure> {
     Ok(Options { step, check, path })
 }
 
-// The number of columns that the word says.
+/// The number of columns that the word says.
 fn width_of(word: &str) -> Result<u8, Failure> {
     match word.parse() {
         Ok(width) => Ok(width),
@@ -58,7 +58,7 @@ fn width_of(word: &str) -> Result<u8, Failure> {
     }
 }
 
-// Whether the word, which is no option, begins like one.
+/// Whether the word, which is no option, begins like one.
 fn is_unknown(word: &str) -> bool {
     word != "-" && word.starts_with('-')
 }

@@ -65,7 +65,7 @@ impl From<AllocError> for Failure {
     }
 }
 
-// Whether memory ran out.
+/// Whether memory ran out.
 fn is_memory(kind: io::ErrorKind) -> bool
 {
     matches!(kind, io::ErrorKind::OutOfMemory)

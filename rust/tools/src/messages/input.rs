@@ -25,7 +25,7 @@ pub fn words(
     }
 }
 
-// Whether arguments weren't had since they are no text.
+/// Whether arguments weren't had since they are no text.
 fn is_no_text(kind: io::ErrorKind) -> bool
 {
     matches!(kind, io::ErrorKind::InvalidData)
@@ -55,7 +55,7 @@ pub fn read_text(rt: &HostRuntime, path: &str) -> Result<String, Failure> {
     }
 }
 
-// All that the reader has left, as a text.
+/// All that the reader has left, as a text.
 fn text_of<R: Read>(mut reader: R) -> Result<String, Failure>
 {
     let mut bytes = Vec::new();
@@ -65,7 +65,7 @@ fn text_of<R: Read>(mut reader: R) -> Result<String, Failure>
     }
 }
 
-// The bytes as a text.
+/// The bytes as a text.
 fn decoded(bytes: Vec<u8>) -> Result<String, Failure>
 {
     match String::from_utf8(bytes) {

@@ -15,7 +15,7 @@ pub fn escaped(text: &str) -> Result<String, AllocError>
     Ok(out)
 }
 
-// Appends a character: a quote, a backslash and the controls are escaped.
+/// Appends a character: a quote, a backslash and the controls are escaped.
 fn push_escaped(out: &mut String, c: char) -> Result<(), AllocError>
 {
     match c {
@@ -27,14 +27,14 @@ fn push_escaped(out: &mut String, c: char) -> Result<(), AllocError>
     }
 }
 
-// Appends what begins the escape of a control, and its last digit.
+/// Appends what begins the escape of a control, and its last digit.
 fn push_control(out: &mut String, front: &str, digit: u8) -> Result<(), AllocError>
 {
     out.push_str_fallibly(front)?;
     out.push_fallibly(hex(digit))
 }
 
-// A digit of a number to the base 16.
+/// A digit of a number to the base 16.
 fn hex(digit: u8) -> char
 {
     if digit < 10 {

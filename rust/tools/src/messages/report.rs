@@ -61,7 +61,7 @@ pub fn say<E: Write>(path: &str, failure: &Failure, errors: &mut E) -> io::Resul
     }
 }
 
-// What is said of a text's fault.
+/// What is said of a text's fault.
 const FAULT: &str = "no token stands here, or a delimiter has no match";
 
 /// Says on `errors` what is wrong at this line and column of the file at this path: `FILE:L:C: error: what`, line and
@@ -85,7 +85,7 @@ pub fn say_of<D: Display, E: Write>(path: &str, what: D, errors: &mut E) -> io::
     writeln!(errors, "{path}: error: {what}")
 }
 
-// Whether nobody reads the pipe any more.
+/// Whether nobody reads the pipe any more.
 fn is_closed(kind: io::ErrorKind) -> bool
 {
     matches!(kind, io::ErrorKind::BrokenPipe)

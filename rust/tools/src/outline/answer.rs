@@ -48,7 +48,7 @@ pub fn lines_of(
     }
 }
 
-// The map of this text alone.
+/// The map of this text alone.
 fn map_of(text: &str) -> Result<SourceMap, Failure>
 {
     let mut map = SourceMap::new();
@@ -59,7 +59,7 @@ fn map_of(text: &str) -> Result<SourceMap, Failure>
     Ok(map)
 }
 
-// The same of a text that has too many bytes or tokens for a buffer: all of its trees are made.
+/// The same of a text that has too many bytes or tokens for a buffer: all of its trees are made.
 fn lines_by_trees(
     form: Form,
     path: &str,
@@ -77,7 +77,7 @@ fn lines_by_trees(
     }
 }
 
-// The lines of these entries of the map's one text.
+/// The lines of these entries of the map's one text.
 fn all_lines(
     form: Form,
     path: &str,
@@ -116,7 +116,7 @@ pub fn entry_line(
 }
 
 impl<'a> Entry<'a> {
-    // It under this name or header, where it begins.
+    /// It under this name or header, where it begins.
     fn shown<'b>(&self, name: &'b str, start: LineColumn) -> Shown<'b>
     {
         Shown {
@@ -129,7 +129,7 @@ impl<'a> Entry<'a> {
     }
 }
 
-// The name as it is written.
+/// The name as it is written.
 fn spelled(name: &Ident) -> Result<String, AllocError>
 {
     let mut out = String::new();
@@ -137,13 +137,13 @@ fn spelled(name: &Ident) -> Result<String, AllocError>
     Ok(out)
 }
 
-// The text from the first tree of the entry's header through the one before the last.
+/// The text from the first tree of the entry's header through the one before the last.
 fn header_of<'a>(entry: &Entry<'_>, map: &'a SourceMap) -> &'a str
 {
     through(first_of(entry.header), last_of(entry.header), map)
 }
 
-// The text from the one span through the other.
+/// The text from the one span through the other.
 fn through(from: Span, to: Span, map: &SourceMap) -> &str
 {
     if !map.holds(from) {
@@ -158,7 +158,7 @@ fn through(from: Span, to: Span, map: &SourceMap) -> &str
     }
 }
 
-// Where the span begins, if the map holds it.
+/// Where the span begins, if the map holds it.
 fn start_of(span: Span, map: &SourceMap) -> LineColumn
 {
     if map.holds(span) {
@@ -169,14 +169,14 @@ fn start_of(span: Span, map: &SourceMap) -> LineColumn
 }
 
 impl Stop {
-    // What is said of it.
+    /// What is said of it.
     fn unlisted(self, map: &SourceMap) -> Unlisted {
         let fault = self.fault;
         let start = self.place(map);
         Unlisted { start, fault }
     }
 
-    // Where the fault stands: at its tree, or after the last one.
+    /// Where the fault stands: at its tree, or after the last one.
     fn place(self, map: &SourceMap) -> LineColumn {
         if let Some(span) = self.fault.span {
             return start_of(span, map);
@@ -188,7 +188,7 @@ impl Stop {
     }
 }
 
-// Where the span ends, if the map holds it.
+/// Where the span ends, if the map holds it.
 fn end_of(span: Span, map: &SourceMap) -> LineColumn {
     if map.holds(span) {
         span.end(map)

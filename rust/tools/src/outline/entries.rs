@@ -73,7 +73,7 @@ pub fn entries<'a>(
     Err(AllocError::met())
 }
 
-// Puts in an entry that is listed.
+/// Puts in an entry that is listed.
 fn push_listed<'a>(entries: &mut Vec<Entry<'a>>, entry: Entry<'a>) -> Result<(), AllocError>
 {
     if is_listed(&entry) {
@@ -91,7 +91,7 @@ pub fn is_listed(entry: &Entry<'_>) -> bool
     }
 }
 
-// The items after the inner attributes.
+/// The items after the inner attributes.
 fn items_of(trees: &[TokenTree]) -> Result<Items<'_>, Stop>
 {
     match split_inner_attributes(trees) {
@@ -100,7 +100,7 @@ fn items_of(trees: &[TokenTree]) -> Result<Items<'_>, Stop>
     }
 }
 
-// The entry of an item that is in so many, and the items in it.
+/// The entry of an item that is in so many, and the items in it.
 fn open_item<'a>(depth: usize, item: &AnyItem<'a>) -> Result<(Entry<'a>, Items<'a>), Stop>
 {
     let entry = match entry_of(depth, item) {
@@ -113,7 +113,7 @@ fn open_item<'a>(depth: usize, item: &AnyItem<'a>) -> Result<(Entry<'a>, Items<'
     }
 }
 
-// The items in an item.
+/// The items in an item.
 fn items_in<'a>(item: &AnyItem<'a>) -> Result<Items<'a>, Stop>
 {
     match item.body() {

@@ -69,7 +69,7 @@ pub fn lines_in(
     Err(AllocError::met())
 }
 
-// Puts in a line, if there is one.
+/// Puts in a line, if there is one.
 fn push_line(lines: &mut Vec<String>, line: Option<String>) -> Result<(), AllocError>
 {
     if let Some(line) = line {
@@ -78,7 +78,7 @@ fn push_line(lines: &mut Vec<String>, line: Option<String>) -> Result<(), AllocE
     Ok(())
 }
 
-// The items after the inner attributes.
+/// The items after the inner attributes.
 fn level_of(whole: Cursor<'_>) -> Result<Result<Level<'_>, Stop>, AllocError>
 {
     let trees = whole.outer_trees()?;
@@ -90,7 +90,7 @@ fn level_of(whole: Cursor<'_>) -> Result<Result<Level<'_>, Stop>, AllocError>
     Ok(Ok(Level { trees, at, rest }))
 }
 
-// The items in the group that comes first.
+/// The items in the group that comes first.
 fn inside_of(body: Cursor<'_>) -> Result<Result<Level<'_>, Stop>, AllocError>
 {
     match body.any_group() {
@@ -99,7 +99,7 @@ fn inside_of(body: Cursor<'_>) -> Result<Result<Level<'_>, Stop>, AllocError>
     }
 }
 
-// What is left after so many trees.
+/// What is left after so many trees.
 fn past(cursor: Cursor<'_>, count: usize) -> Cursor<'_>
 {
     let mut here = cursor;
@@ -112,7 +112,7 @@ fn past(cursor: Cursor<'_>, count: usize) -> Cursor<'_>
     here
 }
 
-// The level after so many of its trees, with the last of which the cursor begins.
+/// The level after so many of its trees, with the last of which the cursor begins.
 fn passed<'a>(level: Level<'a>, count: usize, last: Cursor<'a>) -> Level<'a>
 {
     let rest = past(last, 1);
@@ -123,7 +123,7 @@ fn passed<'a>(level: Level<'a>, count: usize, last: Cursor<'a>) -> Level<'a>
     }
 }
 
-// The first of the items that are left of a level, which are in so many.
+/// The first of the items that are left of a level, which are in so many.
 fn step_of(
     form: Form,
     path: &str,
@@ -149,7 +149,7 @@ fn step_of(
     }))
 }
 
-// The line of an entry of the map's one text, if it is listed.
+/// The line of an entry of the map's one text, if it is listed.
 fn listed_line(
     form: Form,
     path: &str,

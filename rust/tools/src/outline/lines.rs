@@ -40,7 +40,7 @@ pub fn line_of(
     }
 }
 
-// `FILE:L:C: fn name`, the line and the column from 1.
+/// `FILE:L:C: fn name`, the line and the column from 1.
 fn plain(path: &str, shown: Shown<'_>) -> Result<String, AllocError>
 {
     let mut out = String::new();
@@ -53,7 +53,7 @@ fn plain(path: &str, shown: Shown<'_>) -> Result<String, AllocError>
     Ok(out)
 }
 
-// An object of JSON.
+/// An object of JSON.
 fn json(path: &str, shown: Shown<'_>) -> Result<String, AllocError>
 {
     let mut out = String::new();
@@ -72,7 +72,7 @@ fn json(path: &str, shown: Shown<'_>) -> Result<String, AllocError>
     Ok(out)
 }
 
-// A line of a `tags` file.
+/// A line of a `tags` file.
 fn tag(path: &str, shown: Shown<'_>) -> Result<String, AllocError>
 {
     let mut out = String::new();
@@ -83,7 +83,7 @@ fn tag(path: &str, shown: Shown<'_>) -> Result<String, AllocError>
     Ok(out)
 }
 
-// Appends two spaces for each level, of 32 at most.
+/// Appends two spaces for each level, of 32 at most.
 fn push_indent(out: &mut String, depth: usize) -> Result<(), AllocError>
 {
     for _ in 0..depth.min(32) {
@@ -92,7 +92,7 @@ fn push_indent(out: &mut String, depth: usize) -> Result<(), AllocError>
     Ok(())
 }
 
-// Appends what is declared: the word and the name, or the header.
+/// Appends what is declared: the word and the name, or the header.
 fn push_title(out: &mut String, shown: Shown<'_>) -> Result<(), AllocError>
 {
     let name = shown.name;

@@ -40,7 +40,7 @@ pub fn one_line(text: &str) -> Result<String, AllocError>
     Ok(out)
 }
 
-// Appends a character, after a space where a gap is before it, unless it is part of one.
+/// Appends a character, after a space where a gap is before it, unless it is part of one.
 fn push_in_line(out: &mut String, gap: bool, c: char) -> Result<(), AllocError>
 {
     if c <= ' ' {

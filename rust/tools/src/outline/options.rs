@@ -28,7 +28,7 @@ pub struct Options {
     pub paths: Vec<String>,
 }
 
-// What a word says.
+/// What a word says.
 #[derive(Clone, Copy, Debug, PartialEq, Eq)]
 enum Word {
     Json,
@@ -54,7 +54,7 @@ pub fn options_of(words: &[String]) -> Result<Options, Failure>
     Ok(options)
 }
 
-// What the word says.
+/// What the word says.
 fn word_of(word: &str) -> Word
 {
     match word {
@@ -64,7 +64,7 @@ fn word_of(word: &str) -> Word
     }
 }
 
-// The same of a word that is no option that is known.
+/// The same of a word that is no option that is known.
 fn other_word(word: &str) -> Word
 {
     match word.as_bytes() {
@@ -75,7 +75,7 @@ fn other_word(word: &str) -> Word
 }
 
 impl Options {
-    // What is asked for before any word.
+    /// What is asked for before any word.
     fn new() -> Options
     {
         Options {
@@ -84,7 +84,7 @@ impl Options {
         }
     }
 
-    // Takes a word.
+    /// Takes a word.
     fn take(&mut self, known: Word, word: &str) -> Result<(), AllocError>
     {
         match known {
@@ -96,7 +96,7 @@ impl Options {
         Ok(())
     }
 
-    // Standard input is read where no file is named.
+    /// Standard input is read where no file is named.
     fn read_input_at_least(&mut self) -> Result<(), AllocError>
     {
         if self.paths.is_empty() {
@@ -105,7 +105,7 @@ impl Options {
         Ok(())
     }
 
-    // Appends a path.
+    /// Appends a path.
     fn push_path(&mut self, path: &str) -> Result<(), AllocError>
     {
         self.paths.push_fallibly(String::from_str_fallibly(path)?)?;

@@ -40,7 +40,7 @@ pub fn print_text<W: Write>(
     }
 }
 
-// Writes a stream that is well spaced, after such a line.
+/// Writes a stream that is well spaced, after such a line.
 fn print_stream<W: Write>(
     line: &str,
     stream: &TokenStream,
@@ -53,7 +53,7 @@ fn print_stream<W: Write>(
     Ok(())
 }
 
-// The pretty text of a stream that is well spaced. Only memory can fail.
+/// The pretty text of a stream that is well spaced. Only memory can fail.
 fn pretty_text(stream: &TokenStream) -> Result<String, Failure>
 {
     let pretty = match to_pretty_string(stream) {

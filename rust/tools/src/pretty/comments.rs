@@ -23,7 +23,7 @@ pub fn count_comments(text: &str) -> usize
     count
 }
 
-// Whether the piece is a comment that is no doc comment.
+/// Whether the piece is a comment that is no doc comment.
 fn is_comment(next: PlacedPiece<'_>) -> bool
 {
     match next.piece.kind {

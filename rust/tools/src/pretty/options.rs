@@ -34,7 +34,7 @@ pub fn options_of(words: &[String]) -> Result<Options, Failure> {
     Ok(Options { deny, path })
 }
 
-// Whether the word, which is no option, begins like one.
+/// Whether the word, which is no option, begins like one.
 fn is_unknown(word: &str) -> bool {
     word != "-" && word.starts_with('-')
 }

@@ -18,7 +18,7 @@ pub fn split_script(text: &str) -> (&str, &str)
     (before(text, code), code)
 }
 
-// Whether the text begins with such a line.
+/// Whether the text begins with such a line.
 fn is_script(text: &str) -> bool
 {
     match strip(text, "#!") {
@@ -27,7 +27,7 @@ fn is_script(text: &str) -> bool
     }
 }
 
-// What follows this ASCII front of the text.
+/// What follows this ASCII front of the text.
 fn strip<'a>(text: &'a str, front: &str) -> Option<&'a str>
 {
     text.strip_prefix(front)

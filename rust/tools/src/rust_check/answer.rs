@@ -32,8 +32,8 @@ pub fn check_all<W: Write>(
     Ok(faulty || told)
 }
 
-// Writes why the text of the file at this path doesn't parse, and answers whether it has a fault. Nothing is written
-// for a text that parses.
+/// Writes why the text of the file at this path doesn't parse, and answers whether it has a fault. Nothing is written
+/// for a text that parses.
 fn check_text<W: Write>(
     form: Form,
     path: &str,
@@ -54,14 +54,14 @@ fn check_text<W: Write>(
 }
 }
 
-// The fault of the text.
+/// The fault of the text.
 fn fault<'a>(text: &'a str, explained: &Explained) -> Finding<'a>
 {
     let reason = &explained.reason;
     found_at(reason.name(), reason.message(), text, explained.at.span)
 }
 
-// Writes what is said of the fault, and what helps besides.
+/// Writes what is said of the fault, and what helps besides.
 fn write_fault<W: Write>(
     form: Form,
     path: &str,
@@ -75,7 +75,7 @@ fn write_fault<W: Write>(
     write_note(form, path, text, explained, hint, writer)
 }
 
-// Writes what is said below the fault.
+/// Writes what is said below the fault.
 fn write_note<W: Write>(
     form: Form,
     path: &str,
@@ -99,7 +99,7 @@ fn write_note<W: Write>(
     }
 }
 
-// Writes the same in these colours.
+/// Writes the same in these colours.
 fn write_notes<W: Write>(
     colours: Colours,
     path: &str,
@@ -113,7 +113,7 @@ fn write_notes<W: Write>(
     write_hint(colours, path, text, hint, writer)
 }
 
-// Writes of a closer that doesn't match where the opener stands that waits for another.
+/// Writes of a closer that doesn't match where the opener stands that waits for another.
 fn write_waiting<W: Write>(
     colours: Colours,
     path: &str,
@@ -135,7 +135,7 @@ fn write_waiting<W: Write>(
     }
 }
 
-// Writes what helps besides.
+/// Writes what helps besides.
 fn write_hint<W: Write>(
     colours: Colours,
     path: &str,
@@ -160,7 +160,7 @@ fn write_hint<W: Write>(
     }
 }
 
-// Writes how many comments are open, and which ended last.
+/// Writes how many comments are open, and which ended last.
 fn write_comments<W: Write>(
     colours: Colours,
     path: &str,
@@ -174,7 +174,7 @@ fn write_comments<W: Write>(
     write_closed(colours, path, text, closed, writer)
 }
 
-// Writes how many comments are open, if that is more than one.
+/// Writes how many comments are open, if that is more than one.
 fn write_depth<W: Write>(colours: Colours, depth: usize, writer: &mut W) -> io::Result<()>
 {
     if depth <= 1 {
@@ -187,7 +187,7 @@ fn write_depth<W: Write>(colours: Colours, depth: usize, writer: &mut W) -> io::
     )
 }
 
-// Writes which comment ended last, if one did.
+/// Writes which comment ended last, if one did.
 fn write_closed<W: Write>(
     colours: Colours,
     path: &str,
@@ -209,7 +209,7 @@ fn write_closed<W: Write>(
     }
 }
 
-// Writes what stands at this place.
+/// Writes what stands at this place.
 fn write_place<W: Write>(
     colours: Colours,
     path: &str,
@@ -225,7 +225,7 @@ fn write_place<W: Write>(
     write_excerpt(colours, path, &place, writer)
 }
 
-// What is found where the span says.
+/// What is found where the span says.
 fn found_at<'a>(name: &'static str, says: &'static str, text: &'a str, span: Span) -> Finding<'a>
 {
     let (lo, hi) = bounds(span);
@@ -247,5 +247,5 @@ fn found_at<'a>(name: &'static str, says: &'static str, text: &'a str, span: Spa
     }
 }
 
-// The position of the text's first character.
+/// The position of the text's first character.
 const FIRST: u32 = 1;

@@ -61,7 +61,7 @@ pub fn tell_line_ends<W: Write>(
     Ok(())
 }
 
-// Writes a line for the character at this place, if it is odd before what follows it.
+/// Writes a line for the character at this place, if it is odd before what follows it.
 fn tell_end<W: Write>(
     form: Form,
     path: &str,
@@ -100,7 +100,7 @@ pub fn odd<'a>(name: &'static str, says: &'static str, here: &'a str, place: Pla
     }
 }
 
-// Whether the text begins with a line feed.
+/// Whether the text begins with a line feed.
 fn begins_feed(text: &str) -> bool
 {
     match text.chars().next() {
@@ -110,7 +110,7 @@ fn begins_feed(text: &str) -> bool
 }
 
 impl LineEnds {
-    // What is known after the character.
+    /// What is known after the character.
     fn after(self, c: char) -> LineEnds
     {
         LineEnds {
@@ -119,7 +119,7 @@ impl LineEnds {
         }
     }
 
-    // How lines end, the one that ends at this line feed too.
+    /// How lines end, the one that ends at this line feed too.
     fn joined(self) -> Style
     {
         match self.style {
@@ -129,7 +129,7 @@ impl LineEnds {
         }
     }
 
-    // Whether a line feed here ends its line unlike those before it, which are alike.
+    /// Whether a line feed here ends its line unlike those before it, which are alike.
     fn is_other(self) -> bool
     {
         match self.style {

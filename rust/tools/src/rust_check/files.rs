@@ -29,7 +29,7 @@ pub fn check_files<W: Write, E: Write>(
     Ok(tally)
 }
 
-// Checks the file at this path, and answers whether its text has a fault.
+/// Checks the file at this path, and answers whether its text has a fault.
 fn check_file<W: Write>(
     rt: &HostRuntime,
     options: &Options,
@@ -47,7 +47,7 @@ fn check_file<W: Write>(
     )
 }
 
-// The outcome again, where it isn't that a write failed.
+/// The outcome again, where it isn't that a write failed.
 fn unless_writing_failed(outcome: Result<bool, Failure>) -> Result<Result<bool, Failure>, Failure>
 {
     match outcome {
@@ -56,7 +56,7 @@ fn unless_writing_failed(outcome: Result<bool, Failure>) -> Result<Result<bool, 
     }
 }
 
-// Says why the file at this path wasn't read. A message that can't be written changes nothing.
+/// Says why the file at this path wasn't read. A message that can't be written changes nothing.
 fn say_unread<E: Write>(
     path: &str,
     outcome: &Result<bool, Failure>,

@@ -30,7 +30,7 @@ pub fn hides_as(c: char) -> Option<Hidden>
     }
 }
 
-// The same of a character of ASCII: each control but tab, line feed and CR.
+/// The same of a character of ASCII: each control but tab, line feed and CR.
 fn ascii_hides_as(c: char) -> Option<Hidden>
 {
     match c {
@@ -40,7 +40,7 @@ fn ascii_hides_as(c: char) -> Option<Hidden>
     }
 }
 
-// The same of a character past ASCII. What selects a variant of the character before it shows on that.
+/// The same of a character past ASCII. What selects a variant of the character before it shows on that.
 fn other_hides_as(c: char) -> Option<Hidden>
 {
     if is_bidi_control(c) {

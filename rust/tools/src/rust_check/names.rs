@@ -29,13 +29,13 @@ pub fn is_mixed(name: &str) -> bool
 }
 
 impl Writing {
-    // Whether the scripts are not written together.
+    /// Whether the scripts are not written together.
     fn are_apart(self) -> bool
     {
         matches!(self, Writing::Mixed)
     }
 
-    // With a character more, of this script.
+    /// With a character more, of this script.
     fn with(self, script: Script) -> Writing
     {
         if is_same(script, Script::Common)
@@ -81,13 +81,13 @@ impl Writing {
     }
 }
 
-// Whether Han is written with it: with Hangul and Bopomofo.
+/// Whether Han is written with it: with Hangul and Bopomofo.
 fn is_with_han(script: Script) -> bool
 {
     is_same(script, Script::Hangul) || is_same(script, Script::Bopomofo)
 }
 
-// Whether the two are one script.
+/// Whether the two are one script.
 fn is_same(a: Script, b: Script) -> bool
 {
     a.number() == b.number()

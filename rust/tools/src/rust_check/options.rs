@@ -44,7 +44,7 @@ pub enum Request {
     Version,
 }
 
-// What a word says.
+/// What a word says.
 #[derive(Clone, Copy, Debug, PartialEq, Eq)]
 enum Word {
     Short,
@@ -75,7 +75,7 @@ pub fn request_of(words: &[String]) -> Result<Request, Failure>
     Ok(Request::Check(options))
 }
 
-// What the word says.
+/// What the word says.
 fn word_of(word: &str) -> Word
 {
     match word {
@@ -90,7 +90,7 @@ fn word_of(word: &str) -> Word
     }
 }
 
-// The same of a word that is no option that is known.
+/// The same of a word that is no option that is known.
 fn other_word(word: &str) -> Word
 {
     match word.as_bytes() {
@@ -101,7 +101,7 @@ fn other_word(word: &str) -> Word
 }
 
 impl Options {
-    // What is asked for before any word.
+    /// What is asked for before any word.
     fn new() -> Options
     {
         Options {
@@ -112,7 +112,7 @@ impl Options {
         }
     }
 
-    // Takes a word.
+    /// Takes a word.
     fn take(&mut self, known: Word, word: &str) -> Result<(), AllocError>
     {
         match known {
@@ -126,7 +126,7 @@ impl Options {
         Ok(())
     }
 
-    // Standard input is read where no file is named.
+    /// Standard input is read where no file is named.
     fn read_input_at_least(&mut self) -> Result<(), AllocError>
     {
         if self.paths.is_empty() {
@@ -135,7 +135,7 @@ impl Options {
         Ok(())
     }
 
-    // Appends a path.
+    /// Appends a path.
     fn push_path(&mut self, path: &str) -> Result<(), AllocError>
     {
         self.paths.push_fallibly(String::from_str_fallibly(path)?)?;

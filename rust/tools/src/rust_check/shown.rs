@@ -37,7 +37,7 @@ pub fn spaces(count: usize) -> Result<String, AllocError>
     Ok(out)
 }
 
-// Appends a text as it is shown.
+/// Appends a text as it is shown.
 fn push_shown(out: &mut String, text: &str) -> Result<(), AllocError>
 {
     for c in text.chars() {
@@ -46,7 +46,7 @@ fn push_shown(out: &mut String, text: &str) -> Result<(), AllocError>
     Ok(())
 }
 
-// Appends a character as it is shown.
+/// Appends a character as it is shown.
 fn push_character(out: &mut String, c: char) -> Result<(), AllocError>
 {
     match c {
@@ -57,7 +57,7 @@ fn push_character(out: &mut String, c: char) -> Result<(), AllocError>
     }
 }
 
-// Appends this for each column of the text.
+/// Appends this for each column of the text.
 fn push_filled(out: &mut String, fill: &str, text: &str) -> Result<(), AllocError>
 {
     for c in text.chars() {
@@ -66,7 +66,7 @@ fn push_filled(out: &mut String, fill: &str, text: &str) -> Result<(), AllocErro
     Ok(())
 }
 
-// Appends a text so many times.
+/// Appends a text so many times.
 fn push_times(out: &mut String, count: usize, text: &str) -> Result<(), AllocError>
 {
     for _ in 0..count {
@@ -75,7 +75,7 @@ fn push_times(out: &mut String, count: usize, text: &str) -> Result<(), AllocErr
     Ok(())
 }
 
-// The columns that a character takes as it is shown.
+/// The columns that a character takes as it is shown.
 fn columns(c: char) -> usize
 {
     match c {

@@ -33,7 +33,7 @@ pub fn is_balanced(text: &str) -> Result<bool, AllocError>
     Ok(opened.as_slice().is_empty())
 }
 
-// Takes a character, and answers whether it closes nothing that isn't open, the innermost last.
+/// Takes a character, and answers whether it closes nothing that isn't open, the innermost last.
 fn take(opened: &mut Vec<bool>, c: char) -> Result<bool, AllocError>
 {
     match turn_of(c) {
@@ -49,13 +49,13 @@ fn take(opened: &mut Vec<bool>, c: char) -> Result<bool, AllocError>
     }
 }
 
-// Whether both are apart, or neither.
+/// Whether both are apart, or neither.
 fn is_same(a: bool, b: bool) -> bool
 {
     if a { b } else { !b }
 }
 
-// What the character does to its line's direction.
+/// What the character does to its line's direction.
 fn turn_of(c: char) -> Turn
 {
     match c {

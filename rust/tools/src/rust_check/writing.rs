@@ -42,8 +42,8 @@ pub fn write_line<W: Write>(
     }
 }
 
-// Writes what is found in the file at this path in one line: `FILE:L:C: error: what`, line and column from 1, the
-// column in characters.
+/// Writes what is found in the file at this path in one line: `FILE:L:C: error: what`, line and column from 1, the
+/// column in characters.
 fn write_short<W: Write>(path: &str, finding: &Finding<'_>, writer: &mut W) -> io::Result<()>
 {
     let line = finding.place.line;
@@ -53,7 +53,7 @@ fn write_short<W: Write>(path: &str, finding: &Finding<'_>, writer: &mut W) -> i
     writeln!(writer, "{path}:{line}:{column}: error: {says}")
 }
 
-// Writes what is found in the file at this path, with its line of the source and carets below.
+/// Writes what is found in the file at this path, with its line of the source and carets below.
 fn write_long<W: Write>(
     colours: Colours,
     path: &str,
@@ -65,7 +65,7 @@ fn write_long<W: Write>(
     write_excerpt(colours, path, finding, writer)
 }
 
-// Writes what is wrong.
+/// Writes what is wrong.
 fn write_headline<W: Write>(
     colours: Colours,
     finding: &Finding<'_>,
@@ -110,7 +110,7 @@ pub fn write_excerpt<W: Write>(
     )
 }
 
-// Writes what is found in the file at this path as an object of JSON on a line.
+/// Writes what is found in the file at this path as an object of JSON on a line.
 fn write_json<W: Write>(
     path: &str,
     finding: &Finding<'_>,
@@ -121,7 +121,7 @@ fn write_json<W: Write>(
     write_json_where(finding, writer)
 }
 
-// Writes the front of an object of JSON: the file and what is wrong.
+/// Writes the front of an object of JSON: the file and what is wrong.
 fn write_json_what<W: Write>(
     path: &str,
     finding: &Finding<'_>,
@@ -137,7 +137,7 @@ fn write_json_what<W: Write>(
     )
 }
 
-// Writes its rest: where it stands.
+/// Writes its rest: where it stands.
 fn write_json_where<W: Write>(finding: &Finding<'_>, writer: &mut W) -> io::Result<()>
 {
     let Place {

@@ -40,7 +40,7 @@ pub fn compare<W: Write>(
     }
 }
 
-// Writes both places, the lines and the columns from 1.
+/// Writes both places, the lines and the columns from 1.
 fn write_places<W: Write>(
     path: &str,
     at: LineColumn,

@@ -28,7 +28,7 @@ pub fn difference<'a>(
     }
 }
 
-// Whether the other is the same word.
+/// Whether the other is the same word.
 fn is_same(one: Said<'_>, other: Option<Said<'_>>) -> Result<bool, AllocError>
 {
     match other {
@@ -37,7 +37,7 @@ fn is_same(one: Said<'_>, other: Option<Said<'_>>) -> Result<bool, AllocError>
     }
 }
 
-// Whether both are the same word.
+/// Whether both are the same word.
 fn is_alike(one: Said<'_>, other: Said<'_>) -> Result<bool, AllocError>
 {
     Ok(match (one, other) {
@@ -56,7 +56,7 @@ fn is_alike(one: Said<'_>, other: Said<'_>) -> Result<bool, AllocError>
     })
 }
 
-// Whether the literal is the string literal of the text.
+/// Whether the literal is the string literal of the text.
 fn is_string_of(text: &str, literal: &str) -> Result<bool, AllocError>
 {
     let mut string = TextBuilder::with_room(0)?;

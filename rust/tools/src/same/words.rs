@@ -47,7 +47,7 @@ impl<'a> Words<'a> {
         }
     }
 
-    // The first word of the piece, if it has one.
+    /// The first word of the piece, if it has one.
     fn begin(&mut self, next: PlacedPiece<'a>) -> Option<Said<'a>>
     {
         match next.piece.kind {
@@ -74,7 +74,7 @@ impl<'a> Words<'a> {
         }
     }
 
-    // The token of this step of the doc comment.
+    /// The token of this step of the doc comment.
     fn take_step(&mut self, step: DocStep) -> Said<'a>
     {
         self.step = after(step);
@@ -89,7 +89,7 @@ impl<'a> Words<'a> {
         }
     }
 
-    // What the doc comment says.
+    /// What the doc comment says.
     fn doc_text(&self) -> &'a str
     {
         self.doc

@@ -18,7 +18,7 @@ pub fn words(arguments: io::Result<Args>) -> Result<Vec<String>, AllocError>
     }
 }
 
-// Whether arguments weren't had since they are no text.
+/// Whether arguments weren't had since they are no text.
 fn is_no_text(kind: io::ErrorKind) -> bool
 {
     matches!(kind, io::ErrorKind::InvalidData)

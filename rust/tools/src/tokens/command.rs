@@ -45,14 +45,14 @@ pub fn answer<R: ByteSource, W: ByteSink, E: ByteSink>(
     }
 }
 
-// Says on `errors` why a run was refused, and answers the program's status after it.
+/// Says on `errors` why a run was refused, and answers the program's status after it.
 fn conclude<E: ByteSink>(answer: Result<(), RunError>, errors: &mut E) -> u8
 {
     say(errors, &answer);
     status(&answer)
 }
 
-// The mode that the words ask for: the one that the only word names.
+/// The mode that the words ask for: the one that the only word names.
 fn mode_of(words: &[String]) -> Option<OutputMode>
 {
     match words {
@@ -61,7 +61,7 @@ fn mode_of(words: &[String]) -> Option<OutputMode>
     }
 }
 
-// The mode that a word names.
+/// The mode that a word names.
 fn mode_named(word: &str) -> Option<OutputMode>
 {
     match word {
@@ -71,7 +71,7 @@ fn mode_named(word: &str) -> Option<OutputMode>
     }
 }
 
-// The program's status after a run.
+/// The program's status after a run.
 fn status(answer: &Result<(), RunError>) -> u8
 {
     match answer {

@@ -31,7 +31,7 @@ pub fn run<R: ByteSource, W: ByteSink>(
     write_output(writer, &output)
 }
 
-// What is written for the input.
+/// What is written for the input.
 fn output_of(mode: OutputMode, input: Vec<u8>) -> Result<RunOutput, RunError>
 
     // That a growth was refused can't be stated, only which inputs may come so far.
@@ -49,7 +49,7 @@ fn output_of(mode: OutputMode, input: Vec<u8>) -> Result<RunOutput, RunError>
 }
 }
 
-// What is written for the text.
+/// What is written for the text.
 fn output_of_text(mode: OutputMode, text: &str) -> Result<RunOutput, ParseError>
 {
     match mode {
@@ -58,8 +58,8 @@ fn output_of_text(mode: OutputMode, text: &str) -> Result<RunOutput, ParseError>
     }
 }
 
-// Why the run is refused of a text that doesn't parse: for its fault, whose line and column are asked of a map, or
-// where the text doesn't fit the map, or memory runs out.
+/// Why the run is refused of a text that doesn't parse: for its fault, whose line and column are asked of a map, or
+/// where the text doesn't fit the map, or memory runs out.
 fn refusal_of(text: &str) -> RunError
 {
     let mut map = SourceMap::new();
@@ -69,7 +69,7 @@ fn refusal_of(text: &str) -> RunError
     }
 }
 
-// Why a run is refused whose text wasn't parsed into the map.
+/// Why a run is refused whose text wasn't parsed into the map.
 fn refusal(error: ParseError, map: &SourceMap) -> RunError
 {
     match error {
@@ -80,7 +80,7 @@ fn refusal(error: ParseError, map: &SourceMap) -> RunError
 }
 }
 
-// The printed text and a line feed.
+/// The printed text and a line feed.
 fn printed(text: &str) -> Result<RunOutput, ParseError>
 {
     let mut printed = reprint(text)?;
@@ -88,7 +88,7 @@ fn printed(text: &str) -> Result<RunOutput, ParseError>
     Ok(RunOutput::Text(printed))
 }
 
-// A line for each tree.
+/// A line for each tree.
 fn placed(text: &str) -> Result<RunOutput, ParseError>
 {
     Ok(RunOutput::Trees(place_trees(text)?))

@@ -28,7 +28,7 @@ pub fn say<E: ByteSink>(errors: &mut E, answer: &Result<(), RunError>)
     };
 }
 
-// Says where a fault stands.
+/// Says where a fault stands.
 fn say_fault<E: ByteSink>(errors: &mut E, start: LineColumn) -> Result<(), RunError>
 {
     write_all(errors, b"fault ")?;
@@ -38,7 +38,7 @@ fn say_fault<E: ByteSink>(errors: &mut E, start: LineColumn) -> Result<(), RunEr
     write_all(errors, b"\n")
 }
 
-// Says a number in decimal digits.
+/// Says a number in decimal digits.
 fn say_number<E: ByteSink>(errors: &mut E, number: usize) -> Result<(), RunError>
 {
     let mut buffer = Buffer::new();

@@ -32,8 +32,8 @@ pub fn read_to_end<R: ByteSource>(reader: &mut R) -> Result<Vec<u8>, RunError>
     }
 }
 
-// Makes room for a block after the bytes that are filled, by zeros. What the list has room for past
-// the block stays untouched, so that no memory is taken for it.
+/// Makes room for a block after the bytes that are filled, by zeros. What the list has room for past
+/// the block stays untouched, so that no memory is taken for it.
 fn make_room(bytes: &mut Vec<u8>, filled: usize) -> Result<(), AllocError>
 {
     if bytes.len() - filled < BLOCK {
@@ -43,7 +43,7 @@ fn make_room(bytes: &mut Vec<u8>, filled: usize) -> Result<(), AllocError>
     Ok(())
 }
 
-// One read, into the part of the buffer after the bytes that are filled.
+/// One read, into the part of the buffer after the bytes that are filled.
 fn read_at<R: ByteSource>(reader: &mut R, buffer: &mut [u8], filled: usize) -> io::Result<usize>
 {
     reader.read(&mut buffer[filled..])

@@ -7,10 +7,10 @@ use crate::tokens::writing::write_all;
 use proved_tokens::shim::itoa::write_digits;
 use proved_tokens::proc_macro2::{Place, PlacedTree, TreeKind};
 
-// How many lines are written at once, at most.
+/// How many lines are written at once, at most.
 const LINES: usize = 512;
 
-// No line has more bytes: four numbers of at most ten digits, and some twelve more.
+/// No line has more bytes: four numbers of at most ten digits, and some twelve more.
 const LONGEST_LINE: usize = 64;
 
 /// Writes a line for each of the trees.
@@ -32,7 +32,7 @@ pub fn write_lines<W: ByteSink>(writer: &mut W, trees: &[PlacedTree]) -> Result<
     Ok(())
 }
 
-// Puts the lines of the trees at the end of the buffer, the last of them first, and answers where they begin.
+/// Puts the lines of the trees at the end of the buffer, the last of them first, and answers where they begin.
 fn put_lines(buffer: &mut [u8], trees: &[PlacedTree]) -> usize
 {
     let mut start = buffer.len();
@@ -44,7 +44,7 @@ fn put_lines(buffer: &mut [u8], trees: &[PlacedTree]) -> usize
     start
 }
 
-// Puts the line of a tree before `end`, and answers where it begins.
+/// Puts the line of a tree before `end`, and answers where it begins.
 fn put_line(buffer: &mut [u8], end: usize, tree: PlacedTree) -> usize
 {
     let end = put(buffer, end, line_end(tree.kind));
@@ -53,7 +53,7 @@ fn put_line(buffer: &mut [u8], end: usize, tree: PlacedTree) -> usize
     put_place(buffer, end, tree.start)
 }
 
-// Puts a line and a column, as `1:0`, before `end`, and answers where they begin.
+/// Puts a line and a column, as `1:0`, before `end`, and answers where they begin.
 fn put_place(buffer: &mut [u8], end: usize, place: Place) -> usize
 {
     let end = put_number(buffer, end, place.column);
@@ -61,13 +61,13 @@ fn put_place(buffer: &mut [u8], end: usize, place: Place) -> usize
     put_number(buffer, end, place.line)
 }
 
-// Puts a number in decimal digits before `end`, and answers where it begins.
+/// Puts a number in decimal digits before `end`, and answers where it begins.
 fn put_number(buffer: &mut [u8], end: usize, number: u32) -> usize
 {
     write_digits(number as u64, buffer, end)
 }
 
-// Puts a text before `end`, and answers where it begins.
+/// Puts a text before `end`, and answers where it begins.
 fn put(buffer: &mut [u8], end: usize, text: &str) -> usize
 {
     let start = end - text.len();
@@ -75,7 +75,7 @@ fn put(buffer: &mut [u8], end: usize, text: &str) -> usize
     start
 }
 
-// A space, the word for a kind, and the line's end.
+/// A space, the word for a kind, and the line's end.
 fn line_end(kind: TreeKind) -> &'static str
 {
     match kind {

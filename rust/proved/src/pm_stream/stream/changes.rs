@@ -80,7 +80,7 @@ impl TokenStream {
     }
 }
 
-// Puts the tree after those of a list, which is copied first where it is shared.
+/// Puts the tree after those of a list, which is copied first where it is shared.
 #[cfg_attr(not(debug_assertions), inline(always))]
 fn push(
     trees: &mut Option<Rc<Vec<TokenTree>>>,
@@ -94,7 +94,7 @@ fn push(
     }
 }
 
-// Puts both trees of a negative literal after those of a list, or none.
+/// Puts both trees of a negative literal after those of a list, or none.
 #[inline(never)]
 fn push_negative(
     trees: &mut Option<Rc<Vec<TokenTree>>>,
@@ -109,7 +109,7 @@ fn push_negative(
     }
 }
 
-// Makes a list with no trees, where there is no list.
+/// Makes a list with no trees, where there is no list.
 #[cfg_attr(not(debug_assertions), inline(always))]
 fn make_list(trees: &mut Option<Rc<Vec<TokenTree>>>) -> Result<(), AllocError>
 {
@@ -119,14 +119,14 @@ fn make_list(trees: &mut Option<Rc<Vec<TokenTree>>>) -> Result<(), AllocError>
     Ok(())
 }
 
-// A list with no trees.
+/// A list with no trees.
 #[inline(never)]
 fn first_list() -> Result<Rc<Vec<TokenTree>>, AllocError>
 {
     Ok(Rc::new(Vec::with_capacity_fallibly(FIRST_ROOM)?)?)
 }
 
-// Puts the tree after the others.
+/// Puts the tree after the others.
 #[cfg_attr(not(debug_assertions), inline(always))]
 fn push_onto(trees: &mut Vec<TokenTree>, tree: TokenTree) -> Result<(), AllocError>
 {
@@ -134,7 +134,7 @@ fn push_onto(trees: &mut Vec<TokenTree>, tree: TokenTree) -> Result<(), AllocErr
     Ok(())
 }
 
-// Puts both trees after the others, or none: room for both is there before the first is put in.
+/// Puts both trees after the others, or none: room for both is there before the first is put in.
 fn push_two(trees: &mut Vec<TokenTree>, minus: Punct, literal: Literal) -> Result<(), AllocError>
 {
     trees.reserve_fallibly(2)?;
@@ -143,7 +143,7 @@ fn push_two(trees: &mut Vec<TokenTree>, minus: Punct, literal: Literal) -> Resul
     Ok(())
 }
 
-// Puts the trees of one list after those of the other. They are moved where no stream shares them.
+/// Puts the trees of one list after those of the other. They are moved where no stream shares them.
 fn append_shared(
     trees: &mut Option<Rc<Vec<TokenTree>>>,
     more: Rc<Vec<TokenTree>>,
@@ -157,7 +157,7 @@ fn append_shared(
     Ok(())
 }
 
-// Puts these trees after the others, all of them or none.
+/// Puts these trees after the others, all of them or none.
 fn push_all(trees: &mut Vec<TokenTree>, mut more: Vec<TokenTree>) -> Result<(), AllocError>
 {
     trees.append_fallibly(&mut more)?;

@@ -15,7 +15,7 @@ impl TokenStream {
     }
 }
 
-// The trees that a stream holds: the list itself where this was its last owner, and else a copy.
+/// The trees that a stream holds: the list itself where this was its last owner, and else a copy.
 fn owned(trees: Option<Rc<Vec<TokenTree>>>) -> Result<Vec<TokenTree>, AllocError>
 {
     match trees {

@@ -63,8 +63,8 @@ enum State {
     Number(u32),
 }
 
-// The text of a column; `None` where an escape is none of `\n`, `\r`, `\t`, `\\` and `\u{..}`, or
-// isn't closed. `a\tb\u{e9}` is `a`, a tab, `b` and U+00E9.
+/// The text of a column; `None` where an escape is none of `\n`, `\r`, `\t`, `\\` and `\u{..}`, or
+/// isn't closed. `a\tb\u{e9}` is `a`, a tab, `b` and U+00E9.
 fn unescaped(column: &str) -> Result<Option<String>, AllocError> {
     let mut text = String::new();
     let mut state = State::Plain;
@@ -83,7 +83,7 @@ fn unescaped(column: &str) -> Result<Option<String>, AllocError> {
     })
 }
 
-// The state after a character, and the character that is read with it; `None` at a wrong escape.
+/// The state after a character, and the character that is read with it; `None` at a wrong escape.
 fn step(state: State, c: char) -> Option<(State, Option<char>)> {
     match (state, c) {
         (State::Plain, '\\') => Some((State::Backslash, None)),

@@ -39,7 +39,7 @@ pub fn content_answer<'a>(
     Ok(Some(Answer { kind: call, said }))
 }
 
-// The kind of literal that a word names.
+/// The kind of literal that a word names.
 fn mode(name: &str) -> Option<Mode> {
     match name {
         "Char" => Some(Mode::Char),
@@ -54,7 +54,7 @@ fn mode(name: &str) -> Option<Mode> {
     }
 }
 
-// All items that an iterator of the escaper gives.
+/// All items that an iterator of the escaper gives.
 fn items<U: Unit, I: Iterator<Item = (Range<usize>, Result<U, EscapeError>)>>(
     items: I,
 ) -> Result<String, AllocError>
@@ -67,7 +67,7 @@ fn items<U: Unit, I: Iterator<Item = (Range<usize>, Result<U, EscapeError>)>>(
     Ok(said)
 }
 
-// All errors of a content of this kind, by the range of each.
+/// All errors of a content of this kind, by the range of each.
 fn errors(content: &str, mode: Mode) -> Result<String, AllocError> {
     let mut said = String::new();
     for (range, error) in check_for_errors(content, mode) {
@@ -76,7 +76,7 @@ fn errors(content: &str, mode: Mode) -> Result<String, AllocError> {
     Ok(said)
 }
 
-// A unit, or the name of what is wrong.
+/// A unit, or the name of what is wrong.
 fn unit_text<U: Unit>(unit: Result<U, EscapeError>) -> Result<String, AllocError> {
     match unit {
         Ok(unit) => unit.text(),

@@ -24,7 +24,7 @@ pub fn leaf(line: &str) -> Result<Option<TokenTree>, ParseError> {
     })
 }
 
-// The identifier, unless the name has a fault.
+/// The identifier, unless the name has a fault.
 fn identifier(ident: Result<Ident, IdentError>) -> Result<Option<TokenTree>, AllocError> {
     match ident {
         Ok(ident) => Ok(Some(TokenTree::Ident(ident))),
@@ -33,7 +33,7 @@ fn identifier(ident: Result<Ident, IdentError>) -> Result<Option<TokenTree>, All
     }
 }
 
-// The mark that is the only character of the text.
+/// The mark that is the only character of the text.
 fn mark(text: &str, spacing: Spacing) -> Option<TokenTree> {
     let mut chars = text.chars();
     let (Some(mark), None) = (chars.next(), chars.next()) else {
@@ -45,7 +45,7 @@ fn mark(text: &str, spacing: Spacing) -> Option<TokenTree> {
     Some(TokenTree::Punct(Punct::new(mark, spacing)))
 }
 
-// The literal that the text is.
+/// The literal that the text is.
 fn literal(text: &str) -> Result<Option<TokenTree>, ParseError> {
     match Literal::from_str(text, &mut SourceMap::new()) {
         Ok(literal) => Ok(Some(TokenTree::Literal(literal))),
@@ -54,7 +54,7 @@ fn literal(text: &str) -> Result<Option<TokenTree>, ParseError> {
     }
 }
 
-// What the constructor of the suffix makes of the number before it.
+/// What the constructor of the suffix makes of the number before it.
 fn integer(text: &str) -> Result<Option<TokenTree>, AllocError> {
     let (number, suffix) = match text.find('i') {
         Some(at) => text.split_at(at),

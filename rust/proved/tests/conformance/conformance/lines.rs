@@ -47,8 +47,8 @@ pub fn compare_lines<R: BufRead, W: Write>(
     Ok(tally)
 }
 
-// What is reported of a line that wants another answer than the library's, or that is no recorded
-// answer; `None` where the two answers are the same.
+/// What is reported of a line that wants another answer than the library's, or that is no recorded
+/// answer; `None` where the two answers are the same.
 fn difference(line: &str) -> Result<Option<String>, AllocError>
 {
     let Some(recorded) = read_line(line)? else {

@@ -105,7 +105,7 @@ fn what_is_left_is_a_stream() -> Result<(), Fail> {
     Ok(())
 }
 
-// A text, and what is printed of the trees after its first.
+/// A text, and what is printed of the trees after its first.
 const PRINTED: [(&str, &str); 8] = [
     ("a+=(b)", "+= (b)"),
     ("a {x}{}", "{ x } { }"),
@@ -156,7 +156,7 @@ fn a_long_list_is_printed_without_an_error() -> Result<(), Fail> {
     Ok(())
 }
 
-// Two texts, and whether their trees are the same but for spans.
+/// Two texts, and whether their trees are the same but for spans.
 const COMPARED: [(&str, &str, bool); 18] = [
     ("a", "  a", true),
     ("", "", true),
@@ -203,7 +203,7 @@ fn cursors_are_equal_up_to_spans() -> Result<(), Fail> {
     Ok(())
 }
 
-// A text that begins with generic arguments, and what is printed of the trees after them, or `none` where it doesn't.
+/// A text that begins with generic arguments, and what is printed of the trees after them, or `none` where it doesn't.
 const TURBOFISHES: [(&str, &str); 7] = [
     ("::<Vec<T>>(x)", "(x)"),
     ("::<fn() -> T, 'a> = 1", "= 1"),

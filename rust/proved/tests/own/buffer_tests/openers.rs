@@ -7,14 +7,14 @@ use proved_tokens::explain::{ExplainError, Explained, explain};
 use crate::shim::alloc::AllocError;
 use crate::shim::process::Abort;
 
-// Asserts that the text doesn't parse, and that these bytes are the openers that no closer matches up to its fault, the
-// innermost last.
+/// Asserts that the text doesn't parse, and that these bytes are the openers that no closer matches before the error,
+/// the innermost last.
 fn check(rt: &(impl Abort + AllocGlobal), text: &str, want: &str) {
     let found = openers(text).expect(text);
     assert_eq!(found.as_str(), want, "of {text:?}");
 }
 
-// The bytes of the openers of the text.
+/// The bytes of the openers of the text.
 fn openers(text: &str) -> Result<String, ExplainError> {
     match explain(text)? {
         Some(explained) => Ok(shown(&explained)?),
@@ -22,7 +22,7 @@ fn openers(text: &str) -> Result<String, ExplainError> {
     }
 }
 
-// The bytes of the openers that are told, the innermost last.
+/// The bytes of the openers that are told, the innermost last.
 fn shown(explained: &Explained) -> Result<String, AllocError> {
     let mut shown = String::from_str_fallibly("")?;
     for opener in explained.outer.iter() {

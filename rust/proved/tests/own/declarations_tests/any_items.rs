@@ -15,7 +15,7 @@ fn is_named(name: Option<&Ident>, wanted: &str) -> bool {
     }
 }
 
-// How many trees the item at the front has, its kind, and its name if it has one.
+/// How many trees the item at the front has, its kind, and its name if it has one.
 fn check(
     rt: &(impl Abort + AllocGlobal),
     rows: &[(&str, usize, ItemKind, &str)],

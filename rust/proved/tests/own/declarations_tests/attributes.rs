@@ -26,7 +26,7 @@ fn shown(args: AttributeArgs<'_>) -> Args {
     }
 }
 
-// The attributes of each text: how many trees the path has, what follows it, whether it is inner and a doc comment.
+/// The attributes of each text: how many trees the path has, what follows it, whether it is inner and a doc comment.
 fn check(
     rt: &(impl Abort + AllocGlobal),
     text: &str,

@@ -8,7 +8,7 @@ use proved_tokens::proc_macro2::{SourceMap, Span, TokenStream, TokenTree};
 use crate::shim::process::Abort;
 use crate::shim::test::Fail;
 
-// Each of the trees has the span, and those in groups too.
+/// Each of the trees has the span, and those in groups too.
 fn check_spans(
     rt: &(impl Abort + AllocGlobal),
     trees: &[TokenTree],
@@ -29,7 +29,7 @@ fn check_spans(
     Ok(())
 }
 
-// The code for the fault of what is no struct, enum or union: its text, and the span of each of its trees.
+/// The code for the fault of what is no struct, enum or union: its text, and the span of each of its trees.
 fn check(
     rt: &(impl Abort + AllocGlobal),
     text: &str,

@@ -30,7 +30,7 @@ fn shown(entry: &Entry<'_>) -> Parts {
     }
 }
 
-// The entries of each text, in parentheses.
+/// The entries of each text, in parentheses.
 fn check(rt: &(impl Abort + AllocGlobal), rows: &[(&str, &[Parts])]) -> Result<(), Fail> {
     for (text, wanted) in rows {
         let stream = TokenStream::from_str(text, &mut SourceMap::new())?;
@@ -186,7 +186,7 @@ fn the_first_entry_leaves_the_rest() -> Result<(), Fail> {
     Ok(())
 }
 
-// Checks what `check_entries` answers for a text: nothing, or the problem and how many trees stand before it.
+/// Checks what `check_entries` answers for a text: nothing, or the problem and how many trees stand before it.
 fn check_list(
     rt: &(impl Abort + AllocGlobal),
     text: &str,
@@ -203,7 +203,7 @@ fn check_list(
     Ok(())
 }
 
-// Checks so for each text.
+/// Checks so for each text.
 fn check_names(
     rt: &(impl Abort + AllocGlobal),
     rows: &[(&str, Option<(EntryProblem, usize)>)],
@@ -236,7 +236,7 @@ fn each_name_is_known_and_comes_once() -> Result<(), Fail> {
     )
 }
 
-// What an error of `check_entries` is printed as.
+/// What an error of `check_entries` is printed as.
 fn check_printed(rt: &(impl Abort + AllocGlobal), text: &str, want: &str) -> Result<(), Fail> {
     let stream = TokenStream::from_str(text, &mut SourceMap::new())?;
     match check_entries(stream.trees(), &["skip", "rename"]) {
@@ -301,7 +301,7 @@ fn names_are_told_where_none_or_one_is_known() -> Result<(), Fail> {
     Ok(())
 }
 
-// The entries that the attributes of each text are.
+/// The entries that the attributes of each text are.
 fn check_attributes(
     rt: &(impl Abort + AllocGlobal),
     rows: &[(&str, &[Parts])],

@@ -8,7 +8,7 @@ use proved_tokens::proc_macro2::{SourceMap, TokenStream, TokenTree};
 use crate::shim::process::Abort;
 use crate::shim::test::Fail;
 
-// How many inner attributes' trees a file has, and of each item its kind, and of the items in its braces how many.
+/// How many inner attributes' trees a file has, and of each item its kind, and of the items in its braces how many.
 fn check_file(
     rt: &(impl Abort + AllocGlobal),
     text: &str,
@@ -56,7 +56,7 @@ fn fault_at(file: bool, trees: &[TokenTree]) -> Option<(usize, bool)> {
     }
 }
 
-// Where the fault of a file or an item stands, and whether a tree stands there; none where there is no fault.
+/// Where the fault of a file or an item stands, and whether a tree stands there; none where there is no fault.
 fn check_fault(
     rt: &(impl Abort + AllocGlobal),
     file: bool,
@@ -113,7 +113,7 @@ fn an_item_is_all_of_the_trees() -> Result<(), Fail> {
     check_fault(&rt, false, "", Some((0, false)))
 }
 
-// How many items come, and where the last fault stands; both are those of the whole list.
+/// How many items come, and where the last fault stands; both are those of the whole list.
 fn items_given(items: Items<'_>) -> (usize, Option<usize>) {
     let mut count = 0_usize;
     let mut at = None;

@@ -32,7 +32,7 @@ fn fault_place(fault: &Fault) -> Part {
     }
 }
 
-// The parts that stand where the first trees are one of these lists.
+/// The parts that stand where the first trees are one of these lists.
 fn check_params(rt: &(impl Abort + AllocGlobal), rows: &[(&str, &[Part])]) -> Result<(), Fail> {
     for (text, wanted) in rows {
         let stream = TokenStream::from_str(text, &mut SourceMap::new())?;

@@ -81,7 +81,7 @@ fn check(rt: &(impl Abort + AllocGlobal), part: Part, rows: &[(&str, Answer)]) -
     Ok(())
 }
 
-// The same where the first text is in a group without delimiters, before the second.
+/// The same where the first text is in a group without delimiters, before the second.
 fn check_unseen(
     rt: &(impl Abort + AllocGlobal),
     part: Part,

@@ -159,7 +159,7 @@ fn an_impl_has_the_parameters_of_its_type() -> Result<(), Fail> {
     Ok(())
 }
 
-// Of an item with the parameters and the where clause that are written the same is written again.
+/// Of an item with the parameters and the where clause that are written the same is written again.
 fn check_written_again(rt: &(impl Abort + AllocGlobal), row: Row) -> Result<(), Fail> {
     let text = format!("enum E {} {} {{}}", row.impl_generics, row.where_clause)?;
     let stream = TokenStream::from_str(&text, &mut SourceMap::new())?;
@@ -167,7 +167,7 @@ fn check_written_again(rt: &(impl Abort + AllocGlobal), row: Row) -> Result<(), 
     check_parts(rt, row, &item)
 }
 
-// With braces a header is one `impl`.
+/// With braces a header is one `impl`.
 fn check_impl(rt: &(impl Abort + AllocGlobal), row: Row, clause: &str) -> Result<(), Fail> {
     let header = header_text(row, clause)?;
     let text = format!("{header} {{}}")?;

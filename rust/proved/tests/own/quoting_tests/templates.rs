@@ -58,7 +58,7 @@ fn parsed_holes(given: Given) -> Result<Fillings, Fail> {
     Ok(Fillings { ones, lists })
 }
 
-// The holes of these names, each for what its texts parsed to.
+/// The holes of these names, each for what its texts parsed to.
 fn holes<'a>(
     given: Given,
     fillings: &'a Fillings,
@@ -73,7 +73,7 @@ fn holes<'a>(
     Ok(holes)
 }
 
-// What a quote of the template prints that these holes fill.
+/// What a quote of the template prints that these holes fill.
 fn filled_by(template: &str, holes: &[Hole<'_>]) -> Result<String, Fail> {
     let mut quote = Quote::new();
     quote.parse(template, &mut SourceMap::new(), holes)?;
@@ -81,7 +81,7 @@ fn filled_by(template: &str, holes: &[Hole<'_>]) -> Result<String, Fail> {
     Ok(format!("{stream}")?)
 }
 
-// What a quote of the filled template prints.
+/// What a quote of the filled template prints.
 fn filled(template: &str, given: Given) -> Result<String, Fail> {
     let fillings = parsed_holes(given)?;
     let holes = holes(given, &fillings)?;
@@ -100,7 +100,7 @@ fn check_filled(
     Ok(())
 }
 
-// What is wrong with a template, and where it is.
+/// What is wrong with a template, and where it is.
 fn told(
     error: &TemplateError,
     map: &SourceMap,
@@ -114,7 +114,7 @@ fn told(
     })
 }
 
-// Where the fault of the template is, and what it is.
+/// Where the fault of the template is, and what it is.
 fn fault(
     template: &str,
     holes: &[Hole<'_>],
@@ -140,7 +140,7 @@ fn span_of(error: &TemplateError) -> Option<Span> {
 }
 }
 
-// The text where the tree stands.
+/// The text where the tree stands.
 fn text_of<'m>(tree: &TokenTree, map: &'m SourceMap) -> Option<&'m str> {
     let span = tree.span();
     if map.holds(span) {

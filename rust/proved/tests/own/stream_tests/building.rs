@@ -14,22 +14,22 @@ use crate::shim::alloc::AllocError;
 use crate::shim::process::Abort;
 use crate::shim::test::Fail;
 
-// The identifier `x`, which stands in no file.
+/// The identifier `x`, which stands in no file.
 fn x() -> Result<Ident, IdentError> {
     Ident::new("x", Span::call_site())
 }
 
-// The stream of `x` alone.
+/// The stream of `x` alone.
 fn only_x() -> Result<TokenStream, IdentError> {
     Ok(TokenStream::from_tree(TokenTree::Ident(x()?))?)
 }
 
-// The group of this stream, which stands in no file.
+/// The group of this stream, which stands in no file.
 fn grouped(delimiter: Delimiter, stream: TokenStream) -> Group {
     group(delimiter, stream, Span::call_site())
 }
 
-// The literal `-3i32` at 1..6.
+/// The literal `-3i32` at 1..6.
 fn minus_three() -> Result<Literal, AllocError> {
     let mut literal = Literal::i32_suffixed(-3)?;
     literal.set_span(span_of(1, 6));
@@ -58,7 +58,7 @@ fn a_mark_keeps_its_spacing() -> Result<(), Fail> {
     Ok(())
 }
 
-// An empty group in braces, and one of `x` for each delimiter.
+/// An empty group in braces, and one of `x` for each delimiter.
 fn groups() -> Result<Vec<Group>, Fail> {
     let mut groups = Vec::new();
     groups.push_fallibly(grouped(Delimiter::Brace, TokenStream::new()))?;
@@ -119,7 +119,7 @@ fn tokens_of_each_kind_are_put_in() -> Result<(), Fail> {
     Ok(())
 }
 
-// The stream of nothing, of what another has, and of `-3i32`.
+/// The stream of nothing, of what another has, and of `-3i32`.
 fn three_streams(other: &TokenStream) -> Result<TokenStream, Fail> {
     let again = other.try_clone()?;
     let minus = TokenStream::from_tree(TokenTree::Literal(minus_three()?))?;
@@ -127,7 +127,7 @@ fn three_streams(other: &TokenStream) -> Result<TokenStream, Fail> {
     Ok(TokenStream::from_streams([nothing, again, minus])?)
 }
 
-// Adds what another stream has twice.
+/// Adds what another stream has twice.
 fn add_twice(stream: &mut TokenStream, other: &TokenStream) -> Result<(), Fail> {
     stream.extend_streams([other.try_clone()?, other.try_clone()?])?;
     Ok(())
@@ -177,7 +177,7 @@ fn a_stream_of_a_group_that_is_extended_leaves_the_group() -> Result<(), Fail> {
     Ok(())
 }
 
-// The trees `x` and `-3i32`.
+/// The trees `x` and `-3i32`.
 fn two_trees() -> Result<Vec<TokenTree>, Fail> {
     let mut trees = Vec::new();
     trees.push_fallibly(TokenTree::Ident(x()?))?;
@@ -185,14 +185,14 @@ fn two_trees() -> Result<Vec<TokenTree>, Fail> {
     Ok(trees)
 }
 
-// The stream of these trees twice, as std collects it.
+/// The stream of these trees twice, as std collects it.
 fn collected() -> Result<TokenStream, Fail> {
     let stream: TokenStream = two_trees()?.into_iter().collected()?;
     let streams = vec![stream.try_clone()?, stream]?;
     Ok(streams.into_iter().collected()?)
 }
 
-// Extends the stream by a tree, a stream and a token of each kind.
+/// Extends the stream by a tree, a stream and a token of each kind.
 fn extend_by_each(stream: &mut TokenStream) -> Result<(), Fail> {
     stream.try_extend([TokenTree::Ident(x()?)])?;
     stream.try_extend([only_x()?])?;

@@ -86,7 +86,7 @@ fn the_spans_of_delimiters_are_shown_as_the_whole() -> Result<(), AllocError> {
     Ok(())
 }
 
-// A group of the group `[]`, which stands at 1..3.
+/// A group of the group `[]`, which stands at 1..3.
 fn nested() -> Result<TokenTree, ParseError> {
     let mut map = SourceMap::new();
     let inside = TokenStream::from_str("[]", &mut map)?;

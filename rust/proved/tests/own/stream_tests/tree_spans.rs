@@ -6,7 +6,7 @@ use crate::shim::prelude::HostRuntime;
 use proved_tokens::proc_macro2::{LineColumn, Literal, ParseError, SourceMap, TokenStream, TokenTree};
 use crate::shim::test::Fail;
 
-// Where the last tree of the text begins that stands in no group.
+/// Where the last tree of the text begins that stands in no group.
 fn start_of_last(text: &str, map: &mut SourceMap) -> Result<Option<LineColumn>, ParseError> {
     let stream = TokenStream::from_str(text, map)?;
     let mut last = None;
@@ -16,7 +16,7 @@ fn start_of_last(text: &str, map: &mut SourceMap) -> Result<Option<LineColumn>, 
     Ok(last)
 }
 
-// Where the last tree of the text begins that stands in at most one group.
+/// Where the last tree of the text begins that stands in at most one group.
 fn start_of_last_inside(text: &str, map: &mut SourceMap) -> Result<Option<LineColumn>, ParseError> {
     let stream = TokenStream::from_str(text, map)?;
     let mut last = None;
@@ -26,7 +26,7 @@ fn start_of_last_inside(text: &str, map: &mut SourceMap) -> Result<Option<LineCo
     Ok(last)
 }
 
-// Where the tree begins, or the last tree in it.
+/// Where the tree begins, or the last tree in it.
 fn start_of_last_in(tree: &TokenTree, map: &SourceMap) -> LineColumn
 {
     let mut last = tree.span().start(map);
@@ -38,7 +38,7 @@ fn start_of_last_in(tree: &TokenTree, map: &SourceMap) -> LineColumn
     last
 }
 
-// Where the literal that is the whole text begins.
+/// Where the literal that is the whole text begins.
 fn start_of_literal(text: &str, map: &mut SourceMap) -> Result<LineColumn, ParseError> {
     let literal = Literal::from_str(text, map)?;
     Ok(literal.span().start(map))

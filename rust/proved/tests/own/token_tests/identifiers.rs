@@ -128,7 +128,7 @@ fn the_first_fault_of_a_name_is_answered() {
     are_answered(&rt, rows);
 }
 
-// No clause can say that memory suffices for a name that doesn't stand in place.
+/// No clause can say that memory suffices for a name that doesn't stand in place.
 #[test]
 fn a_long_name_is_made_where_memory_suffices() -> Result<(), Fail> {
     let rt = HostRuntime;

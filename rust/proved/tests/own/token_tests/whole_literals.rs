@@ -9,7 +9,7 @@ use proved_tokens::pm_token::{Literal, ParseError};
 use crate::shim::alloc::AllocError;
 use crate::shim::process::Abort;
 
-// Where the literal of the text stands in a new map, if it is one with this text.
+/// Where the literal of the text stands in a new map, if it is one with this text.
 fn literal_bounds(text: &str) -> Option<(u32, u32)> {
     let mut map = SourceMap::new();
     let parsed = Literal::from_str(text, &mut map);
@@ -19,7 +19,7 @@ fn literal_bounds(text: &str) -> Option<(u32, u32)> {
     }
 }
 
-// Where the fault of the text stands.
+/// Where the fault of the text stands.
 fn fault_bounds(text: &str) -> Option<(u32, u32)> {
     let mut map = SourceMap::new();
     let parsed = Literal::from_str(text, &mut map);
@@ -54,8 +54,8 @@ fn is_made(rt: &impl Abort, text: &str) -> Result<(), AllocError> {
     Ok(())
 }
 
-// Whether a map with this limit was full for the text, and whether it then holds the first three
-// characters.
+/// Whether a map with this limit was full for the text, and whether it then holds the first three
+/// characters.
 fn outcome(text: &str, limit: u32) -> (bool, bool) {
     let mut map = SourceMap::with_limit(limit);
     let parsed = Literal::from_str(text, &mut map);

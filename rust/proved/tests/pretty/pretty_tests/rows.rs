@@ -47,7 +47,7 @@ pub fn write_rows<W: Write>(
     Ok(wrong)
 }
 
-// The stream of a row.
+/// The stream of a row.
 fn stream_of(word: &str, content: &str) -> Result<Option<TokenStream>, AllocError> {
     let mut text = String::new();
     for (_, unit) in unescape_str(content) {
@@ -68,7 +68,7 @@ fn stream_of(word: &str, content: &str) -> Result<Option<TokenStream>, AllocErro
     }
 }
 
-// The stream whose outermost marks are all Joint.
+/// The stream whose outermost marks are all Joint.
 fn joint(stream: &TokenStream) -> Result<TokenStream, AllocError> {
     let mut trees = Vec::new();
     for tree in stream.trees() {
@@ -83,7 +83,7 @@ fn joint(stream: &TokenStream) -> Result<TokenStream, AllocError> {
     TokenStream::from_trees(trees)
 }
 
-// Writes the number of a row, and what is answered of its stream.
+/// Writes the number of a row, and what is answered of its stream.
 fn write_row<W: Write>(
     number: usize,
     stream: &TokenStream,
@@ -103,7 +103,7 @@ fn write_row<W: Write>(
 }
 }
 
-// FNV-1a of 64 bits.
+/// FNV-1a of 64 bits.
 fn digest_of(bytes: &[u8]) -> u64 {
     let mut digest: u64 = 0xcbf2_9ce4_8422_2325;
     for byte in bytes {
