@@ -8,8 +8,10 @@
 # turn, so many times each (else 3), and the least times are printed in nanoseconds, sizes in bytes, and how long each
 # crate with its dependencies and default features takes to compile for release, in processor milliseconds.
 #
-# Where the linker happens to place a loop changes calls of a few nanoseconds by up to a third. So in both programs what
-# no other code runs into begins at a multiple of 64 bytes.
+# Where the linker happens to place a loop changes calls of a few nanoseconds by up to a third. So in both programs
+# each block that no other code runs into begins at a multiple of 64 bytes, and no branch crosses or ends at a multiple
+# of 32, where some processors decode it anew each time. Each run links the functions in another order, which takes a
+# linker that knows --shuffle-sections, such as the lld of rustc since 1.90.
 set -eu
 crate=$(cd "$1" && pwd)
 sources=$(cd "$2" && pwd)
@@ -27,6 +29,13 @@ compile() {
         awk '{ print "compile_ms", ($1 + $2) * 1000 }'
 }
 
+# Builds the program of this folder, with its functions in the order that this number gives.
+link() {
+    local aligned="-C llvm-args=-align-all-nofallthru-blocks=6 -C llvm-args=-x86-branches-within-32B-boundaries"
+    (cd "$1" && RUSTFLAGS=$aligned cargo rustc --release --offline --quiet -- \
+        -C "link-arg=-Wl,--shuffle-sections=.text.*=$2")
+}
+
 for name in package public; do
     path=$(pwd)/proc-macro2
     [ $name = public ] && path=$crate
@@ -42,10 +51,11 @@ proc-macro2 = { path = "$path" }
 END
     sed '/^\(quote\|syn\) =/d' bench/Cargo.toml > "$room/$name/empty/Cargo.toml"
     echo 'fn main() {}' > "$room/$name/empty/src/main.rs"
-    (cd "$room/$name" &&
-        RUSTFLAGS="-C llvm-args=-align-all-nofallthru-blocks=6" cargo build --release --offline --quiet)
 done
-for _ in $(seq "$runs"); do
+for run in $(seq "$runs"); do
+    for name in package public; do
+        link "$room/$name" "$run"
+    done
     for name in package public; do
         (cd "$room/$name" && target/release/token-bench "$sources" && compile empty) |
             sed "s/^/$name /" >> "$room/times"
