@@ -39,43 +39,43 @@ typedef struct pm_session {
 
 /* The codes. */
 enum {
-    /* It is done. */
+    /* The call succeeded. */
     PM_DONE = 0,
-    /* The text has a fault at the position `number`. */
+    /* The text has a syntax error at the position `number`. */
     PM_FAULT = 1,
-    /* The text's positions would pass 4294967295. */
+    /* The positions of the session's texts would pass 4294967295. */
     PM_MAP_FULL = 2,
     /* Memory ran out. */
     PM_NO_MEMORY = 3,
     /* The bytes aren't UTF-8. */
     PM_NOT_UTF8 = 4,
-    /* The session has no stream of this number. */
+    /* The session has no stream with this number. */
     PM_NO_STREAM = 5,
-    /* The buffer hasn't just the length of what is copied. */
+    /* The buffer's length is not exactly that of what is to be copied. */
     PM_NO_ROOM = 6,
-    /* The handle is of no session. */
+    /* The handle isn't live: it has no session. */
     PM_NOT_LIVE = 7,
-    /* A count doesn't go into 32 bits. */
+    /* A count doesn't fit in 32 bits. */
     PM_TOO_LONG = 8,
-    /* The name has no character. */
+    /* The name is empty. */
     PM_NAME_EMPTY = 9,
     /* The name has digits only. */
     PM_NAME_NUMBER = 10,
-    /* The name is none. */
+    /* The name is not that of an identifier. */
     PM_NAME_INVALID = 11,
     /* The name can't be raw: `_`, `super`, `self`, `Self` or `crate`. */
     PM_NAME_RESERVED = 12,
-    /* The text is no literal. */
+    /* The text is not a literal. */
     PM_NO_LITERAL = 13,
     /* The literal is of another kind, or has a suffix. */
     PM_OTHER_KIND = 14,
-    /* The literal's content has a fault: `number` is one of the values of pm_escape. */
+    /* The literal's content has an error: `number` is one of the values of pm_escape. */
     PM_NOT_UNESCAPED = 15,
-    /* No text of the session has the span. */
+    /* No text of the session contains the span. */
     PM_NOT_HELD = 16,
-    /* The number is no character, or the bytes have a zero. */
+    /* The number is not a character, or one of the bytes is zero. */
     PM_NO_CHARACTER = 17,
-    /* No text of the session has both spans. */
+    /* No text of the session contains both spans. */
     PM_NOT_JOINED = 18
 };
 
@@ -129,87 +129,89 @@ enum pm_reason {
     PM_REASON_UNCLOSED_OPENER = 19
 };
 
-/* What a call answers. Where it isn't done only `code` is of use, and `number` where the code's line names it. */
+/* The result of a call. If the code is not PM_DONE, only `code` has a meaning, and `number` if the code's comment names
+ * it. */
 typedef struct pm_answer {
-    /* How it went: a code. */
+    /* The code of the call. */
     uint32_t code;
-    /* A number, which the call names. */
+    /* A number, whose meaning the comment of the call gives. */
     uint32_t number;
-    /* How many bytes the call's text or bytes have. */
+    /* The number of bytes in what the call made, unless its comment gives another meaning. */
     size_t bytes;
 } pm_answer;
 
-/* A tree, as it is listed in reading order. */
+/* A tree of a stream, as pm_list lists it. */
 typedef struct pm_tree {
-    /* 0 group, 1 identifier, 2 mark, 3 literal. */
+    /* 0 for a group, 1 for an identifier, 2 for a mark, 3 for a literal. */
     uint8_t kind;
-    /* Of a group 0 for ( ), 1 for { }, 2 for [ ], 3 for none; 1 for a mark that is joint; else 0. */
+    /* For a group 0 for ( ), 1 for { }, 2 for [ ], 3 for no delimiters; for a mark 1 if it is joint; else 0. */
     uint8_t detail;
     /* The position where it begins, in characters. */
     uint32_t lo;
     /* The position where it ends, in characters. */
     uint32_t hi;
-    /* Where its text begins, in bytes of the session's text; of a mark its character; of a group 0. */
+    /* The byte offset of its text in the session's text; for a mark its character; for a group 0. */
     uint32_t start;
-    /* How many bytes its text has; of a group how many trees stand right inside it; of a mark 0. */
+    /* The number of bytes in its text; for a group the number of trees directly inside it; for a mark 0. */
     uint32_t count;
 } pm_tree;
 
 /* A piece of a text. */
 typedef struct pm_piece {
-    /* 0 the mark U+FEFF at the front, 1 white character, 2 comment, 3 doc comment, 4 opener, 5 closer, 6 literal, 7
-     * mark, 8 identifier. */
+    /* 0 for the mark U+FEFF at the start, 1 for a white character, 2 for a comment, 3 for a doc comment, 4 for an
+     * opener, 5 for a closer, 6 for a literal, 7 for a mark, 8 for an identifier. */
     uint8_t kind;
-    /* 1 for a doc comment with `!`, a mark that is joint and an identifier with `r#`; else 0. */
+    /* 1 for a doc comment with `!`, for a joint mark and for an identifier with `r#`; else 0. */
     uint8_t detail;
-    /* Where it begins, in bytes of the text. */
+    /* The byte offset in the text where it begins. */
     uint32_t start;
-    /* How many bytes it has. */
+    /* The number of its bytes. */
     uint32_t count;
 } pm_piece;
 
-/* Why a text doesn't parse, and where. All places are in bytes of the text. */
+/* Why a text doesn't parse, and where. All offsets are in bytes of the text. */
 typedef struct pm_explanation {
-    /* How it went: a code. */
+    /* The code of the call. */
     uint32_t code;
-    /* 0 where the text parses, and else one of the values of pm_reason. */
+    /* 0 if the text parses, else one of the values of pm_reason. */
     uint32_t reason;
-    /* Of the content of a literal its fault, one of the values of pm_escape; else 0. */
+    /* For an error in the content of a literal, one of the values of pm_escape; else 0. */
     uint32_t detail;
-    /* Where the fault stands. */
+    /* The offset at which the text is rejected. */
     size_t fault;
-    /* Where what is at fault begins: of a digit that is too large for its number, say, behind the fault. */
+    /* The offset where the part that is wrong begins. It may be later than `fault`: for a digit that is too large for
+     * the base, say. */
     size_t start;
-    /* Where it ends. */
+    /* The offset where the part that is wrong ends. */
     size_t end;
-    /* Where the innermost opener before the fault begins that no closer matches; 0 where there is none. */
+    /* The offset where the innermost opener begins that no closer before the error matches; 0 if there is none. */
     size_t opener_start;
-    /* Where it ends; 0 where there is none. */
+    /* The offset where that opener ends; 0 if there is none. */
     size_t opener_end;
 } pm_explanation;
 
 /* A line and a column. */
 typedef struct pm_line_column {
-    /* How it went: a code. */
+    /* The code of the call. */
     uint32_t code;
-    /* The line, from 1 on. */
+    /* The line, counted from 1. */
     size_t line;
-    /* The column in characters, from 0 on. */
+    /* The column in characters, counted from 0. */
     size_t column;
 } pm_line_column;
 
-/* Where something begins and ends. */
+/* A part of a text, in byte offsets or in positions. */
 typedef struct pm_range {
-    /* How it went: a code. */
+    /* The code of the call. */
     uint32_t code;
-    /* Where it begins. */
+    /* Where the part begins. */
     size_t start;
-    /* Where it ends. */
+    /* Where the part ends. */
     size_t end;
 } pm_range;
 
-/* Makes a session, which pm_session_free frees, and writes its handle over one that isn't live. What stood there is
- * lost. Codes: PM_NO_MEMORY. */
+/* Makes a session and writes its handle to `out`. pm_session_free frees it. A session whose handle was in `out` before
+ * is lost. Codes: PM_NO_MEMORY. */
 uint32_t pm_session_new(pm_session *out);
 
 /* Frees a session with all that it holds. No copy of its handle may be used from then on. Codes: PM_NOT_LIVE. */
@@ -217,110 +219,117 @@ uint32_t pm_session_free(pm_session session);
 
 /* Every call below that has `back` also answers PM_NOT_LIVE, and then doesn't write it. */
 
-/* Reads a text into a stream of the session, whose number is `number`. The text is a file of the session from then on,
- * also if it has a fault. After PM_NOT_UTF8 and PM_MAP_FULL it is none, after PM_NO_MEMORY it may be one. Codes:
- * PM_FAULT, PM_MAP_FULL, PM_NO_MEMORY, PM_NOT_UTF8, PM_TOO_LONG. */
+/* Reads a text into a new stream of the session, with the number `number`. The text is a file of the session from then
+ * on, also after PM_FAULT and PM_TOO_LONG. It is none after PM_NOT_UTF8 and PM_MAP_FULL, and may be one after
+ * PM_NO_MEMORY. Codes: PM_FAULT, PM_MAP_FULL, PM_NO_MEMORY, PM_NOT_UTF8, PM_TOO_LONG. */
 pm_answer pm_parse(pm_session session, pm_session *back, const uint8_t *text, size_t bytes);
 
-/* Lets a stream of the session go. Its number may be that of a later one. Codes: PM_NO_STREAM. */
+/* Frees a stream of the session. A later stream may get its number. Codes: PM_NO_STREAM. */
 uint32_t pm_stream_free(pm_session session, pm_session *back, uint32_t stream);
 
-/* Prints a stream into the session's text, of `bytes` bytes. Codes: PM_NO_MEMORY, PM_NO_STREAM. */
+/* Prints a stream into the session's text, which then has `bytes` bytes. Codes: PM_NO_MEMORY, PM_NO_STREAM. */
 pm_answer pm_print(pm_session session, pm_session *back, uint32_t stream);
 
-/* Prints a text into the session's text, of `bytes` bytes, as pm_parse and pm_print would, but makes no stream and no
- * file. A fault's position counts from 1. Codes: PM_FAULT, PM_MAP_FULL, PM_NO_MEMORY, PM_NOT_UTF8. */
+/* Prints a text into the session's text, which then has `bytes` bytes, as pm_parse and pm_print would, but makes no
+ * stream and no file. The position of a syntax error counts from 1. Codes: PM_FAULT, PM_MAP_FULL, PM_NO_MEMORY,
+ * PM_NOT_UTF8. */
 pm_answer pm_reprint(pm_session session, pm_session *back, const uint8_t *text, size_t bytes);
 
-/* Lists a stream: the session's records are its trees in reading order, and the session's text is the texts of its
- * identifiers and literals one after another. `number` says how many records there are, `bytes` how many bytes. Codes:
+/* Lists a stream. The session's records become its trees in reading order, and the session's text the texts of its
+ * identifiers and literals, one after another. `number` counts the records, and `bytes` the bytes of the text. Codes:
  * PM_NO_MEMORY, PM_NO_STREAM, PM_TOO_LONG. */
 pm_answer pm_list(pm_session session, pm_session *back, uint32_t stream);
 
-/* Lists all pieces of a text, white characters and comments too, and makes no file. `number` says how many records
- * there are, and `bytes` where the pieces end: they cover the text exactly if that is its length. Codes: PM_NO_MEMORY,
- * PM_NOT_UTF8, PM_TOO_LONG. */
+/* Lists all pieces of a text as the session's records, with white characters and comments, and makes no file. `number`
+ * counts the records. The pieces end at the byte offset `bytes`, and cover the text exactly if that is its length.
+ * Codes: PM_NO_MEMORY, PM_NOT_UTF8, PM_TOO_LONG. */
 pm_answer pm_pieces(pm_session session, pm_session *back, const uint8_t *text, size_t bytes);
 
-/* Copies the session's text into a buffer of just its length. One of any other length isn't written. Codes: PM_NO_ROOM.
- */
+/* Copies the session's text into a buffer of exactly its length. A buffer of any other length is not written. Codes:
+ * PM_NO_ROOM. */
 uint32_t pm_copy_text(pm_session session, pm_session *back, uint8_t *into, size_t bytes);
 
-/* Copies the session's bytes into a buffer of just their number. One of any other length isn't written. Codes:
+/* Copies the session's bytes into a buffer of exactly their number. A buffer of any other length is not written. Codes:
  * PM_NO_ROOM. */
 uint32_t pm_copy_bytes(pm_session session, pm_session *back, uint8_t *into, size_t bytes);
 
-/* Copies the records of pm_list into a buffer of just their number. One of any other length isn't written. Codes:
- * PM_NO_ROOM. */
+/* Copies the records of pm_list into a buffer of exactly their number. A buffer of any other length is not written.
+ * Codes: PM_NO_ROOM. */
 uint32_t pm_copy_trees(pm_session session, pm_session *back, pm_tree *into, size_t count);
 
-/* Copies the records of pm_pieces into a buffer of just their number. One of any other length isn't written. Codes:
- * PM_NO_ROOM. */
+/* Copies the records of pm_pieces into a buffer of just their number. A buffer of any other length is not written.
+ * Codes: PM_NO_ROOM. */
 uint32_t pm_copy_pieces(pm_session session, pm_session *back, pm_piece *into, size_t count);
 
-/* Says why a text doesn't parse, and where. It makes no file and needs no session, so any thread may call it. Codes:
+/* Returns why a text doesn't parse, and where. It makes no file and needs no session, so any thread may call it. Codes:
  * PM_MAP_FULL, PM_NO_MEMORY, PM_NOT_UTF8. */
 pm_explanation pm_explain(const uint8_t *text, size_t bytes);
 
-/* Whether the name is that of an identifier, a raw one or a plain one; it is given without `r#`. Any thread may call
- * it. Codes: PM_NAME_EMPTY, PM_NAME_NUMBER, PM_NAME_INVALID, PM_NAME_RESERVED, PM_NOT_UTF8, PM_NO_MEMORY. */
+/* Checks whether `name`, which is given without `r#`, is the name of an identifier: of a raw one if `raw` is true, else
+ * of a plain one. Any thread may call it. Codes: PM_NAME_EMPTY, PM_NAME_NUMBER, PM_NAME_INVALID, PM_NAME_RESERVED,
+ * PM_NOT_UTF8, PM_NO_MEMORY. */
 uint32_t pm_ident_check(const uint8_t *name, size_t bytes, bool raw);
 
-/* Whether the text is a literal, or `-` and a number. Any thread may call it. Codes: PM_NO_LITERAL, PM_NOT_UTF8. */
+/* Checks whether the text is a literal, or `-` and a number. Any thread may call it. Codes: PM_NO_LITERAL, PM_NOT_UTF8.
+ */
 uint32_t pm_literal_check(const uint8_t *text, size_t bytes);
 
-/* Reads the text of a literal, which is a file of the session from then on, also if it is none: it begins at the
- * position `number` and has `bytes` characters. Codes: PM_MAP_FULL, PM_NO_LITERAL, PM_NO_MEMORY, PM_NOT_UTF8. */
+/* Reads the text of a literal, which begins at the position `number` and has `bytes` characters, not bytes. From then
+ * on the text is a file of the session, also after PM_NO_LITERAL. Codes: PM_MAP_FULL, PM_NO_LITERAL, PM_NO_MEMORY,
+ * PM_NOT_UTF8. */
 pm_answer pm_read_literal(pm_session session, pm_session *back, const uint8_t *text, size_t bytes);
 
-/* The string literal of a text, as the session's text, of `bytes` bytes. Codes: PM_NO_MEMORY, PM_NOT_UTF8. */
+/* Writes the string literal of a text into the session's text, which then has `bytes` bytes. Codes: PM_NO_MEMORY,
+ * PM_NOT_UTF8. */
 pm_answer pm_string(pm_session session, pm_session *back, const uint8_t *text, size_t bytes);
 
-/* The literal of a character, as the session's text, of `bytes` bytes. Codes: PM_NO_CHARACTER, PM_NO_MEMORY. */
+/* Writes the literal of a character into the session's text, which then has `bytes` bytes. Codes: PM_NO_CHARACTER,
+ * PM_NO_MEMORY. */
 pm_answer pm_character(pm_session session, pm_session *back, uint32_t character);
 
-/* The literal of a byte, as the session's text, of `bytes` bytes. Codes: PM_NO_MEMORY. */
+/* Writes the literal of a byte into the session's text, which then has `bytes` bytes. Codes: PM_NO_MEMORY. */
 pm_answer pm_byte_character(pm_session session, pm_session *back, uint8_t byte);
 
-/* The byte string literal of some bytes, as the session's text, of `bytes` bytes. Codes: PM_NO_MEMORY. */
+/* Writes the byte string literal of some bytes into the session's text, which then has `bytes` bytes. Codes:
+ * PM_NO_MEMORY. */
 pm_answer pm_byte_string(pm_session session, pm_session *back, const uint8_t *contents, size_t bytes);
 
-/* The C string literal of some bytes without the zero that ends them, as the session's text, of `bytes` bytes. Codes:
- * PM_NO_CHARACTER, PM_NO_MEMORY. */
+/* Writes the C string literal of some bytes, without a zero at their end, into the session's text, of `bytes` bytes.
+ * Codes: PM_NO_CHARACTER, PM_NO_MEMORY. */
 pm_answer pm_c_string(pm_session session, pm_session *back, const uint8_t *contents, size_t bytes);
 
-/* The value of a string literal, given by its text, as the session's text, of `bytes` bytes. Codes: PM_NO_LITERAL,
- * PM_NO_MEMORY, PM_NOT_UNESCAPED, PM_NOT_UTF8, PM_OTHER_KIND. */
+/* Writes the value of a string literal, given by its text, into the session's text, which then has `bytes` bytes.
+ * Codes: PM_NO_LITERAL, PM_NO_MEMORY, PM_NOT_UNESCAPED, PM_NOT_UTF8, PM_OTHER_KIND. */
 pm_answer pm_str_value(pm_session session, pm_session *back, const uint8_t *text, size_t bytes);
 
-/* The value of a byte string literal, given by its text, as the session's bytes, `bytes` of them. Codes: PM_NO_LITERAL,
- * PM_NO_MEMORY, PM_NOT_UNESCAPED, PM_NOT_UTF8, PM_OTHER_KIND. */
+/* Writes the value of a byte string literal, given by its text, into the session's bytes, which are `bytes` then.
+ * Codes: PM_NO_LITERAL, PM_NO_MEMORY, PM_NOT_UNESCAPED, PM_NOT_UTF8, PM_OTHER_KIND. */
 pm_answer pm_byte_str_value(pm_session session, pm_session *back, const uint8_t *text, size_t bytes);
 
-/* The value of a C string literal, given by its text, with the zero that ends it, as the session's bytes, `bytes` of
- * them. Codes: PM_NO_LITERAL, PM_NO_MEMORY, PM_NOT_UNESCAPED, PM_NOT_UTF8, PM_OTHER_KIND. */
+/* Writes the value of a C string literal, given by its text, into the session's bytes, which are `bytes` then. The zero
+ * at the end is one of them. Codes: PM_NO_LITERAL, PM_NO_MEMORY, PM_NOT_UNESCAPED, PM_NOT_UTF8, PM_OTHER_KIND. */
 pm_answer pm_cstr_value(pm_session session, pm_session *back, const uint8_t *text, size_t bytes);
 
-/* The line and column of a position. Codes: PM_NOT_HELD. */
+/* Returns the line and column of a position. Codes: PM_NOT_HELD. */
 pm_line_column pm_line_column_of(pm_session session, pm_session *back, uint32_t position);
 
-/* The bytes of its text that a span takes. Codes: PM_NOT_HELD. */
+/* Returns the byte offsets in its text where a span begins and ends. Codes: PM_NOT_HELD. */
 pm_range pm_byte_range(pm_session session, pm_session *back, uint32_t lo, uint32_t hi);
 
-/* What stands in its text between the ends of a span, as the session's text, of `bytes` bytes. The span 0..0 has none.
- * Codes: PM_NOT_HELD, PM_NO_MEMORY. */
+/* Writes the text of a span into the session's text, which then has `bytes` bytes. The span 0..0 has no text. Codes:
+ * PM_NOT_HELD, PM_NO_MEMORY. */
 pm_answer pm_source_text(pm_session session, pm_session *back, uint32_t lo, uint32_t hi);
 
-/* The name of the text that has a span, as the session's text: `<parsed string 2>` for the second one. Codes:
- * PM_NOT_HELD, PM_NO_MEMORY. */
+/* Writes the name of the text that has the span into the session's text: `<parsed string 2>` for the second text.
+ * Codes: PM_NOT_HELD, PM_NO_MEMORY. */
 pm_answer pm_file_name(pm_session session, pm_session *back, uint32_t lo, uint32_t hi);
 
-/* The span from the first beginning of two spans to their last end. PM_NOT_HELD is of the first of them. Codes:
- * PM_NOT_HELD, PM_NOT_JOINED. */
+/* Returns the span from the earlier start of two spans to their later end. PM_NOT_HELD is about the first of the two.
+ * Codes: PM_NOT_HELD, PM_NOT_JOINED. */
 pm_range pm_join(pm_session session, pm_session *back, uint32_t lo, uint32_t hi, uint32_t other_lo, uint32_t other_hi);
 
-/* Forgets the texts that were read, but no stream. The next one begins at 1 again, so spans of those before are of no
- * use. */
+/* Forgets the texts that were read, but no stream. The next text begins at position 1 again, so spans of earlier texts
+ * are no longer valid. */
 uint32_t pm_forget(pm_session session, pm_session *back);
 
 #ifdef __cplusplus

@@ -1,4 +1,4 @@
-// What cursors answer on texts by hand, each call once at least.
+// Tests of cursors on texts that were written by hand. Each call is tested at least once.
 
 use pm_span::parts::bounds;
 use pm_stream::TokenStream;
@@ -8,7 +8,7 @@ use std::process::Abort;
 use std::test::Fail;
 use token_buffer::{Cursor, LiteralText, TokenBuffer, TokenText};
 
-/// Asserts what the cursor at the front of `r#f += 'é (\"x\")` answers up to the group.
+/// Asserts what the cursor at the start of `r#f += 'é (\"x\")` returns up to the group.
 fn check_names_and_marks<'a>(rt: &impl Abort, cursor: Cursor<'a>) -> Option<Cursor<'a>> {
     assert!(rt; !cursor.eof());
     assert_eq!(rt; cursor.span().map(bounds), Some((1, 4)));
@@ -23,7 +23,7 @@ fn check_names_and_marks<'a>(rt: &impl Abort, cursor: Cursor<'a>) -> Option<Curs
     Some(rest)
 }
 
-/// Asserts what the cursor before `(\"x\")` answers.
+/// Asserts what the cursor before `(\"x\")` returns.
 fn check_group(rt: &impl Abort, cursor: Cursor<'_>) -> Option<()> {
     assert_eq!(rt; cursor.span().map(bounds), Some((11, 16)));
     let (inside, after) = cursor.group(Delimiter::Parenthesis)?;
@@ -48,8 +48,8 @@ fn tokens_come_one_after_another(rt: HostRuntime) -> Result<(), Fail> {
     Ok(())
 }
 
-/// Asserts what the cursor at the front of `//! d`, CR and LF answers. The comment has the CR before its line feed, and
-/// what it says does not.
+/// Asserts what the cursor at the start of `//! d`, CR and LF returns. The comment includes the CR before its line
+/// feed, but its text does not.
 fn check_doc(rt: &impl Abort, cursor: Cursor<'_>) -> Option<()> {
     let rest = cursor.skip()?.skip()?;
     assert_eq!(rt; rest.span().map(bounds), Some((1, 7)));
@@ -71,7 +71,7 @@ fn a_doc_comment_is_its_tokens(rt: HostRuntime) -> Result<(), Fail> {
     Ok(())
 }
 
-/// What is printed of the cursor's tokens.
+/// The printed text of the cursor's tokens.
 fn printed(alloc: Global, cursor: Cursor<'_>) -> Result<String, AllocError> {
     let stream = cursor.to_stream(alloc)?;
     stream.to_string(alloc)
@@ -98,7 +98,7 @@ fn what_is_left_is_a_stream(rt: HostRuntime) -> Result<(), Fail> {
     Ok(())
 }
 
-/// A text, and what is printed of the trees after its first.
+/// Texts, each with the printed text of all its trees but the first.
 const PRINTED: [(&str, &str); 8] = [
     ("a+=(b)", "+= (b)"),
     ("a {x}{}", "{ x } { }"),
@@ -110,7 +110,7 @@ const PRINTED: [(&str, &str); 8] = [
     ("a/**\07\0*/", "# [doc = \"\\x007\\0\"]"),
 ];
 
-/// Asserts what the trees of a text but the first are printed as, by their cursor and by their stream.
+/// Asserts the printed text of all trees of a text but the first, from their cursor and from their stream.
 fn check_printed(
     rt: &(impl Abort + AllocGlobal),
     cursor: Cursor<'_>,
@@ -147,7 +147,7 @@ fn a_long_list_is_printed_without_an_error(rt: HostRuntime) -> Result<(), Fail> 
     Ok(())
 }
 
-/// Two texts, and whether their trees are the same but for spans.
+/// Pairs of texts, each with whether their trees are the same up to spans.
 const COMPARED: [(&str, &str, bool); 18] = [
     ("a", "  a", true),
     ("", "", true),
@@ -194,7 +194,7 @@ fn cursors_are_equal_up_to_spans(rt: HostRuntime) -> Result<(), Fail> {
     Ok(())
 }
 
-/// A text that begins with generic arguments, and what is printed of the trees after them, or `none` where it doesn't.
+/// Texts, each with the printed text of the trees after its generic arguments, or `none` if it doesn't begin with any.
 const TURBOFISHES: [(&str, &str); 7] = [
     ("::<Vec<T>>(x)", "(x)"),
     ("::<fn() -> T, 'a> = 1", "= 1"),
@@ -205,7 +205,7 @@ const TURBOFISHES: [(&str, &str); 7] = [
     ("<T>(x)", "none"),
 ];
 
-/// What is printed of the trees after generic arguments, or `none`.
+/// The printed text of the trees after generic arguments, or `none`.
 fn after_turbofish(alloc: Global, cursor: Cursor<'_>) -> Result<String, AllocError> {
     match cursor.turbofish() {
         Some(rest) => printed(alloc, rest),

@@ -1,6 +1,6 @@
-//! Tests of token buffers, and of the openers that `explain` tells.
+//! Tests of token buffers, and of the openers that `explain` returns.
 //!
-//! They stand in a crate of their own, since a crate that has tests is proved once more with them.
+//! They are in a crate of their own, because a crate that has tests is proved a second time with them.
 #![tactic(auto)]
 
 #[cfg(test)]

@@ -1,4 +1,4 @@
-//! Where the openers stand that `explain` tells.
+//! Tests of the openers that `explain` returns.
 use explain::{ExplainError, Explained, explain};
 use std::alloc::{AllocError, Global};
 use std::process::Abort;
@@ -10,7 +10,7 @@ fn check(rt: &(impl Abort + AllocGlobal), text: &str, want: &str) {
     assert_eq!(rt; found.as_str(), want, "of {text:?}");
 }
 
-/// The bytes of the openers of the text.
+/// The bytes of the openers that no closer matches before the text's error.
 fn openers(alloc: Global, text: &str) -> Result<String, ExplainError> {
     match explain(alloc, text)? {
         Some(explained) => Ok(shown(alloc, &explained)?),
@@ -18,7 +18,7 @@ fn openers(alloc: Global, text: &str) -> Result<String, ExplainError> {
     }
 }
 
-/// The bytes of the openers that are told, the innermost last.
+/// The bytes of the openers in the explanation, the innermost last.
 fn shown(alloc: Global, explained: &Explained) -> Result<String, AllocError> {
     let mut shown = String::from_str(alloc, "")?;
     for opener in explained.outer.iter() {

@@ -1,4 +1,4 @@
--- What a comparison comes to, a line at a time.
+-- The result of a comparison, line by line.
 use Rattle.std.proofs.Common.{◌≡◌, ℕ, ◌+◌, List, [], ◌∷◌, ◌++◌, length, Option, Some, None}
 use Rattle.std.proofs.Common.{refl, ap, subst, length-append, arith}
 use Rattle.std.specs.List.{concat}
@@ -24,7 +24,7 @@ reports-more [] (Some report) = refl
 reports-more (None ∷ verdicts) verdict = reports-more verdicts verdict
 reports-more (Some report ∷ verdicts) verdict = ap (λ l. report ∷ l) (reports-more verdicts verdict)
 
--- a line more is judged: it is counted, and its report is counted and written
+-- one more line is judged: the line is counted, and its report is counted and written
 pub IsComparison-more : (known left next : Option (List ℕ)) (tally new_tally : Tally)
     (old mid new verdict : Option (List ℕ))
     → IsComparison known left tally old mid → IsJudged left verdict next

@@ -1,4 +1,4 @@
--- What the comparison of lines comes to.
+-- The result of comparing the lines.
 use Rattle.std.specs.Prelude.{◌≡◌, ℕ, ◌<◌, List, [], ◌∷◌, ◌++◌, codes, length, Option, IfSome}
 use Rattle.std.specs.List.{concat, filter_map}
 use Rattle.std.specs.Io.BufRead.{DropsThrough, first_line}
@@ -6,7 +6,7 @@ use Rattle.std.specs.Io.Iter.{u64_saturate}
 use Rattle.std.specs.Io.KnownBytes.{Appends}
 use Rattle.conformance.specs.declared.lines.Tally.{Tally}
 
--- what is reported of a line: what the library answers instead, or that the line is no recorded answer
+-- the report on a line: what the library answers instead, or that the line is no recorded answer
 pub data IsReport (line report : List ℕ) : Type 0 where
   by_answer :
       (here : List ℕ) → report ≡ codes "differs: " ++ (line ++ (codes "\nhere: " ++ (here ++ codes "\n")))
@@ -30,7 +30,8 @@ AreJudged known (verdict ∷ others) left =
 abbrev pub reports : List (Option (List ℕ)) → List (List ℕ)
 reports verdicts = filter_map (λ verdict. verdict) verdicts
 
--- each line up to those that are left has one verdict: all are counted, and the reports are written one after another
+-- each line before those that are left has one verdict. All lines are counted, and the reports are written one after
+-- another
 pub record IsComparison (known left : Option (List ℕ)) (tally : Tally) (old new : Option (List ℕ)) : Type 0 where
   pub verdicts : List (Option (List ℕ))
   pub lines : AreJudged known verdicts left

@@ -1,4 +1,4 @@
-//! What the library answers to a text.
+//! The library's answer to a question about a text.
 use crate::contents::content_answer;
 use crate::lists::list_answer;
 use crate::literals::literal_answer;
@@ -10,14 +10,14 @@ use std::alloc::Global;
 /// An answer of the library.
 #[derive(Drop)]
 pub struct Answer<'a> {
-    /// The kind of the answer, which is what was asked, or that the text was refused.
+    /// The kind of the answer: the question, or `refused` for a text that is no literal or has no value.
     pub kind: &'a str,
-    /// What stands in the last column of a line.
+    /// The text in the last column of a line.
     pub said: String,
 }
 
 impl<'a> Answer<'a> {
-    /// The answer to what is no literal, and to a value that has none.
+    /// Returns the answer for a text that is no literal, and for a value that no literal has.
     pub fn refused(alloc: Global) -> Answer<'a> {
         Answer {
             kind: "refused",
@@ -26,11 +26,11 @@ impl<'a> Answer<'a> {
     }
 }
 
-/// The library's answer where this was asked of the text; `None` where no such kind is known, and
-/// where a list of trees isn't noted as one.
+/// Returns the library's answer to this question about the text. Returns `None` for an unknown question, and for a text
+/// that is no list of trees although the question is about one.
 ///
-/// `MapFull` is answered where the text is too long for a new map, and `Memory` where a growth was
-/// refused. Of `string`, a quote is answered by `string` and `"\""`.
+/// Fails with `MapFull` if the text is too long for a new map, and with `Memory` if memory runs out. For `string` and
+/// the text `"`, the answer is `string` and `"\""`.
 pub fn answer_to<'a>(
     alloc: Global,
     asked: &'a str,

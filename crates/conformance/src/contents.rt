@@ -10,9 +10,8 @@ use proc_macro2::rustc_literal_escaper::{
 use std::alloc::{AllocError, Global};
 use std::ops::Range;
 
-/// What this call of the escaper gives for the content: each item by its range of bytes and its unit
-/// or error, with a semicolon after it; of a character or a byte only the unit or the error. `None`
-/// where no such call is known.
+/// Returns what this call of the escaper gives for the content: each item with its range of bytes, its unit or error,
+/// and a semicolon. For a character or a byte it is only the unit or the error. Returns `None` for an unknown call.
 ///
 /// For `unescape_str`, `\x41b` gives `0..4 U+41;4..5 U+62;`. For `unescape_char`, `'` gives
 /// `EscapeOnlyChar`.
@@ -38,7 +37,7 @@ pub fn content_answer<'a>(
     Ok(Some(Answer { kind: call, said }))
 }
 
-/// The kind of literal that a word names.
+/// Returns the kind of literal that a word names.
 fn mode(name: &str) -> Option<Mode> {
     match name {
         "Char" => Some(Mode::Char),
@@ -53,7 +52,7 @@ fn mode(name: &str) -> Option<Mode> {
     }
 }
 
-/// All items that an iterator of the escaper gives.
+/// Returns all items that an iterator of the escaper gives.
 fn items<U: Unit, I: Iterator<Item = (Range<usize>, Result<U, EscapeError>)> + Drop>(
     alloc: Global,
     items: I,
@@ -68,7 +67,7 @@ fn items<U: Unit, I: Iterator<Item = (Range<usize>, Result<U, EscapeError>)> + D
     Ok(said)
 }
 
-/// All errors of a content of this kind, by the range of each.
+/// Returns all errors in a content of this kind, each with its range.
 fn errors(alloc: Global, content: &str, mode: Mode) -> Result<String, AllocError> {
     let mut said = String::new(alloc);
     for (range, error) in check_for_errors(content, mode) {
@@ -77,7 +76,7 @@ fn errors(alloc: Global, content: &str, mode: Mode) -> Result<String, AllocError
     Ok(said)
 }
 
-/// A unit, or the name of what is wrong.
+/// Returns the text of a unit, or the name of an error.
 fn unit_text<U: Unit>(alloc: Global, unit: Result<U, EscapeError>) -> Result<String, AllocError> {
     match unit {
         Ok(unit) => unit.text(alloc),
@@ -85,9 +84,9 @@ fn unit_text<U: Unit>(alloc: Global, unit: Result<U, EscapeError>) -> Result<Str
     }
 }
 
-/// What a content is made of.
+/// A unit of a literal's content.
 trait Unit: Copy {
-    /// `U+` and the character's code, or the byte in two digits of hex.
+    /// Returns `U+` and the character's code, or the byte in two digits of hex.
     fn text(self, alloc: Global) -> Result<String, AllocError>;
 }
 

@@ -1,10 +1,10 @@
-//! The trees that are no groups, as a line of a list of trees notes them.
+//! Reads the trees that are no groups from the lines of a list of trees.
 use proc_macro2::{
     Ident, IdentError, Literal, ParseError, Punct, SourceMap, Spacing, Span, TokenTree,
 };
 use std::alloc::{AllocError, Global};
 
-/// The tree that the line notes; `None` where it notes none.
+/// Returns the tree that the line describes, or `None` if it describes none.
 ///
 /// `raw fn` is the identifier `r#fn`, and `integer -3i32` the literal `-3i32`.
 pub fn leaf(alloc: Global, line: &str) -> Result<Option<TokenTree>, ParseError> {
@@ -22,7 +22,7 @@ pub fn leaf(alloc: Global, line: &str) -> Result<Option<TokenTree>, ParseError> 
     })
 }
 
-/// The identifier, unless the name has a fault.
+/// Returns the identifier, or `None` if the name is wrong.
 fn identifier(ident: Result<Ident, IdentError>) -> Result<Option<TokenTree>, AllocError> {
     match ident {
         Ok(ident) => Ok(Some(TokenTree::Ident(ident))),
@@ -31,7 +31,7 @@ fn identifier(ident: Result<Ident, IdentError>) -> Result<Option<TokenTree>, All
     }
 }
 
-/// The mark that is the only character of the text.
+/// Returns the mark that is the only character of the text.
 fn mark(text: &str, spacing: Spacing) -> Option<TokenTree> {
     let mut chars = text.chars();
     let (Some(mark), None) = (chars.next(), chars.next()) else {
@@ -43,7 +43,7 @@ fn mark(text: &str, spacing: Spacing) -> Option<TokenTree> {
     Some(TokenTree::Punct(Punct::new(mark, spacing)))
 }
 
-/// The literal that the text is.
+/// Returns the literal that the text is.
 fn literal(alloc: Global, text: &str) -> Result<Option<TokenTree>, ParseError> {
     match Literal::from_str(text, &mut SourceMap::new(alloc)) {
         Ok(literal) => Ok(Some(TokenTree::Literal(literal))),
@@ -52,7 +52,7 @@ fn literal(alloc: Global, text: &str) -> Result<Option<TokenTree>, ParseError> {
     }
 }
 
-/// What the constructor of the suffix makes of the number before it.
+/// Returns the literal that the constructor of the suffix makes of the number before it.
 fn integer(alloc: Global, text: &str) -> Result<Option<TokenTree>, AllocError> {
     let (number, suffix) = match text.find('i') {
         Some(at) => text.split_at(at),

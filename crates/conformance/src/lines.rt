@@ -1,4 +1,4 @@
-//! Compares the library with recorded answers, a line at a time.
+//! Compares the library with recorded answers, line by line.
 ghost use Rattle.std.specs.Prelude.{ℕ, List, Option, IfOk, IfSome, string_bytes};
 ghost use Rattle.std.specs.Io.KnownBytes.{IsAtEnd};
 ghost use Rattle.conformance.specs.Comparison.{IsComparison, IsReport};
@@ -13,20 +13,19 @@ use std::io::{BufRead, Write};
 /// How many answers were compared, and how many of them differ.
 #[derive(Clone, Copy, Debug, PartialEq, Eq)]
 pub struct Tally {
-    /// The lines that were read.
+    /// The number of lines that were read.
     pub answers: u64,
-    /// Those whose answer isn't the one that is wanted, or that are no recorded answer.
+    /// The number of lines that have another answer than the library, or that are no recorded answer.
     pub differences: u64,
 }
 
 /// Compares the library's answers with those on the reader's lines, and writes what differs.
 ///
-/// Both numbers count lines, up to `u64::MAX`. An error is one of reading, as at a line that is no
-/// UTF-8, one of writing, or out of memory; after it the beginning of what differs is written.
+/// Both numbers count lines, up to `u64::MAX`. Fails if reading fails, also at a line that is not UTF-8, if writing
+/// fails, or if memory runs out. The beginning of what differs is written then.
 ///
-/// Of the one line `fault`, a tab, `(]`, a tab and `1:1` it gives one answer and no difference, and
-/// nothing is written. A line that names a difference from the Rust crate is compared with what it
-/// wants here.
+/// For the one line `fault`, a tab, `(]`, a tab and `1:1` it returns one answer and no difference, and writes nothing.
+/// For a line that names a difference from the Rust crate, the answer that is right here is compared.
 pub fn compare_lines<R: BufRead + Drop, W: Write>(
     alloc: Global,
     reader: R,
@@ -51,8 +50,8 @@ pub fn compare_lines<R: BufRead + Drop, W: Write>(
     Ok(tally)
 }
 
-/// What is reported of a line that wants another answer than the library's, or that is no recorded
-/// answer; `None` where the two answers are the same.
+/// Returns the report on a line that has another answer than the library, or that is no recorded answer. Returns `None`
+/// if the two answers are the same.
 fn difference(alloc: Global, line: &str) -> Result<Option<String>, AllocError>
     ensures { IfOk result (λ reported. IfSome reported (λ report.
         IsReport line.now (string_bytes report))) }

@@ -1,12 +1,12 @@
-//! What the library answers to the text of a literal.
+//! The library's answer for the text of a literal.
 use crate::answer::Answer;
 use proc_macro2::{ConversionErrorKind, Literal, ParseError, SourceMap};
 use std::alloc::{AllocError, Global};
 
-/// The literal that the text is, printed, or its value where that was asked; a text that is none is
-/// refused.
+/// Returns the printed literal that the text is, or its value if the question is about the value. For a text that is no
+/// literal the answer is `refused`.
 ///
-/// For `str_value`, `"ab"` gives `6162`, `1` gives `InvalidLiteralKind`, and `- 1` is refused.
+/// For `str_value`, `"ab"` gives `6162`, `1` gives `InvalidLiteralKind`, and the answer for `- 1` is `refused`.
 pub fn literal_answer<'a>(
     alloc: Global,
     asked: &'a str,
@@ -30,7 +30,7 @@ pub fn literal_answer<'a>(
     Ok(Answer { kind, said })
 }
 
-/// The bytes of a value in hex, or the name of the error, unless memory ran out.
+/// Returns the bytes of a value in hex, or the name of the error. Fails if memory runs out.
 fn hex(alloc: Global, value: Result<Vec<u8>, ConversionErrorKind>) -> Result<String, AllocError> {
     match value {
         Ok(bytes) => hex::encode(alloc, bytes.as_slice()),

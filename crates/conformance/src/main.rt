@@ -1,6 +1,6 @@
 //! Compares the library with recorded answers of the Rust crate, from the lines of a file or of standard input, and
-//! reports each difference. The status is 1 where there is one, and 2 where the words ask for nothing, a read or a
-//! write failed, the input isn't UTF-8 or memory ran out; a line on standard error says so.
+//! reports each difference. The exit status is 1 if there is a difference. It is 2, with a line on standard error, if
+//! the arguments are wrong, a read or a write fails, the input isn't UTF-8, or memory runs out.
 #![tactic(auto)]
 
 ghost use Rattle.std.specs.Prelude.{IfOk};
@@ -37,20 +37,20 @@ fn main(rt: HostRuntime) -> ExitCode {
     }
 }
 
-/// The path that the words after the program's name ask for.
+/// Returns the path of the file that the command line names.
 fn asked(rt: &HostRuntime) -> Result<String, Failure> {
     let words = words(rt.alloc(), env::args(rt), USAGE)?;
     path(rt.alloc(), words.as_slice(), USAGE)
 }
 
-/// Compares with the answers in the file at the path.
+/// Compares the library with the answers in the file at the path.
 fn run_on(rt: &HostRuntime, path: &str) -> Result<ExitCode, Failure> {
     let text = read_text(rt, path)?;
     let mut writer = BufWriter::new(rt.alloc(), rt.stdout())?;
     Ok(run(rt.alloc(), text.as_bytes(), &mut writer)?)
 }
 
-/// Compares with the answers on the reader's lines, and writes what differs, and then both numbers.
+/// Compares the library with the answers on the reader's lines. Writes what differs, and then both numbers.
 fn run<R: BufRead + Drop, W: Write>(
     alloc: Global,
     reader: R,

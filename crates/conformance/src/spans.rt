@@ -1,13 +1,13 @@
-//! Where the trees of a stream stand.
+//! The spans of the trees of a stream.
 ghost use Rattle.proc_macro2.specs.HeldSpans.{HoldsAll};
 
 use proc_macro2::{SourceMap, TokenStream, TokenTree};
 use std::alloc::{AllocError, Global};
 
-/// A line for each tree of the stream, each group before those inside it: where it begins and ends,
+/// Returns a line for each tree of the stream, each group before the trees inside it: where the tree begins and ends,
 /// and its kind.
 ///
-/// Of `a (b)` the lines are `1:0-1:1 ident`, `1:2-1:5 group` and `1:3-1:4 ident`.
+/// For `a (b)` the lines are `1:0-1:1 ident`, `1:2-1:5 group` and `1:3-1:4 ident`.
 pub fn span_lines(
     alloc: Global,
     stream: &TokenStream,

@@ -1,12 +1,11 @@
-//! What the library answers to the text of a stream.
+//! The library's answer for the text of a stream.
 use crate::answer::Answer;
 use crate::spans::span_lines;
 use proc_macro2::{ParseError, SourceMap, TokenStream};
 use std::alloc::Global;
 
-/// The stream that the text parses to in a new map: as Debug shows it where `tree` was asked, where
-/// its trees stand for `spans`, and as it is printed else; or the line and column of the text's
-/// fault.
+/// Returns the stream that the text parses to in a new map: as Debug shows it for `tree`, the spans of its trees for
+/// `spans`, and otherwise as it is printed. For a text with a fault, returns the fault's line and column.
 ///
 /// For `print`, `a+b` gives `a + b`, and `(]` gives the fault `1:1`.
 pub fn stream_answer<'a>(

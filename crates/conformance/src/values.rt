@@ -1,4 +1,4 @@
-//! What the library writes for a value.
+//! The library's answer for a value.
 ghost use Rattle.std.specs.Prelude.{◌≡◌};
 ghost use Rattle.proc_macro2.specs.CString.{has_no_zero};
 
@@ -6,8 +6,7 @@ use crate::answer::Answer;
 use proc_macro2::Literal;
 use std::alloc::{AllocError, Global};
 
-/// The text of the literal that this call makes of the value; a value that it makes none of is
-/// refused.
+/// Returns the text of the literal that this call makes of the value. If it makes none, the answer is `refused`.
 ///
 /// For `c_string`, `a` and a quote give `c"a\""`.
 pub fn value_answer<'a>(
@@ -24,8 +23,8 @@ pub fn value_answer<'a>(
     }
 }
 
-/// The literal that this call makes of the text, of its first character, of its first byte, or of
-/// its bytes; `None` where the text has no such character or byte, and for a C string with NUL.
+/// Returns the literal that this call makes of the text, of its first character, of its first byte, or of its bytes.
+/// Returns `None` if the text has no such character or byte, and for a C string with NUL.
 fn literal_of(alloc: Global, call: &str, value: &str) -> Result<Option<Literal>, AllocError> {
     let bytes = value.as_bytes();
     Ok(match call {

@@ -1,4 +1,4 @@
--- What was counted, with one piece more.
+-- The counts after one more piece.
 use Rattle.std.proofs.Common.{◌≡◌, ◌+◌, ◌≤◌, cond, Bool, List, ◌++◌, length, length-append}
 use Rattle.std.proofs.Common.{ap, ◌∙◌, arith}
 use Rattle.std.specs.List.{count_by}
@@ -20,7 +20,7 @@ same_counts a b names marks literals groups = λ i.
     record { names = names i; marks = marks i; literals = literals i; groups = groups i }
 
 module _ (old : Counts) (lexed : Lexed) (to : IsTakenTo Counted old lexed) where
-  -- the events of the piece were counted
+  -- counting the events of a piece keeps the invariant
   pub counted : (new : Counts) (opened : List Waiting) (es : List Event) → length es ≤ 7
       → new.names ≡ old.names + count_by is_name es → new.marks ≡ old.marks + count_by is_mark es
       → new.literals ≡ old.literals + count_by is_literal es → new.groups ≡ old.groups + count_by begins_group es

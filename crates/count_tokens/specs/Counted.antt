@@ -1,4 +1,4 @@
--- How many tokens of each kind a text has.
+-- The number of tokens of each kind in a text.
 use Rattle.std.specs.Prelude.{Bool, true, false, ◌≡◌, ◌*◌, ◌≤◌, List, length}
 use Rattle.std.specs.List.{count_by}
 use Rattle.lexical.specs.Token.{Name, Mark, Literal}
@@ -6,24 +6,27 @@ use Rattle.pm_stream.specs.Events.{Event, One, Opens}
 use Rattle.pm_stream.specs.Taken.{Taken, Waiting}
 use Rattle.count_tokens.specs.declared.Counts.{Counts}
 
--- the event is an identifier or a lifetime's name; a mark; a literal; the beginning of a group
+-- whether the event is an identifier or the name of a lifetime
 abbrev pub is_name : Event → Bool
 is_name (One (Name raw name) lo hi) = true
 is_name _ = false
 
+-- whether the event is a mark
 abbrev pub is_mark : Event → Bool
 is_mark (One (Mark mark joint) lo hi) = true
 is_mark _ = false
 
+-- whether the event is a literal
 abbrev pub is_literal : Event → Bool
 is_literal (One (Literal text) lo hi) = true
 is_literal _ = false
 
+-- whether the event is the opener of a group
 abbrev pub begins_group : Event → Bool
 begins_group (Opens delimiter lo) = true
 begins_group _ = false
 
--- how many of the events there are of each kind
+-- the number of events of each kind
 abbrev pub counts_of : List Event → Counts
 counts_of events = record {
   names = count_by is_name events;

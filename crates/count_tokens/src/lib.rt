@@ -1,6 +1,6 @@
-//! How many tokens of each kind a text has: an example of a reader of one's own.
+//! Counts the tokens of each kind in a text. It is an example of how to write a reader of your own.
 //!
-//! The loop over a text's tokens is [`read`], and what it gives them to is a [`TokenSink`], here [`Counts`].
+//! [`read`] loops over the tokens of a text, and gives them to a [`TokenSink`], which is [`Counts`] here.
 #![tactic(auto)]
 
 ghost use Rattle.std.specs.Prelude.{◌≡◌, ◌↔◌, Err, IfErr, IfOk, length};
@@ -19,25 +19,25 @@ use std::alloc::{AllocError, Global};
 #[cfg(test)]
 mod tests;
 
-/// How many tokens of each kind a text has. A doc comment counts as the tokens that it stands for.
+/// The number of tokens of each kind in a text. A doc comment counts as the tokens that it is read as.
 #[derive(Clone, Copy, Debug, PartialEq)]
 pub struct Counts {
-    /// Identifiers, and the names of lifetimes.
+    /// The number of identifiers, including the names of lifetimes.
     pub names: u64,
-    /// Punctuation marks.
+    /// The number of punctuation marks.
     pub marks: u64,
-    /// Literals.
+    /// The number of literals.
     pub literals: u64,
-    /// Groups.
+    /// The number of groups.
     pub groups: u64,
 }
 
-/// How many tokens of each kind a text has, if it parses.
+/// Counts the tokens of each kind in a text.
 ///
-/// `Lex` has the position of the text's fault (`fault`), counted as in a new map. `MapFull` is answered exactly where
-/// the text doesn't fit a new map (`fits`), and `Memory` if memory runs out.
+/// Returns `Lex` if the text doesn't parse, with the position of its syntax error (`fault`), counted as in a new map.
+/// Returns `MapFull` exactly if the text doesn't fit a new map (`fits`), and `Memory` if memory runs out.
 ///
-/// Of `f(1) // a` the counts are one name, no mark, one literal and one group.
+/// Example: `f(1) // a` has one name, no mark, one literal and one group.
 pub fn count_tokens(alloc: Global, text: &str) -> Result<Counts, ParseError>
     ensures ok { IfOk result (λ counts. (stream : Forest) × ParsesTo (next_lo new_map) (chars text.now) stream
         × (counts ≡ counts_of (flattening stream))) }
@@ -85,7 +85,7 @@ impl TokenSink for Counts {
     }
 
     fn doc(&mut self, _lexed: Lexed<'_>, inner: bool, _said: &str) -> Result<(), AllocError> {
-        // `#[doc = ".."]`, or `#![doc = ".."]`.
+        // The tokens of `#[doc = ".."]`, or of `#![doc = ".."]`.
         self.marks += if inner { 3 } else { 2 };
         self.groups += 1;
         self.names += 1;

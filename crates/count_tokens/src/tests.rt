@@ -1,4 +1,4 @@
-//! Counts of a text with each kind of token.
+//! Counts the tokens of a text that has each kind of them.
 use crate::{Counts, count_tokens};
 
 #[test]

@@ -1,4 +1,4 @@
--- What it says that the tables take the steps of the grammar.
+-- What it means that the tables take the same steps as the grammar.
 use Rattle.std.proofs.Common.{◌≡◌, true, Option, Some, None, List}
 use Rattle.grammars.specs.Machine as machine
 use Rattle.grammars.proofs.FlatLemmas.{move}
@@ -13,16 +13,16 @@ use Rattle.declarations.specs.declared.place.Spot.{Spot}
 use Rattle.declarations.specs.declared.place.State.TheVariants as states
 use Rattle.declarations.proofs.StackLemmas.{lifted, reached}
 
--- the step of the tables is that of the grammar, where the tables come
+-- if the tables reach this state, their step is that of the grammar
 abbrev pub Agrees : Option (List G) → Option Place → Class → Type 0
 Agrees None next class = true ≡ true
 Agrees (Some k) next class = lifted next ≡ reached (move rules k class)
 
--- the tables end at a place where the grammar does, where they come
+-- if the tables reach this state, they may end in it exactly if the grammar may
 abbrev pub EndsAgree : Option (List G) → Place → Type 0
 EndsAgree None place = true ≡ true
 EndsAgree (Some k) place = ends place ≡ machine.ends k
 
--- a spot, with no angle bracket open
+-- a state outside of types and bounds, with no angle bracket open
 abbrev pub at_spot : Spot → Item → Rule → Place
 at_spot spot item rule = record { item = item; rule = rule; state = states.At spot; depth = 0 }

@@ -9,7 +9,7 @@ use Rattle.pm_stream.specs.declared.stream.TokenTree.{TokenTree}
 use Rattle.pm_stream.proofs.DocLemmas.{trees_of-forest}
 use Rattle.declarations.specs.Attribute.{goes_on}
 
--- the trees in a group
+-- the trees inside a group are those of its stream
 pub held_trees : (trees : List TokenTree) (stream held : Forest) → forest trees ≡ stream → stream ≡ held
     → trees_of held ≡ trees
 held_trees trees stream held whole same = ap trees_of (sym same ∙ sym whole) ∙ trees_of-forest trees
@@ -33,7 +33,7 @@ stops_cons true tree trees is here =
     let n : prefix_len goes_on (tree ∷ trees) ≡ suc (prefix_len goes_on trees) = rw is (omega arith) in
     ap (λ k. prefix_len goes_on (drop k (tree ∷ trees))) n ∙ here
 
--- no path goes on after it
+-- no path goes on with the trees after a path
 pub path_stops : (trees : List TokenTree) → prefix_len goes_on (drop (prefix_len goes_on trees) trees) ≡ 0
 path_stops [] = refl
 path_stops (tree ∷ trees) = stops_cons (goes_on tree) tree trees refl (path_stops trees)

@@ -1,4 +1,4 @@
--- What holds of all classes in the list holds of each.
+-- What holds of all classes in the list holds of each class.
 use Rattle.std.proofs.Common.{◌≡◌, refl, sym, ◌∙◌, ap, subst, eqb-true, ℕ, zero, suc, Bool, true, List, [], ◌∷◌}
 use Rattle.std.proofs.Common.{Option, Some, None}
 use Rattle.std.proofs.Common.{inl, inr}
@@ -11,7 +11,7 @@ use Rattle.declarations.specs.declared.class.Class.TheVariants as signs
 use Rattle.declarations.specs.declared.class.Word.TheVariants as words
 use Rattle.declarations.specs.declared.class.Keyword.TheVariants as keywords
 
--- the element of a list at a place
+-- the element of a list at an index
 abbrev at : {T : Type 0} → List T → ℕ → Option T
 at [] n = None
 at (x ∷ xs) zero = Some x
@@ -40,7 +40,7 @@ some_of p (x ∷ xs) h = elim (or_cases (p x) (any_of p xs) h) [ inl y ↦ (x, y
 pub any_passes : IsAny any
 any_passes p h = some_of p classes h
 
--- a class with the number of another is that one
+-- two classes with the same number are the same
 pub same_class : (x c : Class) → is x c ≡ true → c ≡ x
 same_class x c h =
     let numbers : code x ≡ code c = eqb-true (code x) (code c) h in

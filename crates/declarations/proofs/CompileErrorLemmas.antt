@@ -82,7 +82,7 @@ pub compile_error_chars : chars (codes "compile_error") ≡ codes "compile_error
 unfolding chars
 compile_error_chars = refl
 
--- ---- the texts
+-- ---- the texts of the tokens
 
 pub unexpected_chars : chars (codes "not expected here") ≡ codes "not expected here"
 unfolding chars
@@ -100,7 +100,7 @@ drained {A} {n} it xs d =
     sym (map-id xs) ∙ gives_Drains (array_steps {A = A} {n = n}) (λ x. x) xs (array_into_iter_items it) it
     (listed {B = A} (array_steps {A = A} {n = n}) (λ x. x) array_into_iter_items (λ s t p. p.0) (λ s x t p. p) it) d
 
--- all that an iterator has left is put into the stream
+-- all elements that an iterator still has are put into the stream
 pub all_put : {S A E : Type 0} (Begins : S → Type 0) (steps : S → Option A → S → Type 0) (left : S → List A)
     (trees : A → Forest) (items : List A) (made : Forest) (r : Result Forest E)
     → ((it : S) (xs : List A) → Drains steps it xs → xs ≡ left it) → ((it : S) → Begins it → left it ≡ items)
@@ -113,7 +113,7 @@ all_put Begins steps left trees items made (Ok stream) all begins same ran =
 
 -- ---- the trees of the call
 
--- the braces around the literal of a text
+-- the braces that hold the literal of a text
 pub built_braces : (text : List ℕ) (span : Extent) (literal : Text) (inside : Forest) (old new : Grouped)
     → literal ≡ record { text = string_text text; span = span } → inside ≡ split (Literal literal)
     → old ≡ record { delimiter = Brace; stream = inside; span = nowhere }

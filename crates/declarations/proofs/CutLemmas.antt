@@ -1,4 +1,4 @@
--- The front of what is read whole is a part: two walks take the same signs as far as the part goes.
+-- A part and the whole that begins with it: both walks take the same signs as far as the part goes.
 use Rattle.std.proofs.Common.{◌≡◌, refl, sym, ◌∙◌, ap, ◌⊎◌, inl, inr, Bool, true, false, List, [], ◌∷◌, ◌++◌, Option}
 use Rattle.std.proofs.Common.{Some, None, append_assoc, subst, ℕ}
 use Rattle.pm_stream.specs.declared.stream.TokenTree.{TokenTree}
@@ -12,34 +12,34 @@ use Rattle.declarations.specs.Walk.{walk}
 use Rattle.declarations.specs.declared.class.Class.{Class}
 use Rattle.declarations.specs.declared.place.Place.{Place}
 
--- all trees are walked over from the place to an end
+-- a walk from the state takes all of the trees, and may end after them
 pub record Goes (place : Place) (trees : List TokenTree) : Type 0 where
   pub last : Place
   pub walks : walk step place (classes_of (signs trees)) ≡ Some last
   pub ended : ends last ≡ true
 
--- a step of the part's walk is one of the whole's; where it has none, the part may end, and the whole goes on as `goes`
--- says
+-- a step of the part's walk is also one of the whole's walk. Where the part has no step, the whole has none either; or
+-- the part may end there, and the whole goes on to `after`
 abbrev pub Takes : {G : Type 0} → (G → Place) → (G → Place) → Option Place → Bool → Option Place → Option Place
     → Type 0
 Takes outer inner after ended whole None = (whole ≡ None) ⊎ ((ended ≡ true) × (whole ≡ after))
 Takes {G = G} outer inner after ended whole (Some next) =
     (to : G) × (next ≡ inner to) × (whole ≡ Some (outer to))
 
--- it is so at each of these places, where the whole doesn't end
+-- the part and the whole take the same steps in each of these states, and the whole may end in none of them
 pub record Beside {G : Type 0} (outer inner : G → Place) (goes : Class → Option Place) : Type 0 where
   pub takes : (g : G) (class : Class)
       → Takes outer inner (goes class) (ends (inner g)) (step (outer g) class) (step (inner g) class)
   pub unended : (g : G) → ends (outer g) ≡ false
 
--- or at two places for the first of these signs
+-- the part and the whole take the same step at the first of these signs
 abbrev pub TakesFirst : {G : Type 0} → (G → Place) → (G → Place) → (Class → Option Place) → Place → Place
     → List Sign → Type 0
 TakesFirst outer inner goes whole part [] = ends whole ≡ false
 TakesFirst outer inner goes whole part (sign ∷ after) =
     Takes outer inner (goes sign.class) (ends part) (step whole sign.class) (step part sign.class)
 
--- the trees are a part, a sign, and others
+-- the trees are a part, then a sign, and then other trees
 pub record Cut (part : Place) (goes : Class → Option Place) (trees : List TokenTree) : Type 0 where
   pub first : List TokenTree
   pub middle : List TokenTree
@@ -161,7 +161,7 @@ cut outer inner goes beside (sign ∷ all) whole part trees last read takes walk
           (ap (λ o. after step o (classes_of all)) (sym t.2) ∙ goes_on) ended)
     ] refl takes
 
--- the trees begin with a sign, and are read on from where it leads to
+-- the trees begin with a sign, and a walk from the state that it leads to takes all others
 pub record Begins (goes : Class → Option Place) (trees : List TokenTree) : Type 0 where
   pub sign : Sign
   pub more : List TokenTree
@@ -204,7 +204,7 @@ begun place trees [] read last walks ended unended =
     absurd (cc)
 begun place trees (sign ∷ all) read last walks ended unended = begun_by place trees sign all read last walks ended
 
--- where the part that was found is the only one
+-- the trees after a part begin as a cut says, if no other part can be read
 pub begins_after : (part : Place) (goes : Class → Option Place) (trees first middle : List TokenTree)
     → Cut part goes trees → IsOnly (IsFrom part) trees first middle → Begins goes middle
 begins_after part goes trees first middle cut only =
@@ -224,7 +224,7 @@ pub no_fault : (part : Place) (goes : Class → Option Place) (trees : List Toke
     → Cut part goes trees → FaultAt (IsFrom part) trees at → ⊥
 no_fault part goes trees at cut fault = fault.nothing cut.first cut.middle cut.reads
 
--- the first sign of what doesn't end where it begins
+-- a whole that may not end in its first state begins with a sign
 pub begins_whole : (place : Place) (trees : List TokenTree) → Goes place trees → ends place ≡ false
     → Begins (step place) trees
 begins_whole place trees whole unended =

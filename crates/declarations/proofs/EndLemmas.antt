@@ -1,4 +1,4 @@
--- What is read may end by the tables where it may by the grammar.
+-- A part may end by the tables where it may end by the grammar.
 use Rattle.std.proofs.Common.{◌≡◌, refl, ℕ, zero, suc, Bool, true, false, ◌&&◌, ◌∷◌, ◌++◌}
 use Rattle.std.proofs.Common.{Some, None, if◌then◌else◌}
 use Rattle.grammars.specs.Machine.{is_nullable}
@@ -58,7 +58,7 @@ spot_ends_agree (spots.Front fronts.ImplConst) items.Alone rule = refl
 spot_ends_agree (spots.Front fronts.ImplNot) items.Alone rule = refl
 spot_ends_agree _ item rule = refl
 
--- ---- types
+-- ---- within types
 
 state_end : (state : TypeState) (rule : Rule) → is_nullable (range state (context_of rule)) ≡ may_end state
 state_end types.Wanted places.Alone = refl
@@ -100,7 +100,7 @@ range_ends_agree (suc depth) state item rule = go (comes_inside item rule)
     go true = rw (not_zero depth, open_end depth, never (is_nullable (range state Inside))) refl
     go false = refl
 
--- ---- all places
+-- ---- in all states
 
 state_ends_agree : (state : State) (depth : ℕ) (item : Item) (rule : Rule)
     → EndsAgree (state_left state depth item rule)

@@ -1,4 +1,4 @@
--- Lists whose entries must have known names, each once.
+-- Lists whose entries must have known names, and no name twice.
 use Rattle.std.proofs.Common.{◌≡◌, refl, sym, ◌∙◌, ap, subst, ℕ, ◌≤◌, ◌<◌, ◌-◌, ◌+◌, ◌==◌, ◌||◌, Bool, true, false}
 use Rattle.std.proofs.Common.{List, [], ◌∷◌, ◌++◌, None, append_assoc, drop, suc, zero}
 use Rattle.std.proofs.Common.{length, get_or, inl, inr, not, set, replicate, arith}
@@ -25,7 +25,7 @@ use Rattle.declarations.specs.rules.Entries as rule
 use Rattle.declarations.specs.rules.Pieces.{ByRule}
 use Rattle.declarations.proofs.ParamLemmas.{fault_within}
 
--- the entries before the left trees have known names, and the places of these are marked as seen
+-- the entries before the left trees have known names, and the positions of these names are marked as seen
 pub record Checked (known : Names) (list left : List TokenTree) (seen : List Bool) : Type 0 where
   pub places : List ℕ
   pub names : HasNames known list places left
@@ -42,7 +42,7 @@ checked_none known list = record {
   marks = λ place within. get_or-replicate 128 place false false within;
 }
 
--- a place that is not the end is within
+-- the position of a known name is less than the number of names
 pub place_below : (known : Names) (entry : Entry) (place : ℕ) → place ≡ place_of known entry
     → (place ≡ length known → ⊥)
     → place < length known
@@ -163,7 +163,7 @@ no_entry_error known list left seen fault error c stands problem at span unnamed
   told = told;
 }
 
--- a fault of a list stands within its trees
+-- an error of a list is within its trees
 pub list_fault_within : (form : List Class → List Class → Type 0) (trees : List TokenTree) (fault : Fault)
     → IsListFault form trees fault
     → fault.at ≤ length trees

@@ -88,7 +88,7 @@ pub expression_reads : (trees : List TokenTree) (result : Result (Bor (List Toke
     → ReadsRule expression trees result
 expression_reads = table_reads (start places.Alone (states.At spots.Expression)) expression refl
 
--- the two begin alike, but at the signs that begin no value
+-- a value and an expression go on alike after their first sign, if it can begin a value
 value_into : (c : Class) → rule.continues c ≡ false → into rules rule.entry_value [] c ≡ into rules expression [] c
 value_into signs.Equals h = absurd (both_ways _ h refl)
 value_into signs.Greater h = absurd (both_ways _ h refl)
@@ -375,7 +375,7 @@ named_none trees result e r = named_other trees result (heads_none rule.literal_
 
 pub ruleset kinds_of = (literal_first, named_second, named_none)
 
--- ---- what is promised
+-- ---- the contracts
 
 entry_part : (trees rest : List TokenTree) → Finds rule.entry trees rest
     → (part : List TokenTree) × Reads (ByRule rule.entry) trees part rest

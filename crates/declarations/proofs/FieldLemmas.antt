@@ -1,4 +1,4 @@
--- The parts of a field that is read whole.
+-- The parts of a field that is all of the trees.
 use Rattle.std.proofs.Common.{◌≡◌, refl, sym, ◌∙◌, ap, subst, ℕ, List, [], ◌∷◌, ◌++◌, Some, None}
 use Rattle.std.proofs.Common.{Option, true, append_assoc, append-nil, length, arith}
 use Rattle.std.proofs.lemmas.List.{append_cancel_left}
@@ -30,7 +30,7 @@ use Rattle.declarations.specs.declared.place.Spot.TheVariants as spots
 use Rattle.declarations.specs.declared.types.TypeState.TheVariants as types
 use Rattle.declarations.specs.declared.types.TypeStep.{TypeStep}
 
--- ---- a part alone
+-- ---- a part without the trees after it
 
 tail_of : (tree : TokenTree) (xs ys : List TokenTree) → tree ∷ xs ≡ tree ∷ ys → xs ≡ ys
 tail_of tree xs ys same = cc
@@ -49,7 +49,7 @@ single_alone tree second tail (other ∷ more) rest pair whole =
     signs-cons tree other more
     ∙ ap (λ o. paired o tree other more) (ap (pair_class tree) (sym same) ∙ pair)
 
--- the first sign stays it, whatever is left away behind it
+-- the first sign stays the same if trees after it are left away
 first_alone : (trees more rest : List TokenTree) (sign : Sign) (after : List Sign) → signs trees ≡ sign ∷ after
     → trees ≡ sign.trees ++ (more ++ rest) → signs (sign.trees ++ more) ≡ sign ∷ signs more
 first_alone [] more rest sign after read whole = cc
@@ -84,7 +84,7 @@ alone_signs (sign ∷ piece) trees rest read whole =
     let here = alone_signs piece behind.rest rest behind.read left in
     first_alone trees (trees_of piece) rest sign (piece ++ signs rest) read all ∙ ap (λ ss. sign ∷ ss) here
 
--- what is read is read alone too
+-- what is read before a rest is also read if there is no rest
 pub reads_alone : (place : Place) (trees part rest : List TokenTree) → Reads (IsFrom place) trees part rest
     → ReadsAll (IsFrom place) part
 reads_alone place trees part rest reads =
@@ -107,7 +107,7 @@ reads_alone place trees part rest reads =
       );
     }
 
--- ---- what stands in front
+-- ---- attributes and a visibility
 
 pub attributes_found : (front : Front) (trees part rest : List TokenTree)
     → ReadsAll (IsFrom (at items.Alone (before front))) trees → IsOnly AreAttributes trees part rest
@@ -210,7 +210,7 @@ after_visible trees begins =
 
 -- ---- a type alone
 
--- what leads on from a visibility leads on from where a type is wanted
+-- a step after a visibility is also a step where a type must come
 tuple_type : (taken : Option TypeStep) (next : Place)
     → ranged (visible tuple_field) taken ≡ Some next
     → ranged (range items.Alone rules.Alone types.Wanted 0) taken ≡ Some next

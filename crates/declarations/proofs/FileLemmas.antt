@@ -1,4 +1,4 @@
--- From items one after the other to files and their faults.
+-- Items one after the other, files, and the errors of files.
 use Rattle.std.proofs.Common.{◌≡◌, refl, sym, ◌∙◌, ap, subst, ℕ, ◌+◌, ◌<◌, ◌≤◌, ◌==◌, false, List, []}
 use Rattle.std.proofs.Common.{Result, Ok, Err, IfErr}
 use Rattle.std.proofs.Common.{◌∷◌, ◌++◌, length, drop, arith, append_assoc, inr}
@@ -13,7 +13,7 @@ use Rattle.declarations.specs.Forms.{AreInnerAttributes, IsAnyItem, any_item}
 use Rattle.declarations.specs.Reading.{FaultAt, Reads}
 use Rattle.declarations.specs.Whole.{ReadsAll}
 
--- an item isn't empty
+-- an item has at least one tree
 pub item_fewer : (trees part rest : List TokenTree) → Reads IsAnyItem trees part rest → length rest < length trees
 item_fewer trees part rest reads = reads_fewer any_item trees part rest refl reads
 
@@ -38,11 +38,11 @@ rest_items trees part rest (first ∷ parts) reads before =
     let only = split_only any_item trees part rest reads first before.0 before.1 in
     (parts, subst (λ ts. AreItemsBefore parts ts []) only.1 before.2)
 
--- the trees after an item are items where all are
+-- if all trees are items, then so are the trees after the first item
 items_after : (trees part rest : List TokenTree) → Reads IsAnyItem trees part rest → AreItems trees → AreItems rest
 items_after trees part rest reads all = rest_items trees part rest all.0 reads all.1
 
--- so are those after several
+-- if all trees are items, then so are the trees after several of them
 items_left : (parts : List (List TokenTree)) (trees left : List TokenTree) → AreItemsBefore parts trees left
     → AreItems trees → AreItems left
 items_left [] trees left before all = subst AreItems before all
@@ -54,14 +54,14 @@ no_items : (left : List TokenTree) (parts : List (List TokenTree)) (within : ℕ
 no_items left [] within more fault none = more none
 no_items left (part ∷ parts) within more fault before = fault.nothing part before.0 before.1
 
--- an item stands at the front of items
+-- trees that are items begin with an item, so they have no error there
 item_stands : (left : List TokenTree) (within : ℕ) → (left ≡ [] → ⊥) → FaultAt IsAnyItem left within
     → AreItems left → ⊥
 item_stands left within more fault all = no_items left all.0 within more fault all.1
 
--- ---- a file that is read from the front
+-- ---- a file that is read from its start
 
--- items are read as far as these trees
+-- items are read up to the left trees
 pub record ReadUpTo (trees items left : List TokenTree) : Type 0 where
   pub parts : List (List TokenTree)
   pub front : List TokenTree
@@ -119,7 +119,7 @@ file_fault trees inner items left within at reads up more fault counted =
       counted = omega arith;
     })
 
--- it is the same tree
+-- the tree of an error is the same, counted from the left trees or from all of them
 pub fault_extent : (trees items left : List TokenTree) (within at : ℕ) → ReadUpTo trees items left
     → at + length left ≡ length trees + within → extent_at left within ≡ extent_at trees at
 fault_extent trees items left within at up counted =
@@ -128,7 +128,7 @@ fault_extent trees items left within at up counted =
     ap first_extent (sym (drop-append-add up.front left within) ∙ ap (λ n. drop n (up.front ++ left)) count
     ∙ ap (drop at) (sym up.whole))
 
--- and no other reading is a file
+-- if an item has an error, then the trees are no file
 pub not_file : (trees inner items left inner2 items2 : List TokenTree) (within : ℕ)
     → Reads AreInnerAttributes trees inner items → ReadUpTo trees items left → 0 < length left
     → FaultAt IsAnyItem left within → IsFile trees inner2 items2 → ⊥
@@ -137,7 +137,7 @@ not_file trees inner items left inner2 items2 within reads up more fault file =
     item_stands left within (some_left left more) fault
     (items_left up.parts items left up.before (subst AreItems only.1 file.are_items))
 
--- ---- what an item ends with
+-- ---- the braces that an item ends with
 
 pub last_braces-snoc : (front : List TokenTree) (tree : TokenTree) → last_braces (front ++ tree ∷ []) ≡ braces tree
 last_braces-snoc [] tree = refl
@@ -155,7 +155,7 @@ alone trees all = record {
   stands = all.stands.0;
 }
 
--- what holds of every error holds of this result
+-- what holds of every error holds of the error of this result
 pub any_err : {A E : Type 0} → (r : Result A E) (Q : Type 0) → Q → IfErr r (λ e. Q)
 any_err (Ok a) Q q = tt
 any_err (Err e) Q q = q

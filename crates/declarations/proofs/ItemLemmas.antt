@@ -1,4 +1,4 @@
--- The parts of an item that is read whole, one after another.
+-- The parts of an item that is all of the trees, one after the other.
 use Rattle.std.proofs.Common.{◌≡◌, refl, sym, ◌∙◌, ap, subst, ℕ, Bool, true, false, List, [], ◌∷◌, ◌++◌, Some}
 use Rattle.std.proofs.Common.{append-nil, inl, inr}
 use Rattle.pm_token.specs.Leaf.{Name}
@@ -39,7 +39,7 @@ use Rattle.declarations.specs.declared.place.Part.TheVariants as parts
 use Rattle.declarations.specs.declared.place.Place.{Place}
 use Rattle.declarations.specs.declared.place.Spot.TheVariants as spots
 
--- ---- all trees
+-- ---- walks over all trees
 
 pub goes_whole : (place : Place) (trees : List TokenTree) → ReadsAll (IsFrom place) trees → Goes place trees
 goes_whole place trees reads =
@@ -59,7 +59,7 @@ reads_whole place trees goes = record {
   stands = (record { last = goes.last; walks = goes.walks; ended = goes.ended; stops = tt }, refl);
 }
 
--- the walk from a place over a first sign and what it goes on with
+-- the walk from a state over a first sign and the signs after it
 pub goes_first : (place next : Place) (trees more : List TokenTree) (sign : Sign) → signs trees ≡ sign ∷ signs more
     → step place sign.class ≡ Some next → Goes next more → Goes place trees
 goes_first place next trees more sign read steps goes = record {
@@ -198,7 +198,7 @@ goes_after_generics kind trees begins =
 
 -- ---- a where clause and the body
 
--- the fields in parentheses of a struct
+-- the sign is the fields of a tuple struct, in parentheses
 abbrev pub IsTuple : Declared → Class → Type 0
 IsTuple structure signs.Parentheses = Unit {0}
 IsTuple structure signs.Restriction = Unit {0}
@@ -222,7 +222,7 @@ clause_first union class other = inr (refl, refl)
 after_generics_end : (kind : Declared) → ends (at (item_of kind) spots.AfterGenerics) ≡ false
 after_generics_end kind = not_alone kind
 
--- the first sign isn't the fields in parentheses
+-- the signs do not begin with the fields of a tuple struct
 abbrev pub NoTuple : Declared → List Sign → Type 0
 NoTuple kind [] = Unit {0}
 NoTuple kind (sign ∷ all) = IsTuple kind sign.class → ⊥
@@ -238,7 +238,7 @@ clause_cut kind trees goes other =
     begins.begins (clause_first kind begins.sign.class first)
     (ap (λ ss. walk step (at i spots.AfterGenerics) (classes_of ss)) (sym begins.begins) ∙ goes.walks) goes.ended
 
--- nothing follows an item
+-- nothing comes after an item
 nothing_more : (kind : Declared) (trees : List TokenTree) (all : List Sign) → signs trees ≡ all
     → Goes (at (item_of kind) spots.ItemEnd) trees → trees ≡ []
 nothing_more kind trees [] read goes = no_signs trees (ap classes_of read)
@@ -249,13 +249,13 @@ nothing_more kind trees (sign ∷ all) read goes =
     ∙ ap (λ ss. walk step end (classes_of ss)) (sym read) ∙ goes.walks in
     cc
 
--- the body of an enum or a union is in braces
+-- the item is an enum or a union, so its body is in braces
 abbrev pub IsBraced : Declared → Type 0
 IsBraced enumeration = Unit {0}
 IsBraced union = Unit {0}
 IsBraced kind = ⊥
 
--- the last sign of an item
+-- the last sign of an item is a body in braces or a `;`
 pub data LastOf (kind : Declared) (trees : List TokenTree) : Type 0 where
   braces : (g : Grouped) → trees ≡ Group g ∷ [] → g.delimiter ≡ delimiters.Brace → (kind ≡ tuple → ⊥)
       → LastOf kind trees
@@ -284,7 +284,7 @@ end_by enumeration class next steps = cc
 end_by union signs.Braces next steps = (tt, cc)
 end_by union class next steps = cc
 
--- the class of a group tells its delimiters
+-- a group with the class of braces has braces
 pub brace_of : (d : Delimiter) (f : Forest) → group_class d f ≡ signs.Braces → d ≡ delimiters.Brace
 brace_of delimiters.Parenthesis f is =
     elim (is_restriction f) as (λ b. parentheses_class b ≡ signs.Braces → delimiters.Parenthesis ≡ delimiters.Brace)
@@ -369,7 +369,7 @@ tuple_sort signs.Parentheses is = refl
 tuple_sort signs.Restriction is = refl
 tuple_sort class is = absurd is
 
--- there are none, where the first tree isn't such a group
+-- trees that do not begin with a group in parentheses do not begin with the fields of a tuple struct
 first_is_none : (trees : List TokenTree) (all : List Sign) → signs trees ≡ all
     → ((g : Grouped) (more : List TokenTree) → trees ≡ Group g ∷ more → g.delimiter ≡ delimiters.Parenthesis → ⊥)
     → NoTuple structure all
@@ -395,7 +395,7 @@ braced_none enumeration (sign ∷ all) braced = λ is. is
 braced_none union (sign ∷ all) braced = λ is. is
 braced_none kind (sign ∷ all) braced = absurd braced
 
--- ---- what is left after each part that was found
+-- ---- the trees that are left after each part
 
 pub after_attributes-found : (trees part rest : List TokenTree) → ReadsAll IsItem trees
     → IsOnly AreAttributes trees part rest → Begins (after_attributes item) rest
@@ -496,7 +496,7 @@ left_of keyword name trees part rest found only =
     (generics_cut found.kind trees found.left) only in
     left_by (name_class keyword) found.kind rest found.declares (goes_after_generics found.kind rest begins)
 
--- the parts that were found are those of the item
+-- the parts that were found are the parts of the item
 pub item_parts : (trees : List TokenTree) (found : TypeItem) (r1 r2 r3 r4 r5 : List TokenTree) → ReadsAll IsItem trees
     → Reads AreAttributes trees found.attributes.now r1 → Reads IsVisibility r1 found.visibility.now r2
     → r2 ≡ Ident found.keyword.now ∷ r3 → r3 ≡ Ident found.name.now ∷ r4
@@ -551,7 +551,7 @@ tuple_found g trees rest whole is all =
     (subst (Goes (at items.Struct spots.AfterGenerics)) whole
     (goes_whole (at items.Struct spots.AfterGenerics) trees all)))
 
--- the braces that are found, or a `;`
+-- no group has the class of a `;`
 no_semicolon : (d : Delimiter) (f : Forest) → group_class d f ≡ signs.Semicolon → ⊥
 no_semicolon delimiters.Parenthesis f is =
     elim (is_restriction f) as (λ b. parentheses_class b ≡ signs.Semicolon → ⊥) [ true ↦ λ h. cc | false ↦ λ h. cc ] is
@@ -622,7 +622,7 @@ braced_group trees by none =
       | semicolon class other ↦ other by.braced
     ]
 
--- a where clause, read of it and what follows it
+-- a where clause can be read from itself and the trees after it
 pub clause_before : (trees clause rest other : List TokenTree) → Reads IsWhere trees clause rest → rest ≡ other
     → Reads IsWhere (clause ++ other) clause other
 clause_before trees clause rest other reads same =

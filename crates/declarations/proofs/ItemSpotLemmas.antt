@@ -1,4 +1,4 @@
--- Steps at the other spots of which the item matters.
+-- Steps outside of types in which the item matters.
 use Rattle.std.proofs.Common.{◌≡◌, refl, ap, Bool, true, false, List, Option, Some, None}
 use Rattle.declarations.specs.Grammar.{step}
 use Rattle.declarations.specs.rules.Names.{G, word}
@@ -16,7 +16,7 @@ use Rattle.declarations.specs.declared.place.Spot.TheVariants as spots
 use Rattle.declarations.proofs.StackLemmas.{ahead_of, before_generics, left_at}
 use Rattle.declarations.proofs.AgreeLemmas.{Agrees, at_spot}
 
--- ---- fronts
+-- ---- before the names of items
 
 impl_agrees : (rule : Rule) (class : Class) → Agrees (left_at (at_spot (spots.Front fronts.Impl) items.Impl rule))
     (step (at_spot (spots.Front fronts.Impl) items.Impl rule) class) class
@@ -125,7 +125,7 @@ where_agrees rule _ = refl
 
 -- ---- discriminants
 
--- the spots of variants after their names
+-- the states of variants after their names
 pub data Discriminant : Type 0 where
   VariantName : Discriminant
   VariantEnd : Discriminant
@@ -154,7 +154,7 @@ spot_in Closure = spots.Closure
 spot_in Cast = spots.Cast
 spot_in CastWhole = spots.CastWhole
 
--- a variant alone, or in a list
+-- a variant on its own, or in a list
 abbrev pub item_in : Bool → Item
 item_in true = items.Variants
 item_in false = items.Alone

@@ -1,4 +1,4 @@
--- Lists of parts, one at a time.
+-- Lists of parts, one part at a time.
 use Rattle.std.proofs.Common.{◌≡◌, ℕ, ◌-◌, ◌≤◌, ◌<◌, refl, sym, ◌∙◌, ap, subst, Bool, true, false, List, [], ◌∷◌}
 use Rattle.std.proofs.Common.{◌++◌, length, Option, Some, None, drop, inr, arith}
 use Rattle.std.proofs.lemmas.List.{length-append}
@@ -43,7 +43,7 @@ past_fewer (Group g ∷ rest) left past = absurd past
 past_fewer (Ident i ∷ rest) left past = absurd past
 past_fewer (Literal l ∷ rest) left past = absurd past
 
--- ---- a part has a tree at least
+-- ---- a part has at least one tree
 
 pub first_some : (trees : List TokenTree) (sign : Sign) (after : List Sign) → signs trees ≡ sign ∷ after
     → 0 < length sign.trees
@@ -77,7 +77,7 @@ piece_some start trees rest (sign ∷ piece) last read walks ended unended =
     let all = length-append sign.trees (trees_of piece) in
     omega arith
 
--- what is read from a place that is no end leaves fewer trees
+-- what is read from a state in which nothing may end has at least one tree
 pub reads_fewer : (start : Place) (trees part rest : List TokenTree) → ends start ≡ false
     → Reads (IsFrom start) trees part rest → length rest < length trees
 reads_fewer start trees part rest unended reads =
@@ -108,7 +108,7 @@ variant_fewer trees rest left variant at past =
     let after = past_fewer rest left past in
     omega arith
 
--- ---- what follows a part and is no comma
+-- ---- a part without a comma after it
 
 part_span : (trees part rest : List TokenTree) (at : ℕ) (span : Option Extent) → trees ≡ part ++ rest
     → at ≡ length part → span ≡ first_extent rest → span ≡ extent_at trees at
@@ -133,7 +133,7 @@ rest_within form trees part rest reads =
     let all = ap length reads.whole ∙ length-append part rest in
     omega arith
 
--- the trees of a field
+-- the trees of a field are those of a part
 pub field_part : (named : Bool) (trees rest : List TokenTree) (field : Field) → IsFieldOf named trees field rest
     → (part : List TokenTree) × Reads (field_form named) trees part rest
 field_part true trees rest field at = (at.part, at.reads)

@@ -15,9 +15,9 @@ use Rattle.declarations.specs.rules.Names.{G, Label}
 use Rattle.declarations.specs.rules.Rules.{rules}
 use Rattle.declarations.proofs.ReaderLemmas.{remains_on, remains_self}
 
--- ---- what is left has fewer signs
+-- ---- the rest has fewer signs
 
--- no more signs are left than this
+-- no more signs are left than this number
 abbrev Fits : {C L : Type 0} → ℕ → Found C L → Type 0
 Fits n (Past events rest) = length rest ≤ n
 Fits n (Stuck left) = length left ≤ n
@@ -66,9 +66,9 @@ pub fewer : (g : G) (left next : List TokenTree) → heads g (classes_in left) �
     → length (classes_in next) < length (classes_in left)
 fewer g left next h f = fewer_signs g (classes_in left) (classes_in next) f.events h f.found
 
--- ---- loops over what may stand many times
+-- ---- loops over what can be there many times
 
--- what the rule finds in the trees begins with what comes before the left ones, and goes on as it finds there
+-- what the rule finds in the trees is what comes before the left trees, and then what it finds in them
 pub record Leads (g : G) (trees left : List TokenTree) : Type 0 where
   pub events : List (Event Class Label)
   pub found : find rules g (classes_in trees) ≡ front events (find rules g (classes_in left))

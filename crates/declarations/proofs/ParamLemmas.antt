@@ -1,4 +1,4 @@
--- The parts of parameters and predicates: at most one stands at a place, and where none does.
+-- The parts of parameters and predicates: at most one can be read, and when none can.
 use Rattle.std.proofs.Common.{◌≡◌, refl, sym, ◌∙◌, ap, subst, ℕ, ◌+◌, ◌≤◌, ◌<◌, true, false, List, [], ◌∷◌}
 use Rattle.std.proofs.Common.{Result, Ok, Err, MatchResult}
 use Rattle.std.proofs.Common.{◌++◌, Some, None, append_assoc, arith, drop, length}
@@ -28,9 +28,9 @@ use Rattle.declarations.specs.declared.place.Rule.TheVariants as rules
 use Rattle.declarations.specs.declared.place.State.TheVariants as states
 use Rattle.declarations.specs.declared.types.TypeState.TheVariants as types
 
--- ---- at most one stands
+-- ---- at most one part can be read
 
--- what is read of the same trees is the same
+-- by this form at most one part and rest can be read from the same trees
 abbrev pub IsOne : (List TokenTree → List TokenTree → List TokenTree → Type 0) → Type 0
 IsOne form =
     (trees part rest part2 rest2 : List TokenTree) → form trees part rest → form trees part2 rest2
@@ -93,7 +93,7 @@ one_may led form one trees part rest part2 rest2 (left_out none empty all) (stan
 one_may led form one trees part rest part2 rest2 (left_out none empty all) (left_out none2 empty2 all2) =
     (empty2 ∙ sym empty, all2 ∙ sym all)
 
--- trees that begin with a sign are some
+-- trees that begin with a sign are not empty
 begun : (trees : List TokenTree) (class : Class) (rest : List TokenTree) → BeginsWith trees class rest
     → trees ≡ [] → ⊥
 begun trees class rest begins none =
@@ -116,7 +116,7 @@ one_end trees rest rest2 (last none left) (last none2 left2) = left2 ∙ sym lef
 abbrev wanted : Place
 wanted = record { item = items.Alone; rule = rules.Alone; state = states.Range types.Wanted; depth = 0 }
 
--- what begins no type
+-- no type begins with this sign
 abbrev BeginsNone : Class → Type 0
 BeginsNone classes.Literal = Unit {0}
 BeginsNone classes.Braces = Unit {0}
@@ -246,14 +246,14 @@ one_name kinds.Const kinds.Const trees name rest name2 rest2 here there =
     let one = one_must (classes.Keyword keywords.Const) IsWord one_word trees name rest name2 rest2 here there in
     (refl, one.0, one.1)
 
--- the parts that stand so far are those of any parameter that stands there
+-- the attributes that are read so far are those of any parameter here
 pub from_name_same : (trees attributes from_name : List TokenTree) → Reads AreAttributes trees attributes from_name
     → (param : ParamTrees) (rest : List TokenTree) → (is : IsParamAt trees param rest)
     → (param.attributes ≡ attributes) × (is.from_name ≡ from_name)
 from_name_same trees attributes from_name reads param rest is =
     one_reading _ trees attributes from_name param.attributes is.from_name reads is.attributes
 
--- what was read up to the bounds of a parameter
+-- the attributes, the kind and the name of a parameter are read
 pub record Named (trees attributes : List TokenTree) (kind : ParamKind) (name from_bounds : List TokenTree)
     : Type 0 where
   pub from_name : List TokenTree
@@ -270,7 +270,7 @@ from_bounds_same trees attributes kind name from_bounds so_far param rest is =
     (subst (λ t. HasName param.kind t param.name is.from_bounds) first.1 is.name) in
     (first.0, second.0, second.1, second.2)
 
--- up to its default
+-- a parameter is read up to its default
 pub record Bounded (trees attributes : List TokenTree) (kind : ParamKind) (name bounds from_default : List TokenTree)
     : Type 0 where
   pub from_bounds : List TokenTree
@@ -304,7 +304,7 @@ from_default_same trees attributes kind name bounds from_default so_far param re
       left_same = second.1;
     }
 
--- up to its end
+-- a parameter is read up to its end
 pub record Defaulted (trees : List TokenTree) (param : ParamTrees) (from_end : List TokenTree) : Type 0 where
   pub from_default : List TokenTree
   pub bounded : Bounded trees param.attributes param.kind param.name param.bounds from_default
@@ -385,7 +385,7 @@ one_predicate trees predicate rest is predicate2 rest2 is2 =
     λ bounded bounds. record { bounded = bounded; bounds = bounds } in
     (ap (λ x. made_of x predicate2.bounds) first.0 ∙ ap (λ x. made_of predicate.bounded x) second.0, third)
 
--- ---- where a fault stands
+-- ---- where an error is
 
 pub back_here : (trees : List TokenTree) → IsBack trees trees
 back_here trees = ([], refl)
@@ -463,7 +463,7 @@ back_defaulted trees param from_end so_far =
     (back_bounded trees param.attributes param.kind param.name param.bounds so_far.from_default so_far.bounded)
     (back_default param.kind so_far.from_default param.default from_end so_far.default_read)
 
--- so many trees stand before what is left
+-- the span of the first left tree is that of the tree after as many trees as come before it
 pub fault_span : (trees left : List TokenTree) (at : ℕ) → IsBack left trees → at + length left ≡ length trees
     → first_extent left ≡ extent_at trees at
 fault_span trees left at back counted =
@@ -484,7 +484,7 @@ fault_within form trees at fault =
     let counted : at ≡ length (trees_of fault.front) = fault.counted in
     omega arith
 
--- ---- elements that are left out or end
+-- ---- parts that may be left out, and the ends of elements
 
 may_none : (led : Class) (form : List TokenTree → List TokenTree → List TokenTree → Type 0)
     (trees left fault part rest : List TokenTree) → BeginsWith trees led left → Fails form left fault
@@ -493,7 +493,7 @@ may_none led form trees left fault part rest begins fails (stands left2 begins2 
     fails.nothing part rest (subst (λ t. form t part rest) (same_rest trees led led left left2 begins begins2) reads)
 may_none led form trees left fault part rest begins fails (left_out none empty all) = none left begins
 
--- what the form reads after its mark, or where it fails there
+-- if the mark is there and the form fails after it, then the whole fails there
 may_fails : (led : Class) (form : List TokenTree → List TokenTree → List TokenTree → Type 0)
     (trees left fault : List TokenTree) → BeginsWith trees led left → Fails form left fault
     → Fails (MayHave led form) trees fault
@@ -519,7 +519,7 @@ must_none led form trees none = record {
   nothing = λ part rest has. none has.left has.begins;
 }
 
--- the same of what is answered
+-- a result of the form after its mark is a result of the mark and the form
 pub may_found : {T E : Type 0} → (r : Result T E) (part rest : T → List TokenTree) (fault : E → List TokenTree)
     (led : Class) (form : List TokenTree → List TokenTree → List TokenTree → Type 0) (trees left : List TokenTree)
     → BeginsWith trees led left → MatchResult r (λ f. form left (part f) (rest f)) (λ e. Fails form left (fault e))
@@ -537,7 +537,7 @@ must_found (Ok f) part rest fault led form trees left begins reads =
 must_found (Err e) part rest fault led form trees left begins fails =
     must_fails led form trees left (fault e) begins fails
 
--- where no constant begins, the default of one is a type
+-- if no constant begins here, then the default of a constant is a type
 no_constant : (trees left part rest after : List TokenTree) (class : Class) → BeginsWith trees class after
     → is_constant class ≡ false → (class ≡ classes.Minus → ⊥) → Fails (Reads IsType) trees left
     → ReadsConstant trees part rest → ⊥
@@ -561,7 +561,7 @@ type_found (Err e) part rest fault trees after class begins other minus fails = 
   nothing = λ p r reads. no_constant trees (fault e) p r after class begins other minus fails reads;
 }
 
--- `-` and no literal
+-- nothing is read after a `-` that no literal follows
 minus_none : (trees after part rest : List TokenTree) → BeginsWith trees classes.Minus after
     → HasNo classes.Literal after → ReadsConstant trees part rest → ⊥
 minus_none trees after part rest begins none (one_sign class is sign) =
@@ -579,7 +579,7 @@ minus_fails trees after begins none = record {
   nothing = λ part rest reads. minus_none trees after part rest begins none reads;
 }
 
--- ---- parameters that fail
+-- ---- when a parameter cannot be read
 
 pub name_fails : (trees attributes from_name left : List TokenTree) → Reads AreAttributes trees attributes from_name
     → ((kind : ParamKind) → Fails (HasName kind) from_name left) → (param : ParamTrees) (rest : List TokenTree)
@@ -615,7 +615,7 @@ end_fails trees found from_end so_far fails param rest is =
     let same = from_end_same trees found from_end so_far param rest is in
     fails rest (subst (λ t. EndsElement t rest) same.1 is.ends)
 
--- and predicates
+-- a predicate fails where its bounds fail
 pub predicate_bounds_fail : (trees bounded from_colon left : List TokenTree) → Reads IsType trees bounded from_colon
     → Fails (MustHave classes.Colon (Reads AreBounds)) from_colon left → (predicate : PredicateTrees)
     (rest : List TokenTree) → IsPredicateAt trees predicate rest → ⊥
@@ -663,7 +663,7 @@ const_none kinds.Const trees rest left name after begins fails has =
     has.begins in
     fails.nothing name after (subst (λ t. IsWord t name after) same has.reads)
 
--- of a constant, whose name isn't one of another kind
+-- a constant parameter fails where its name fails
 pub const_fails : (kind : ParamKind) (trees rest left : List TokenTree)
     → BeginsWith trees (classes.Keyword keywords.Const) rest → Fails IsWord rest left
     → Fails (HasName kind) trees left
@@ -672,7 +672,7 @@ const_fails kind trees rest left begins fails = record {
   nothing = λ name after has. const_none kind trees rest left name after begins fails has;
 }
 
--- ---- what is left is less
+-- ---- the rest has fewer trees
 
 fewer_name : (kind : ParamKind) (trees name rest : List TokenTree) → HasName kind trees name rest
     → length rest < length trees

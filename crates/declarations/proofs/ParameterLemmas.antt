@@ -94,7 +94,7 @@ pub attributes_read : (trees : List TokenTree) (result : Result (Bor (List Token
     → ReadsRule attributes trees result
 attributes_read = table_reads (start places.Alone (states.At (spots.Before parts.Attributes))) attributes refl
 
--- ---- a rule that leads to another
+-- ---- a rule that goes on as another rule
 
 leads_sign : (g h : G) (trees rest : List TokenTree) (class : Class) → BeginsWith trees class rest
     → step rules (g ∷ []) class ≡ Some (One class ∷ [], h ∷ [])
@@ -158,7 +158,7 @@ other_leads a b h trees rest d e l = record {
   remains = l.remains;
 }
 
--- a sign that is all of a rule
+-- the sign is all that the rule reads
 step_finds : (g : G) (trees rest : List TokenTree) (class : Class) → BeginsWith trees class rest
     → step rules (g ∷ []) class ≡ Some (One class ∷ [], [])
     → Finds g trees rest
@@ -174,12 +174,12 @@ step_finds g trees rest class b e = record {
     ends [] = refl
     ends (c ∷ cs) = refl
 
--- what begins with a sign
+-- a sign that passes the test of a class has this class
 begins_as : (trees rest : List TokenTree) (x class : Class) → BeginsWith trees class rest → is x class ≡ true
     → BeginsWith trees x rest
 begins_as trees rest x class b h = subst (λ c. BeginsWith trees c rest) (same_class x class h) b
 
--- what is found where something has to be begins there
+-- a rule that reads at least one sign can begin with the first sign
 finds_heads : (g : G) (trees rest : List TokenTree) → is_nullable g ≡ false → Finds g trees rest
     → heads g (classes_in trees) ≡ true
 finds_heads g trees rest e f = go (heads g (classes_in trees)) refl
@@ -225,7 +225,7 @@ angle_begins trees rest class b at h =
 pub angle_none : (trees : List TokenTree) → trees ≡ [] → false ≡ heads rule.pattern_angle (classes_in trees)
 angle_none trees e = sym (heads_none rule.pattern_angle trees e)
 
--- a type that begins with angle brackets
+-- a type that begins with `<` begins as the rule of angle brackets does
 angle_step : (c : Class) → opens c ≡ true → step rules (type ∷ []) c ≡ step rules (angled ∷ []) c
 angle_step signs.Less h = refl
 angle_step signs.LessJoint h = refl
@@ -282,7 +282,7 @@ then_stack : (a b : G) (cs : List Class) → scan rules (Then a b ∷ []) cs ≡
 unfolding find
 then_stack a b cs = find_then rules a b cs ∙ sym (scan_append rules (a ∷ []) (b ∷ []) cs)
 
--- angle brackets are no sign that a pattern goes on with
+-- a pattern cannot go on with `<` as one of its signs
 angle_apart : (c : Class) → opens c ≡ true → rule.continues c ≡ false
 angle_apart c h = go (rule.continues c) refl
   where
@@ -297,11 +297,11 @@ front_none : (f : Found Class Label) → front [] f ≡ f
 front_none (Past e r) = refl
 front_none (Stuck l) = refl
 
--- angle brackets, or nothing
+-- angle brackets and what follows them, or nothing
 abbrev angle_end : G
 angle_end = perhaps rule.pattern_angle
 
--- the rest of a pattern is a pattern where one begins
+-- where a pattern begins, it reads the same as the rest of a pattern
 pattern_whole : (cs : List Class) → heads rule.pattern cs ≡ true
     → find rules rule.pattern cs ≡ find rules rule.pattern_rest cs
 unfolding find
@@ -337,7 +337,7 @@ pattern_reads trees (Err left) h f =
 
 pub ruleset patterns = (pattern_begins, pattern_none, pattern_reads, lacks)
 
--- a pattern that begins with another sign
+-- a pattern whose first sign does not pass the test is any pattern
 but_step : (without : Class → Bool) (c : Class) → without c ≡ false
     → step rules (rule.pattern_but without ∷ []) c ≡ step rules (rule.pattern ∷ []) c
 but_step without c h = rw h refl
@@ -357,7 +357,7 @@ but_same without trees rest class b h =
     ∙ (but_find without class (classes_in rest) h
     ∙ ap (find rules rule.pattern) (sym (classes_sign trees rest class b)))
 
--- a pattern after a sign with which one may begin
+-- a sign that can begin a pattern, and a pattern after it, are a pattern
 pattern_more : (trees mid rest : List TokenTree) (class : Class) → BeginsWith trees class mid
     → rule.is_pattern class ≡ true → Finds rule.pattern mid rest
     → Finds rule.pattern trees rest
@@ -373,7 +373,7 @@ pattern_more trees mid rest class b h f =
 
 -- ---- up to the `:`
 
--- a sign before what is read leads there
+-- a result after a first sign is also a result from that sign on
 lift : (g h r s : G) (p : Class) (trees mid : List TokenTree)
     (result : Result (Shape × Bor (List TokenTree)) (Bor (List TokenTree))) → BeginsWith trees p mid
     → step rules (g ∷ []) p ≡ Some (One p ∷ [], h ∷ []) → step rules (r ∷ []) p ≡ Some (One p ∷ [], s ∷ [])
@@ -417,7 +417,7 @@ lift_and_mut trees mid class result b h f =
     lift rule.after_and rule.after_and_mut rule.referred (one signs.SelfValue) (signs.Keyword keywords.Mut) trees mid
     result (begins_as trees mid (signs.Keyword keywords.Mut) class b h) refl refl refl f
 
--- `self`
+-- after `mut` comes `self`
 pub mut_self : (trees rest : List TokenTree) (class : Class) → BeginsWith trees class rest
     → is signs.SelfValue class ≡ true
     → LeadsTo rule.after_mut trees rule.self_type rest
@@ -463,7 +463,7 @@ pub self_part : (trees rest : List TokenTree) (class : Class) → BeginsWith tre
     → Finds (one signs.SelfValue) trees rest
 self_part trees rest class b h = sign_finds (is signs.SelfValue) trees rest class b h
 
--- a lifetime
+-- after `&` comes a lifetime
 pub lifetime_leads : (trees mid rest : List TokenTree) (class : Class) → BeginsWith trees class mid
     → is signs.Lifetime class ≡ true → Finds rule.may_mutate mid rest
     → LeadsTo rule.after_and trees Nothing rest
@@ -489,7 +489,7 @@ lifetime_sticks trees mid left class b h f =
     leads_sticks rule.after_and rule.may_mutate trees mid left
     (leads_sign rule.after_and rule.may_mutate trees mid signs.Lifetime at refl) f
 
--- the first sign begins no such rule
+-- the first sign cannot begin a sequence that begins with another sign
 no_then : (x : Class) (g : G) (trees rest : List TokenTree) (class : Class) → BeginsWith trees class rest
     → is x class ≡ false
     → heads (Then (one x) g) (classes_in trees) ≡ false
@@ -501,7 +501,7 @@ no_one : (x : Class) (trees rest : List TokenTree) (class : Class) → BeginsWit
     → heads (one x) (classes_in trees) ≡ false
 no_one x trees rest class b h = heads_sign (one x) trees rest class b ∙ h
 
--- a pattern, where a receiver may stand too
+-- a pattern, where a receiver could also be
 module _ (trees rest : List TokenTree) (class : Class) (b : BeginsWith trees class rest)
     (no_self : is signs.SelfValue class ≡ false) where
   pub mut_pattern : (result : Result (Shape × Bor (List TokenTree)) (Bor (List TokenTree))) → ReadsPattern trees result
@@ -541,7 +541,7 @@ module _ (trees rest : List TokenTree) (class : Class) (b : BeginsWith trees cla
       (then_sticks rule.pattern rule.typed trees left.now f)
 
   module _ (no_mut : is (signs.Keyword keywords.Mut) class ≡ false) where
-    -- after `&`
+    -- a pattern after `&`
     pub and_pattern : (result : Result (Shape × Bor (List TokenTree)) (Bor (List TokenTree)))
         → is signs.Lifetime class ≡ false → ReadsPattern trees result
         → ReadsFront rule.after_and rule.referred trees result
@@ -570,7 +570,7 @@ module _ (trees rest : List TokenTree) (class : Class) (b : BeginsWith trees cla
         (other_sticks (one signs.SelfValue) _ trees left.now (no_one signs.SelfValue trees rest class b no_self) refl
         (then_sticks (rule.pattern_but (keyword keywords.Mut)) rule.typed trees left.now but)))
 
-    -- at the front
+    -- a pattern at the start of a parameter
     pub named_pattern : (result : Result (Shape × Bor (List TokenTree)) (Bor (List TokenTree)))
         → is signs.And class ≡ false → ReadsPattern trees result
         → ReadsFront rule.named_parameter rule.receiver trees result
@@ -685,7 +685,7 @@ self_last trees e = perhaps_stays rule.with_type trees (heads_none rule.with_typ
 
 pub ruleset self_types = (self_typed, self_typed_sticks, self_typed_has, self_alone, self_last)
 
--- a type or `...`
+-- `...` begins exactly where a `.` is
 dots_heads : (cs : List Class) → heads rule.dots cs ≡ heads (one signs.Dot) cs
 dots_heads [] = refl
 dots_heads (c ∷ cs) = or_nothing (is signs.Dot c) (may_begin rule.two_dots c)
@@ -727,7 +727,7 @@ dots_read trees rest f = (
 
 pub ruleset typed_ends = (end_dots, end_dots_sticks, end_type, end_type_sticks, type_read, dots_read)
 
--- from the `:` on
+-- the result from the `:` on
 pub typed_reads : (trees from_end : List TokenTree) (class : Class)
     (result : Result (ParameterKind × Bor (List TokenTree)) (Bor (List TokenTree))) → BeginsWith trees class from_end
     → is signs.Colon class ≡ true → ReadsTyped from_end result
@@ -827,7 +827,7 @@ pub ruleset named = (named_kind, named_finds, named_sticks)
 
 -- ---- parameters
 
--- `...`, or a parameter with a name
+-- `...`, or a parameter with a pattern or a receiver
 abbrev unmarked : G
 unmarked = Either rule.dots rule.named_parameter
 
@@ -894,7 +894,7 @@ whole_parts trees left given pattern rest kind f whole h =
 
 pub ruleset whole = (whole_finds, whole_fails, whole_sticks, whole_parts)
 
--- ---- what is promised
+-- ---- the contracts
 
 parameter_part : (trees rest : List TokenTree) → Finds rule.function_parameter trees rest
     → (part : List TokenTree) × Reads (ByRule rule.function_parameter) trees part rest

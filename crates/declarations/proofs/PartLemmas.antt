@@ -28,7 +28,7 @@ at item spot = record { item = item; rule = rules.Alone; state = states.At spot;
 abbrev pub range : Item → Rule → TypeState → ℕ → Place
 range item rule state depth = record { item = item; rule = rule; state = states.Range state; depth = depth }
 
--- ---- what may stand in front of each of these
+-- ---- what attributes and a visibility can come before
 
 pub data Front : Type 0 where
   item : Front
@@ -54,11 +54,11 @@ attributed front = spots.Attributed (part_of front)
 abbrev pub public : Front → Spot
 public front = spots.Public (part_of front)
 
--- after a visibility
+-- the state after a visibility
 abbrev pub visible : Front → Place
 visible front = at items.Alone (spots.Visible (part_of front))
 
--- a place where the same shift and the same type may follow
+-- two states lead to the same state by the same step of a type
 ranged_same : (p q : Spot) (rule : Rule) (taken : Option TypeStep)
     → ranged (record { item = items.Alone; rule = rule; state = states.At p; depth = 0 }) taken
     ≡ ranged (record { item = items.Alone; rule = rule; state = states.At q; depth = 0 }) taken
@@ -70,7 +70,7 @@ type_same : (p q : Spot) (begun : Option TypeStart) (class : Class)
 type_same p q None class = refl
 type_same p q (Some begun) class = ranged_same p q begun.rule (step_of begun.state class true)
 
--- the type that may begin at a spot where no item is declared
+-- the type that can begin in this state if the part is read on its own
 abbrev type_of : Spot → Option TypeStart
 type_of spot = spot_type items.Alone rules.Alone spot
 
@@ -98,7 +98,7 @@ attribute_place start = at items.Alone (spots.Before parts.Attributes)
 attribute_place opened = at items.Alone (spots.Hash parts.Attributes)
 attribute_place closed = at items.Alone (spots.Attributed parts.Attributes)
 
--- what follows attributes is no other
+-- the step after all attributes of a part
 abbrev pub after_attributes : Front → Class → Option Place
 after_attributes front signs.Hash = None
 after_attributes front class = step (at items.Alone (attributed front)) class
@@ -115,7 +115,7 @@ types_same field = refl
 types_same tuple_field = refl
 types_same variant = refl
 
--- what isn't another attribute, before the first as after one
+-- a sign that is no attribute has the same step before the first attribute as after one
 start_ends : (front : Front) (s : Option Shift) (class : Class)
     → else_type s (at items.Alone (before front)) (before front) class
     ≡ else_type s (at items.Alone (attributed front)) (attributed front) class
@@ -162,7 +162,7 @@ attribute_takes front start class = attribute_start front class
 attribute_takes front opened class = attribute_open front class
 attribute_takes front closed class = attribute_closed front class
 
--- only attributes and a visibility may end before what they stand in front of
+-- a part may not end before its attributes, after them or after its visibility
 abbrev IsUnended : Front → Type 0
 IsUnended front =
     (ends (at items.Alone (before front)) ≡ false) × (ends (at items.Alone (attributed front)) ≡ false)
@@ -205,7 +205,7 @@ TakesVisibility front from part class =
     Takes (within_visibility front) visibility_place (after_visibility front class) (ends part)
     (step from class) (step part class)
 
--- where there is none, and after `pub`, stands what may stand after a visibility
+-- the same types can begin after a visibility, after `pub`, and where there is no visibility
 abbrev SameTypes : Front → Type 0
 SameTypes front =
     (type_of (attributed front) ≡ type_of (spots.Visible (part_of front)))
@@ -227,7 +227,7 @@ unrestricted : (front : Front) (s : Option Shift) (class : Class)
     ≡ else_type s (visible front) (spots.Visible (part_of front)) class
 unrestricted front s class = else_same (public front) (spots.Visible (part_of front)) s class (visible_types front).1
 
--- where it may begin, after attributes
+-- the step where a visibility can begin, after the attributes
 pub visibility_first : (front : Front) (class : Class) (next : Place) → after_attributes front class ≡ Some next
     → TakesVisibility front (at items.Alone (attributed front)) (at items.Alone (spots.Before parts.Visibility)) class
 visibility_first item signs.Hash next steps = cc

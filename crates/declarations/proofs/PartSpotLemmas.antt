@@ -1,4 +1,4 @@
--- Steps at the spots around a part: before it, at its attributes and after its visibility.
+-- Steps in the states around a part: before it, at its attributes, and after its visibility.
 use Rattle.std.proofs.Common.{refl}
 use Rattle.declarations.specs.Grammar.{step}
 use Rattle.declarations.specs.declared.class.Class.{Class}
@@ -17,7 +17,7 @@ use Rattle.declarations.specs.declared.place.Spot.TheVariants as spots
 use Rattle.declarations.proofs.StackLemmas.{Around, Before, Hash, Attributed, Public, Visible, around_left}
 use Rattle.declarations.proofs.AgreeLemmas.{Agrees, EndsAgree, at_spot}
 
--- the parts, with what they stand in
+-- the parts, with what they are in
 pub data Within : Type 0 where
   Attributes : Within
   Visibility : Within
@@ -61,7 +61,7 @@ rule_of Fields = places.Fields
 rule_of TupleFields = places.TupleFields
 rule_of _ = places.Alone
 
--- a spot around a part
+-- the state of a part
 abbrev pub around : Around → Within → Item → Place
 around spot part item = at_spot (spot_of spot (part_of part)) (item_of part item) (rule_of part)
 

@@ -1,4 +1,4 @@
--- From each place there is a way to an end.
+-- From each state some signs lead to one in which the walk may end.
 use Rattle.std.proofs.Common.{◌≡◌, refl, sym, ◌∙◌, ap, subst, ℕ, suc, zero, ◌-◌, ◌==◌, true, false, List, [], ◌∷◌}
 use Rattle.std.proofs.Common.{◌++◌, Some, arith}
 use Rattle.std.proofs.lemmas.Bool.Decides.{nat_tests}
@@ -28,7 +28,7 @@ use Rattle.declarations.specs.declared.place.State.TheVariants as states
 use Rattle.declarations.specs.declared.types.TypeState.{TypeState}
 use Rattle.declarations.specs.declared.types.TypeState.TheVariants as types
 
--- some signs lead from the place to one where what is read may end
+-- some signs lead from the state to one in which the walk may end
 pub record GoesOn (place : Place) : Type 0 where
   pub more : List Class
   pub final : Place
@@ -41,7 +41,7 @@ in_type item rule state depth = record { item = item; rule = rule; state = state
 abbrev at : Item → Rule → Spot → ℕ → Place
 at item rule spot depth = record { item = item; rule = rule; state = states.At spot; depth = depth }
 
--- by signs that lead to a place that goes on
+-- signs that lead to a state that goes on
 led : (place next : Place) (front : List Class)
     → ((more : List Class) → walk step place (front ++ more) ≡ walk step next more)
     → GoesOn next → GoesOn place
@@ -71,7 +71,7 @@ to_end : (item : Item) (depth : ℕ) (place : Place) (front : List Class)
 to_end item depth place front leads =
     led place (at item places.Alone spots.ItemEnd depth) front leads (item_end item depth)
 
--- a predicate, or none
+-- before a predicate, or where there is none
 predicate : (item : Item) (rule : Rule) (depth : ℕ) → GoesOn (at item rule spots.Predicate depth)
 predicate items.Alone rule depth = here _ refl
 predicate items.Variants rule depth = here _ refl
@@ -96,7 +96,7 @@ predicate items.ExternBlock rule depth = to_end items.ExternBlock depth _ (Brace
 predicate items.Macro rule depth = to_end items.Macro depth _ (Braces ∷ []) (λ more. refl)
 predicate items.Call rule depth = to_end items.Call depth _ (Braces ∷ []) (λ more. refl)
 
--- after a type or bounds, outside of brackets
+-- after a type or bounds, outside of angle brackets
 predicate_end : (item : Item) → GoesOn (in_type item places.Predicate types.Whole 0)
 predicate_end item =
     led (in_type item places.Predicate types.Whole 0) (at item places.Alone spots.Predicate 0) (Comma ∷ [])
@@ -131,7 +131,7 @@ target_end item =
     led (in_type item places.Target types.Whole 0) (in_type item places.Header types.Whole 0)
     (Keyword keywords.For ∷ a_word ∷ []) (λ more. refl) (header_end item)
 
--- a bracket that is open is closed
+-- the state after the `>` of an open angle bracket
 after_close : Item → Rule → ℕ → Place
 after_close item rule depth = record {
   item = item;
@@ -164,7 +164,7 @@ closes item rule (suc depth) last =
     (λ more. walk-cons step (in_type item rule types.Whole (suc depth)) Greater more
     ∙ ap (λ o. after step o more) (closer item rule depth)) (closes item rule depth last))
 
--- in brackets, by what follows without them and after the last of them
+-- within angle brackets, if the states outside of them and after the last of them go on
 within : (item : Item) (rule : Rule) (depth : ℕ) → GoesOn (in_type item rule types.Whole 0)
     → GoesOn (after_close item rule zero) → GoesOn (in_type item rule types.Whole depth)
 within item rule zero without last = without
@@ -240,7 +240,7 @@ closure item rule depth =
     led (at item rule spots.Closure depth) (at item places.Alone spots.ExpressionWhole depth) (Bar ∷ a_word ∷ [])
     (λ more. refl) (here (at item places.Alone spots.ExpressionWhole depth) refl)
 
--- after the last of them
+-- after the last open angle bracket
 closed : (item : Item) (within : Rule) → GoesOn (after_close item within 0)
 unfolding after_close
 closed item places.Angle = here (at item places.Angle spots.ExpressionWhole 0) refl
@@ -299,7 +299,7 @@ from_type item rule types.Binder depth =
     to_whole item rule depth (in_type item rule types.Binder depth) (Greater ∷ a_word ∷ []) (λ more. refl)
 from_type item rule types.Whole depth = whole item rule depth
 
--- in the front of an item
+-- before the name of an item
 from_front : (item : Item) (rule : Rule) (front : Front) (depth : ℕ)
     → GoesOn (at item rule (spots.Front front) depth)
 from_front item rule fronts.Auto depth =
@@ -355,7 +355,7 @@ from_front item rule fronts.UntilFirst depth = to_end item depth _ (a_word ∷ S
 from_front item rule fronts.Until depth = to_end item depth _ (Semicolon ∷ []) (λ more. refl)
 from_front item rule fronts.Semicolon depth = to_end item depth _ (Semicolon ∷ []) (λ more. refl)
 
--- before what stands after attributes and a visibility
+-- after a visibility
 visible : (part : Part) (item : Item) (rule : Rule) (depth : ℕ) → GoesOn (at item rule (spots.Visible part) depth)
 visible parts.Attributes item rule depth = here (at item rule (spots.Visible parts.Attributes) depth) refl
 visible parts.Visibility item rule depth = here (at item rule (spots.Visible parts.Visibility) depth) refl

@@ -30,9 +30,9 @@ use Rattle.declarations.proofs.StackLemmas.{after_brackets, brackets_left, comes
 use Rattle.declarations.proofs.StackLemmas.{range_left, reached, rule_left, state_left}
 use Rattle.declarations.proofs.AgreeLemmas.{Agrees}
 
--- ---- what the grammar has left after a step within a type
+-- ---- what the grammar has left to read after a step within a type
 
--- outside of angle brackets
+-- what is left to read outside of angle brackets
 abbrev outside_left : Option TypeStep → Option (List G)
 outside_left None = None
 outside_left (Some taken) = elim taken.turn [
@@ -50,7 +50,7 @@ outside_same _ (signs.Keyword keywords.Async) = refl
 outside_same _ (signs.Keyword _) = refl
 outside_same _ _ = refl
 
--- within angle brackets, after which such a rule goes on
+-- what is left to read within angle brackets. The rule is the one that goes on after them
 abbrev inside_left : Name → List G → Option TypeStep → Option (List G)
 inside_left n k None = None
 inside_left n k (Some taken) = elim taken.turn [
@@ -69,12 +69,12 @@ inside_same _ n k (signs.Keyword keywords.Async) = refl
 inside_same _ n k (signs.Keyword _) = refl
 inside_same _ n k _ = refl
 
--- whether it is after an operand
+-- whether the state is after an operand
 abbrev is_whole : TypeState → Bool
 is_whole types.Whole = true
 is_whole _ = false
 
--- whether a step out of angle brackets leads to where an operand was read
+-- whether a step at `>` leads to the state after an operand
 abbrev closes_whole : Option TypeStep → Bool
 closes_whole None = true
 closes_whole (Some taken) = elim taken.turn [
@@ -159,9 +159,9 @@ inside_agrees item rule depth n k stay opened close deep state c =
     go None h = rw deep refl
     go (Some taken) h = one taken.state taken.turn h
 
--- ---- what follows a type
+-- ---- after a type
 
--- whether a type ends there, outside of angle brackets, as types alone do
+-- whether a type with this rule ends where a type on its own does
 abbrev is_plain : Rule → Bool
 is_plain places.Target = false
 is_plain places.Angle = false
@@ -169,7 +169,7 @@ is_plain places.CastAngle = false
 is_plain places.ClosureAngle = false
 is_plain _ = true
 
--- where a type may end, the tables go on as the grammar does
+-- after a type, the tables go on as the grammar does
 abbrev FollowAgrees : Item → Rule → Class → Type 0
 FollowAgrees item rule c = elim (is_plain rule) [
   | true ↦ lifted (shifted 0 (follow item rule c)) ≡ reached (move rules (rule_left item rule) c)
@@ -190,7 +190,7 @@ follow_agrees _ item (signs.Keyword keywords.Async) = refl
 follow_agrees _ item (signs.Keyword _) = refl
 follow_agrees _ item _ = refl
 
--- the type of an implementation, which `for` may follow
+-- within the type after `impl`, which `for` may follow
 target_agrees : (state : TypeState) (c : Class)
     → Agrees (range_left state 0 items.Impl places.Target) (step (at_range state 0 items.Impl places.Target) c) c
 target_agrees types.Wanted (signs.Word words.Auto) = refl
@@ -200,9 +200,9 @@ target_agrees _ (signs.Keyword keywords.Async) = refl
 target_agrees _ (signs.Keyword _) = refl
 target_agrees _ _ = refl
 
--- ---- all depths
+-- ---- any number of open angle brackets
 
--- out of the outermost angle brackets
+-- after the outermost angle brackets
 close_agrees : (item : Item) (rule : Rule) → comes_inside item rule ≡ true
     → state_left (after_angle rule types.Whole) 0 item rule
     ≡ Some (flat (rules (after_brackets rule)) ++ rule_left item rule)

@@ -1,4 +1,4 @@
--- Steps of functions that read by rules, one lemma for each word that grammars are made of.
+-- Steps of functions that read by rules: one lemma for each word of which grammars are made.
 use Rattle.std.proofs.Common.{◌≡◌, refl, sym, ◌∙◌, ap, ◌≤◌, Bool, true, false, ◌&&◌, ◌||◌, List, [], ◌∷◌, ◌++◌}
 use Rattle.std.proofs.Common.{ℕ, ◌-◌, Option, append_assoc, append-nil, drop, length, arith}
 use Rattle.std.proofs.lemmas.Bool.{or_right}
@@ -38,12 +38,12 @@ remains_on trees mid rest a b = record {
 pub remains_within : (trees rest : List TokenTree) → Remains rest trees → length rest ≤ length trees
 remains_within trees rest b = let sum = ap length b.whole ∙ length-append (trees_of b.front) rest in omega arith
 
--- the trees before the rest
+-- the trees are what comes before the rest, and the rest
 pub remains_whole : (trees rest : List TokenTree) → Remains rest trees
     → (front : List TokenTree) × (trees ≡ front ++ rest) × (length rest ≤ length trees)
 remains_whole trees rest b = (trees_of b.front, b.whole, remains_within trees rest b)
 
--- where the rest begins
+-- the span of the first tree of the rest
 pub remains_span : (trees left : List TokenTree) (at : ℕ) (span : Option Extent) → Remains left trees
     → at ≡ length trees - length left → span ≡ first_extent left
     → span ≡ extent_at trees at
@@ -69,7 +69,7 @@ classes_none : (trees : List TokenTree) → trees ≡ [] → classes_in trees �
 unfolding classes_in
 classes_none trees e = rw e refl
 
--- ---- what begins
+-- ---- what can begin
 
 pub heads_sign : (g : G) (trees rest : List TokenTree) (class : Class) → BeginsWith trees class rest
     → heads g (classes_in trees) ≡ may_begin g class
@@ -222,7 +222,7 @@ other_reads a b trees (Err left) d e h = other_sticks a b trees left.now d e h
 
 -- ---- what may be left out
 
--- nothing is taken
+-- a rule that can read nothing takes no tree where it cannot begin
 pub stays : (g : G) (trees : List TokenTree) → heads g (classes_in trees) ≡ false → is_nullable g ≡ true
     → Finds g trees trees
 stays g trees h e = record {

@@ -1,4 +1,4 @@
--- From walks over signs to what is read of trees.
+-- From walks over signs to what is read from trees.
 use Rattle.std.proofs.Common.{◌≡◌, refl, sym, ◌∙◌, ap, subst, ℕ, ◌+◌, ◌≤◌, ◌<◌, Bool, true, false, List, [], ◌∷◌, ◌++◌}
 use Rattle.std.proofs.Common.{Option, Some, None, cond}
 use Rattle.std.proofs.Common.{drop, length, arith, append_assoc, append-nil}
@@ -28,7 +28,7 @@ trees-append (sign ∷ front) back =
     ap (λ ts. sign.trees ++ ts) (trees-append front back)
     ∙ sym (append_assoc sign.trees (trees_of front) (trees_of back))
 
--- as many signs at the front of the same are the same
+-- two prefixes of the same signs with the same classes are the same
 pub same_front : (p q r s : List Sign) → p ++ r ≡ q ++ s → classes_of p ≡ classes_of q → p ≡ q
 same_front [] [] r s whole same = refl
 same_front [] (b ∷ q) r s whole same = cc
@@ -40,7 +40,7 @@ same_front (a ∷ p) (b ∷ q) r s whole same =
     let more = same_front p q r s rest classes in
     cc
 
--- the first of the trees of a sign
+-- the first tree of a sign is the first of all trees
 front_name : (trees front rest : List TokenTree) → trees ≡ front ++ rest → length rest < length trees
     → first_name front ≡ first_name trees
 front_name trees [] rest whole fewer =
@@ -56,7 +56,7 @@ pub first_of : (begins : Bool) (trees before : List TokenTree)
 first_of true trees before = refl
 first_of false trees before = refl
 
--- the name after one sign more
+-- the name after one more sign
 name-snoc : (start place next : Place) (name : Option Name) (front : List Sign) (sign : Sign)
     → walk step start (classes_of front) ≡ Some place → step place sign.class ≡ Some next
     → name_of start name (front ++ sign ∷ [])
@@ -82,7 +82,7 @@ name-snoc start place next name (first ∷ front) sign walks steps =
       | Some n ↦ λ h. name-snoc n place next (named start first.class first.trees name) front sign h steps
     ] walks
 
--- with room for the depth to grow
+-- a walk up to the left trees, with room for the number of open brackets to grow
 pub record Walking (start : Place) (trees left named : List TokenTree) (place : Place) : Type 0 where
   pub walked : Walked start trees left place (first_name named)
   pub room : place.depth + length left ≤ length trees
@@ -90,7 +90,7 @@ pub record Walking (start : Place) (trees left named : List TokenTree) (place : 
 pub walked-none : (start : Place) (trees : List TokenTree) → Walked start trees trees start None
 walked-none start trees = record { front = []; read = refl; whole = refl; walks = refl; takes = refl }
 
--- and one sign further
+-- the walk after one more sign
 pub walked-more : (start : Place) (trees left : List TokenTree) (place next : Place) (name : Option Name)
     (class : Class) (rest : List TokenTree) → Walked start trees left place name → BeginsWith left class rest
     → step place class ≡ Some next → Walked start trees rest next (named place class left name)
@@ -118,7 +118,7 @@ walked-more start trees left place next name class rest walked begins steps =
     ∙ sym (name-snoc start place next None walked.front sign walked.walks steps) in
     record { front = front; read = read; whole = whole; walks = walks; takes = takes }
 
--- what follows fronts of one length is the same
+-- two lists of the same length at the end of the same list are the same
 same_back : {A : Type 0} → (a b x y : List A) → a ++ x ≡ b ++ y → length x ≡ length y → x ≡ y
 same_back a b x y whole same =
     let sums = ap length whole in
@@ -126,7 +126,7 @@ same_back a b x y whole same =
     let left = length-append a x in let right = length-append b y in omega arith in
     sym (drop-append_seam a x) ∙ ap (λ n. drop n (a ++ x)) count ∙ ap (drop (length b)) whole ∙ drop-append_seam b y
 
--- something is read where the walk may end
+-- a part is read if the walk stops in a state where it may end
 pub split_read : {name : Option Name} → (start : Place) (trees left part rest : List TokenTree) (place : Place)
     → Walked start trees left place name → ends place ≡ true → Stops step place (classes_of (signs left))
     → trees ≡ part ++ rest → length rest ≡ length left → Reads (IsFrom start) trees part rest
@@ -147,7 +147,7 @@ split_read start trees left part rest place walked ended stops whole counted =
       };
     }
 
--- what the walk ended at is told of what follows
+-- what the walk found before the left trees it also found before the rest
 pub split_told : (start : Place) (trees left part rest : List TokenTree) (place : Place) (name : Option Name)
     → Walked start trees left place name → trees ≡ part ++ rest → length rest ≡ length left
     → Walked start trees rest place name
@@ -171,7 +171,7 @@ split_only start trees part rest here part2 rest2 there =
     append_cancel_left part rest2 rest (ap (λ p. p ++ rest2) (sym parts) ∙ sym there.whole ∙ here.whole) in
     (parts, rests)
 
--- a fault is where the walk can't go on, and may not end
+-- nothing is read if the walk stops in a state where it may not end
 nothing_read : (start : Place) (trees left : List TokenTree) (place : Place) (name : Option Name) (after : List Class)
     → (walked : Walked start trees left place name) → ends place ≡ false → Stops step place after
     → classes_of (signs left) ≡ after

@@ -28,7 +28,7 @@ use Rattle.declarations.specs.declared.types.TypeState.{TypeState}
 use Rattle.declarations.specs.declared.types.TypeState.TheVariants as types
 use Rattle.declarations.specs.declared.types.TypeStep.{TypeStep}
 
--- what is declared around generic parameters
+-- the item that generic parameters are in
 pub data Declared : Type 0 where
   structure : Declared
   tuple : Declared
@@ -49,7 +49,7 @@ not_alone union = refl
 
 -- ---- steps within types and bounds
 
--- a rule after which a type's bracket goes on as any other
+-- a rule after which a type goes on as it does after any other
 pub data Ranged : Type 0 where
   parameter : Ranged
   type_parameter : Ranged
@@ -99,7 +99,7 @@ pub range_none : (i : Item) (r : Ranged) (state : TypeState) (depth : ℕ) (clas
     → step (range i (rule_of r) state depth) class ≡ follows ((depth == 0) && may_end state) i r depth class
 range_none i r state depth class is = rw is refl
 
--- where the type or the bounds may end, and else nowhere
+-- the type or the bounds may end here, outside of angle brackets, or may not end here
 data Outside (state : TypeState) (depth : ℕ) : Type 0 where
   inside : ((depth == 0) && may_end state) ≡ false → Outside state depth
   outside : depth ≡ 0 → may_end state ≡ true → Outside state depth
@@ -114,7 +114,7 @@ where_outside state depth =
       | false ↦ λ h. inside h
     ] refl
 
--- the places of a region, within types and without
+-- the part and the whole take the same steps within types and bounds
 abbrev TakesRange : {G : Type 0} → (G → Place) → (G → Place) → (Class → Option Place) → Item → Ranged → TypeState → ℕ
     → Class → Type 0
 TakesRange outer inner goes i r state depth class =
@@ -176,7 +176,7 @@ takes_range outer inner goes i r places state depth class outers inners follow_t
           ]
     ] refl
 
--- a type that begins at a spot
+-- the state in which a type begins
 abbrev begun : Item → Ranged → Spot → Place
 begun i r spot = record { item = i; rule = rule_of r; state = states.At spot; depth = 0 }
 
@@ -251,7 +251,7 @@ closing_alone signs.Parentheses = refl
 closing_alone signs.Restriction = refl
 closing_alone class = refl
 
--- what follows generic parameters, or none, is no type
+-- after generic parameters, or where there are none, no type begins
 pub plain_spot : (kind : Declared) (s : Option Shift) (class : Class)
     → else_type s (at (item_of kind) spots.AfterGenerics) spots.AfterGenerics class ≡ shifted 0 s
 plain_spot kind (Some s) class = refl
@@ -265,7 +265,7 @@ plain_generics : (kind : Declared) (s : Option Shift) (class : Class)
 plain_generics kind None class = refl
 plain_generics kind (Some s) class = refl
 
--- where the part ends and the whole goes on
+-- the part ends and the whole goes on
 takes_end : {G : Type 0} (outer inner : G → Place) (after whole part : Option Place) (ended : Bool) → part ≡ None
     → ended ≡ true → whole ≡ after → Takes outer inner after ended whole part
 takes_end outer inner after whole part ended none may same =
@@ -371,7 +371,7 @@ spotted_takes kind const_minus class = minus_takes (item_of kind) class
 spotted_takes kind const_end class = end_takes (item_of kind) class
 spotted_takes kind closed class = closed_takes kind class
 
--- what follows the type or the bounds of a parameter
+-- the step after the type or the bounds of a parameter
 abbrev FollowsParameter : Item → Ranged → Class → Type 0
 FollowsParameter i r class =
     (ended : Bool) → Takes (generic_place i) (generic_place items.Alone) (after_generics i class) ended
@@ -410,7 +410,7 @@ range_takes i (of_const state depth) class spot =
 generic_takes : (kind : Declared) (g : GenericPlace) (class : Class) → TakesGeneric (item_of kind) g class
 generic_takes kind g class = range_takes (item_of kind) g class (λ s. spotted_takes kind s class)
 
--- only lists of fields and variants end before one
+-- an item may not end before a generic parameter
 parameter_unended : (kind : Declared) → ends (at (item_of kind) (spots.Before parts.Parameter)) ≡ false
 parameter_unended structure = refl
 parameter_unended tuple = refl
@@ -450,7 +450,7 @@ clause_place i predicate = at i spots.Predicate
 clause_place i (of_type state depth) = range i rules.Bounded state depth
 clause_place i (of_bounds state depth) = range i rules.Predicate state depth
 
--- the body follows, and no fields in parentheses
+-- the step after a where clause, to the body of the item
 abbrev pub after_clause : Item → Class → Option Place
 after_clause i class = shifted 0 (body i class)
 

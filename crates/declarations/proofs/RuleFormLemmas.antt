@@ -1,4 +1,4 @@
--- What a function that reads by a rule promises, in the words of forms.
+-- The contract of a function that reads by a rule, in terms of forms.
 use Rattle.std.proofs.Common.{◌≡◌, refl, sym, ◌∙◌, ap, subst, ℕ, ◌+◌, ◌<◌, false, List, [], ◌∷◌}
 use Rattle.std.proofs.Common.{◌++◌, Option}
 use Rattle.std.proofs.Common.{Some, None, append-nil, length, arith}
@@ -59,7 +59,7 @@ stop_here : (k : List G) (rest : List Class)
 stop_here k [] f = tt
 stop_here k (c ∷ rest) f = ap stack_of (f c rest refl)
 
--- ---- pieces of a rule with which a reading may begin
+-- ---- pieces of a rule that a reading can begin with
 
 module _ (g : G) (start : IsStart rules follows (g ∷ [])) where
   abbrev Form : List Class → List Class → Type 0
@@ -75,7 +75,7 @@ module _ (g : G) (start : IsStart rules follows (g ∷ [])) where
         stops = stop_here w.taken.1 rest (piece_stops rules follows well_formed (g ∷ []) start piece rest p w);
       }
 
-  -- what is found is a piece
+  -- what is found is a piece of the rule
   found_piece : (cs piece rest : List Class) (events : List (Event Class Label)) → find rules g cs ≡ Past events rest
       → cs ≡ piece ++ rest
       → ByRule g piece rest
@@ -121,9 +121,9 @@ module _ (g : G) (start : IsStart rules follows (g ∷ [])) where
       append_cancel_left part rest2 rest (ap (λ p. p ++ rest2) (sym parts) ∙ sym there.whole ∙ here.whole) in
       (parts, rests)
 
-  -- ---- where nothing is read
+  -- ---- when nothing can be read
 
-  -- the front of a walk can go on to a piece
+  -- other signs can complete the prefix that a walk took
   front_goes : (front : List Class) (taken : List (Event Class Label) × List G)
       → machine.walk rules (g ∷ []) front ≡ Some taken
       → IsFront (ByRule g) front
@@ -197,7 +197,7 @@ module _ (g : G) (start : IsStart rules follows (g ∷ [])) where
             (sym all ∙ ap classes_of reads.read ∙ classes-append reads.piece (signs rest)) reads.stands;
       }
 
-  -- ---- a part has a tree at least
+  -- ---- a part has at least one tree
 
   piece_some : (trees rest : List TokenTree) (piece : List Sign) → signs trees ≡ piece ++ signs rest
       → ByRule g (classes_of piece) (classes_of (signs rest)) → machine.is_nullable g ≡ false
@@ -213,7 +213,7 @@ module _ (g : G) (start : IsStart rules follows (g ∷ [])) where
       let all = length-append sign.trees (trees_of piece) in
       omega arith
 
-  -- what is read of a rule that derives a sign leaves fewer trees
+  -- what is read by a rule that reads at least one sign has at least one tree
   pub rule_fewer : (trees part rest : List TokenTree) → machine.is_nullable g ≡ false
       → Reads (ByRule g) trees part rest
       → length rest < length trees

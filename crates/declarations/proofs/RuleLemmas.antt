@@ -1,4 +1,4 @@
--- The grammar passes the tests of the theorem.
+-- The grammar passes the tests that `one_reading` requires.
 use Rattle.std.proofs.Common.{◌≡◌, refl, Bool, true, false, List, [], ◌∷◌, Option, Some, None, IfSome}
 use Rattle.std.proofs.lemmas.Bool.{both_ways}
 use Rattle.grammars.specs.Grammar.{Event, Derives}
@@ -47,7 +47,7 @@ productive _ = refl
 
 -- ---- some signs that each rule reads
 
--- a name
+-- the sign of a name
 abbrev plain : Class
 plain = signs.Word words.Plain
 

@@ -14,7 +14,7 @@ use Rattle.declarations.specs.Signs.{classes_of, trees_of}
 use Rattle.declarations.specs.Signs.{is_pub, is_visibility, may_restrict, restricts, restricts_in}
 use Rattle.declarations.specs.declared.class.Class.{Class}
 
--- the signs of trees, by whether the first two are read as one
+-- the signs of trees, if it is known whether the first two trees are one sign
 abbrev pub paired : Option Class → TokenTree → TokenTree → List TokenTree → List Sign
 paired None first second after = record { class = tree_class first; trees = first ∷ [] } ∷ signs (second ∷ after)
 paired (Some class) first second after = record { class = class; trees = first ∷ second ∷ [] } ∷ signs after
@@ -27,7 +27,7 @@ signs-cons first second after =
       | Some class ↦ record { class = class; trees = first ∷ second ∷ [] } ∷ signs_after None after
     ]) ≡ paired o first second after) [ None ↦ refl | Some class ↦ refl ]
 
--- two trees that are read as one
+-- the first two trees are read as one sign
 pub begins_two : (trees : List TokenTree) (class : Class) (after : List TokenTree) (first second : TokenTree)
     (rest : List TokenTree) → trees ≡ first ∷ rest → rest ≡ second ∷ after → pair_class first second ≡ Some class
     → BeginsWith trees class after
@@ -40,7 +40,7 @@ begins_two trees class after first second rest whole next pair =
       read = ap signs all ∙ signs-cons first second after ∙ ap (λ o. paired o first second after) pair;
     }
 
--- one alone, before others
+-- the first tree is a sign of its own, and others follow
 pub begins_one : (trees : List TokenTree) (rest : List TokenTree) (first second : TokenTree)
     (after : List TokenTree) → trees ≡ first ∷ rest → rest ≡ second ∷ after → pair_class first second ≡ None
     → BeginsWith trees (tree_class first) rest
@@ -55,7 +55,7 @@ begins_one trees rest first second after whole next pair =
           ∙ ap (λ ts. record { class = tree_class first; trees = first ∷ [] } ∷ signs ts) (sym next);
     }
 
--- the last one
+-- the first tree is a sign of its own, and is the last tree
 pub begins_last : (trees : List TokenTree) (rest : List TokenTree) (first : TokenTree) → trees ≡ first ∷ rest
     → length rest ≡ 0 → BeginsWith trees (tree_class first) rest
 begins_last trees [] first whole none = record {
@@ -106,7 +106,7 @@ trees_after (Some first) (tree ∷ rest) =
       | Some class ↦ ap (λ ts. first ∷ tree ∷ ts) (trees_after None rest)
     ]
 
--- each tree is in one of the signs
+-- the trees of the signs are all trees
 pub trees_of-signs : (trees : List TokenTree) → trees_of (signs trees) ≡ trees
 trees_of-signs trees = trees_after None trees
 

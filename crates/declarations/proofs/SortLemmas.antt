@@ -18,7 +18,7 @@ use Rattle.declarations.specs.declared.class.Class.{Class}
 use Rattle.declarations.specs.declared.class.Keyword.{Keyword}
 use Rattle.declarations.specs.declared.class.Class.TheVariants as signs
 
--- what the trees of a sign are
+-- the kind of trees that a sign has
 pub data Sort : Type 0 where
   names : Sort
   groups : Sort
@@ -71,7 +71,7 @@ abbrev choice : {A : Type 0} → List (Bool × A) → A → A
 choice [] default = default
 choice (row ∷ rows) default = if row.0 then row.1 else choice rows default
 
--- what all values of a choice have it has
+-- what holds of all values of a choice
 abbrev AllRows : {A : Type 0} → (A → Type 0) → List (Bool × A) → Type 0
 AllRows P [] = Unit {0}
 AllRows P (row ∷ rows) = P row.1 × AllRows P rows
@@ -196,7 +196,7 @@ pair_sort (Group g) second = tt
 pair_sort (Ident i) second = tt
 pair_sort (Literal l) second = tt
 
--- what all groups without delimiters have
+-- what holds of both classes of groups without delimiters holds of each such group
 pub unseen : (P : Class → Type 0) (inside : Forest) → P signs.Visibility → P signs.Invisible
     → P (unseen_class inside)
 unseen P inside visibility other = either P (is_visibility inside) signs.Visibility signs.Invisible visibility other
@@ -214,7 +214,7 @@ pub record IsTree (trees : List TokenTree) (sign : Sign) (tree : TokenTree) : Ty
   pub whole : trees ≡ tree ∷ more
   pub is : sign ≡ record { class = tree_class tree; trees = tree ∷ [] }
 
--- the first sign is one tree, or two
+-- the first sign is one tree or two trees
 pub data FirstTree (trees : List TokenTree) (sign : Sign) : Type 0 where
   one : (tree : TokenTree) → IsTree trees sign tree → FirstTree trees sign
   two : sort_of sign.class ≡ pairs → FirstTree trees sign
@@ -279,12 +279,12 @@ group_tree trees sign (one (Literal l) is) sort =
     let same : groups ≡ literals = clash sign (Literal l) groups literals (ap (λ s. s.class) is.is) sort refl in
     cc
 
--- a keyword or a word is an identifier
+-- a sign that is a keyword or a word is an identifier
 pub named : (trees : List TokenTree) (sign : Sign) (after : List Sign) → signs trees ≡ sign ∷ after
     → sort_of sign.class ≡ names → (ident : Name) × IsTree trees sign (Ident ident)
 named trees sign after read sort = name_tree trees sign (first_tree trees sign after read) sort
 
--- and a group a group
+-- a sign with the class of a group is a group
 pub grouped : (trees : List TokenTree) (sign : Sign) (after : List Sign) → signs trees ≡ sign ∷ after
     → sort_of sign.class ≡ groups → (g : Grouped) × IsTree trees sign (Group g)
 grouped trees sign after read sort = group_tree trees sign (first_tree trees sign after read) sort

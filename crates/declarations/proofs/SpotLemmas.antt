@@ -1,4 +1,4 @@
--- Where the tables come to a spot, they take the steps of the grammar.
+-- In each state that the tables reach outside of types, they take the steps of the grammar.
 use Rattle.std.proofs.Common.{refl, true, false}
 use Rattle.declarations.specs.Grammar.{step}
 use Rattle.declarations.specs.declared.class.Class.{Class}

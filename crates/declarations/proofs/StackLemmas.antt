@@ -1,4 +1,4 @@
--- What the grammar has still to read at a place of the tables: a flat stack.
+-- What the grammar still has to read in a state of the tables, as a flat stack.
 use Rattle.std.proofs.Common.{ℕ, zero, suc, Bool, true, false, List, [], ◌∷◌, ◌++◌, Option, Some, None}
 use Rattle.std.proofs.Common.{if◌then◌else◌}
 use Rattle.grammars.specs.Grammar.{To, Either, Many, further, perhaps}
@@ -37,7 +37,7 @@ use Rattle.declarations.specs.declared.types.TypeState.TheVariants as types
 
 -- ---- after the parts of an item
 
--- what follows the where clause of an item
+-- what is left to read after the where clause of an item
 abbrev pub body_left : Item → List G
 body_left items.Alone = []
 body_left items.Variants = []
@@ -55,11 +55,11 @@ body_left items.Static = flat_all (bodies.constant_value ∷ bodies.semicolon �
 body_left items.Alias = flat_all (bodies.alias_value ∷ bodies.semicolon ∷ [])
 body_left _ = flat bodies.braces
 
--- what follows the header of an item
+-- what is left to read after the header of an item
 abbrev pub header_left : Item → List G
 header_left item = if has_where item then parts_of.where_clause ∷ body_left item else body_left item
 
--- what follows its generic parameters
+-- what is left to read after the generic parameters of an item
 abbrev pub generics_left : Item → List G
 generics_left items.Struct = flat bodies.struct_rest
 generics_left items.Function = flat bodies.function_rest
@@ -71,22 +71,22 @@ generics_left items.Trait = flat bodies.trait_rest
 generics_left items.Impl = flat (impls.target true)
 generics_left item = header_left item
 
--- what follows a generic parameter
+-- what is left to read after a generic parameter
 abbrev pub parameter_left : Item → List G
 parameter_left item = further parts_of.parameter comma ∷ one signs.Greater ∷ generics_left item
 
--- what follows a predicate
+-- what is left to read after a predicate
 abbrev pub predicate_left : Item → List G
 predicate_left item = further parts_of.predicate comma ∷ body_left item
 
--- what follows a variant
+-- what is left to read after a variant
 abbrev pub variant_left : Item → List G
 variant_left items.Variants = further parts_of.variant comma ∷ []
 variant_left _ = []
 
 -- ---- types
 
--- what follows a type or bounds
+-- what is left to read after a type or bounds
 abbrev pub rule_left : Item → Rule → List G
 rule_left item places.Alone = []
 rule_left item places.Fields = further parts_of.field comma ∷ []
@@ -102,35 +102,35 @@ rule_left item places.Angle = variant_left item
 rule_left item places.CastAngle = variant_left item
 rule_left item places.ClosureAngle = variant_left item
 
--- where the type stands
+-- the context of the type
 abbrev pub context_of : Rule → Context
 context_of places.Target = Target
 context_of _ = Outside
 
--- what goes on after the outermost angle brackets
+-- the rule that goes on after the outermost angle brackets
 abbrev pub after_brackets : Rule → Name
 after_brackets places.Angle = ExpressionWhole
 after_brackets places.CastAngle = CastWhole
 after_brackets places.ClosureAngle = Closure
 after_brackets rule = Range types.Whole (context_of rule)
 
--- what follows within so many angle brackets and one
+-- what is left to read within so many angle brackets and one more
 abbrev pub brackets_left : Rule → ℕ → List G
 brackets_left rule zero = To (is signs.Greater) (after_brackets rule) ∷ []
 brackets_left rule (suc depth) = To (is signs.Greater) (Range types.Whole Inside) ∷ brackets_left rule depth
 
--- whether it is an implementation
+-- whether the item is an implementation
 abbrev pub is_impl : Item → Bool
 is_impl items.Impl = true
 is_impl _ = false
 
--- whether a discriminant stands in it: a variant alone, or in a list
+-- whether a discriminant can be in the item: a variant on its own, or a list of variants
 abbrev pub has_discriminant : Item → Bool
 has_discriminant items.Alone = true
 has_discriminant items.Variants = true
 has_discriminant _ = false
 
--- whether the tables come to such a type within angle brackets
+-- whether the tables reach such a type within angle brackets
 abbrev pub comes_inside : Item → Rule → Bool
 comes_inside item places.Target = is_impl item
 comes_inside item places.Angle = has_discriminant item
@@ -138,7 +138,7 @@ comes_inside item places.CastAngle = has_discriminant item
 comes_inside item places.ClosureAngle = has_discriminant item
 comes_inside item _ = true
 
--- and outside of them
+-- whether the tables reach such a type outside of angle brackets
 abbrev pub comes_outside : Item → Rule → Bool
 comes_outside item places.Angle = false
 comes_outside item places.CastAngle = false
@@ -154,12 +154,12 @@ range_left state (suc depth) item rule =
 
 -- ---- parts with attributes and a visibility
 
--- one more in front, where the tables come
+-- one more grammar on the stack, if the tables reach the state
 abbrev pub ahead_of : G → Option (List G) → Option (List G)
 ahead_of g None = None
 ahead_of g (Some k) = Some (g ∷ k)
 
--- after a visibility
+-- what is left to read after a visibility
 abbrev pub visible_left : Part → Item → Rule → Option (List G)
 visible_left parts.Visibility item rule = Some []
 visible_left parts.Field item places.Alone = Some (word ∷ one signs.Colon ∷ type ∷ [])
@@ -173,14 +173,14 @@ visible_left parts.TypeItem item rule = Some (items_of.type_keyword ∷ [])
 visible_left parts.AnyItem item rule = Some (items_of.declaration ∷ [])
 visible_left _ item rule = None
 
--- after `pub`
+-- what is left to read after `pub`
 abbrev pub public_left : Part → Item → Rule → Option (List G)
 public_left parts.TupleField item places.Alone = Some (parts_of.public_type ∷ [])
 public_left parts.TupleField item places.TupleFields = Some (parts_of.public_type ∷ rule_left item places.TupleFields)
 public_left parts.TupleField item rule = None
 public_left part item rule = ahead_of parts_of.restriction (visible_left part item rule)
 
--- after attributes, where no more of them stand
+-- what is left to read after the last attribute
 abbrev pub attributed_left : Part → Item → Rule → Option (List G)
 attributed_left parts.Attributes item rule = Some []
 attributed_left parts.TupleField item places.Alone = Some (parts_of.tuple_field_rest ∷ [])
@@ -192,7 +192,7 @@ attributed_left parts.Visibility item rule = None
 attributed_left parts.TupleField item rule = None
 attributed_left part item rule = ahead_of parts_of.visibility (visible_left part item rule)
 
--- before a part, or a list of such parts
+-- what is left to read before a part, or before a list of such parts
 abbrev pub before_left : Part → Item → Rule → Option (List G)
 before_left parts.Visibility item rule = Some (parts_of.visibility ∷ [])
 before_left parts.Field item places.Fields = Some (parts_of.fields ∷ [])
@@ -201,7 +201,7 @@ before_left parts.Variant items.Variants rule = Some (parts_of.variants ∷ [])
 before_left parts.Parameter item rule = Some (parts_of.parameters ∷ one signs.Greater ∷ generics_left item)
 before_left part item rule = ahead_of parts_of.attributes (attributed_left part item rule)
 
--- the spots around a part
+-- the states around a part
 pub data Around : Type 0 where
   Before : Around
   Hash : Around
@@ -209,7 +209,7 @@ pub data Around : Type 0 where
   Public : Around
   Visible : Around
 
--- whether the tables come to such a part, under this rule
+-- whether the tables reach such a part with this rule
 abbrev pub fits : Part → Rule → Item → Bool
 fits parts.Variant places.Alone item = has_discriminant item
 fits part places.Alone item = true
@@ -217,7 +217,7 @@ fits parts.Field places.Fields item = true
 fits parts.TupleField places.TupleFields item = true
 fits part rule item = false
 
--- what is left at such a spot
+-- what is left to read in a state around a part
 abbrev pub around_in : Around → Part → Item → Rule → Option (List G)
 around_in Before part item rule = before_left part item rule
 around_in Hash part item rule =
@@ -229,9 +229,9 @@ around_in Visible part item rule = visible_left part item rule
 abbrev pub around_left : Around → Part → Item → Rule → Option (List G)
 around_left spot part item rule = if fits part rule item then around_in spot part item rule else None
 
--- ---- fronts of items
+-- ---- before the names of items
 
--- after a word that may be in the path of a macro call, or begin an item
+-- what is left to read after a word that can be in the path of a macro call, or can begin another item
 abbrev pub word_left : Word → List G
 word_left words.Auto = Either items_of.call fronts_of.auto_front ∷ []
 word_left words.Default = Either items_of.call fronts_of.default_front ∷ []
@@ -239,7 +239,7 @@ word_left words.Safe = Either items_of.call fronts_of.safe_front ∷ []
 word_left words.Union = Either items_of.call (seq (bodies.name ∷ parts_of.generics ∷ bodies.braced ∷ [])) ∷ []
 word_left words.Plain = items_of.call ∷ []
 
--- in the front of an item
+-- what is left to read before the name of an item
 abbrev pub front_left : Front → Item → Option (List G)
 front_left fronts.Auto item = Some (flat fronts_of.auto_front)
 front_left fronts.Default item = Some (flat fronts_of.default_front)
@@ -278,15 +278,15 @@ front_left fronts.Until item = Some (Many bodies.not_semicolon ∷ flat bodies.s
 front_left fronts.Semicolon item = Some (flat bodies.semicolon)
 front_left _ item = None
 
--- ---- all spots
+-- ---- all states outside of types and bounds
 
--- in the expression of a discriminant, of a variant alone or in a list
+-- what is left to read in the expression of a discriminant
 abbrev pub expression_left : Item → List G → Option (List G)
 expression_left items.Alone k = Some k
 expression_left items.Variants k = Some (k ++ variant_left items.Variants)
 expression_left _ k = None
 
--- before the generic parameters of an item, or of nothing
+-- what is left to read before the generic parameters of an item, or of a part on its own
 abbrev pub before_generics : Item → Option (List G)
 before_generics items.Alone = Some (parts_of.generics ∷ generics_left items.Alone)
 before_generics items.Struct = Some (parts_of.generics ∷ generics_left items.Struct)
@@ -298,7 +298,7 @@ before_generics items.Alias = Some (parts_of.generics ∷ generics_left items.Al
 before_generics items.Trait = Some (parts_of.generics ∷ generics_left items.Trait)
 before_generics _ = None
 
--- what is left at a spot, with no angle bracket open
+-- what is left to read in a state outside of types and bounds, with no angle bracket open
 abbrev pub spot_left : Spot → Item → Rule → Option (List G)
 spot_left (spots.Before part) item rule = around_left Before part item rule
 spot_left (spots.Hash part) item rule = around_left Hash part item rule
@@ -338,9 +338,9 @@ spot_left spots.ItemEnd item rule = Some []
 spot_left spots.Inner item rule = Some (parts_of.inner_attributes ∷ [])
 spot_left spots.InnerHash item rule = Some (one signs.Brackets ∷ parts_of.inner_attributes ∷ [])
 
--- ---- all places
+-- ---- all states
 
--- what is left in a state, with so many angle brackets open
+-- what is left to read in a state, with so many angle brackets open
 abbrev pub state_left : State → ℕ → Item → Rule → Option (List G)
 state_left (states.Range state) depth item rule = range_left state depth item rule
 state_left (states.At spot) zero item rule = spot_left spot item rule
@@ -348,16 +348,16 @@ state_left (states.At (spots.Front fronts.ImplAngle)) (suc zero) items.Impl rule
 state_left (states.At (spots.Front fronts.ImplWord)) (suc zero) items.Impl rule = Some (impls.impl_word ∷ [])
 state_left _ _ _ _ = None
 
--- what is left at a place, if the tables come there
+-- what is left to read in a state, if the tables reach it
 abbrev pub left_at : Place → Option (List G)
 left_at place = state_left place.state place.depth place.item place.rule
 
--- what is left after a step of the tables, if there is one, and if the tables come there
+-- what is left to read after a step of the tables, if there is one, and if the tables reach the state
 abbrev pub lifted : Option Place → Option (Option (List G))
 lifted None = None
 lifted (Some place) = Some (left_at place)
 
--- a stack after a step of the grammar, as one that the tables come to
+-- a stack after a step of the grammar, as one that the tables reach
 abbrev pub reached : Option (List G) → Option (Option (List G))
 reached None = None
 reached (Some k) = Some (Some k)

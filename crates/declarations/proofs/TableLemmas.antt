@@ -91,14 +91,14 @@ walk_lifted place k e (c ∷ signs) =
 
 -- ---- pieces
 
--- the tables at a place, and the machine at what it has left
+-- the tables in a state, and the machine with what is left to read in it
 pub record Meets (place : Place) (k : List G) : Type 0 where
   pub left : left_at place ≡ Some (flat_all k)
 
 pub meet_ends : (place : Place) (k : List G) → Meets place k → ends place ≡ machine.ends k
 meet_ends place k m = ends_same place (flat_all k) m.left ∙ ends_flat rules k
 
--- where the tables walk, the machine does
+-- the machine takes each walk that the tables take
 pub table_walk : (start : Place) (g : G) → Meets start (g ∷ []) → (signs : List Class) (last : Place)
     → walk step start signs ≡ Some last
     → (taken : List (Event Class Label) × List G) ×
@@ -120,7 +120,7 @@ table_walk start g m signs last e = go (machine.walk rules (g ∷ []) signs) ref
         let same : left_at last ≡ Some (flat_all taken.1) = cc in
         (taken, h, record { left = same })
 
--- and where the machine does, the tables do
+-- the tables take each walk that the machine takes
 machine_walk : (start : Place) (g : G) → Meets start (g ∷ []) → (signs : List Class)
     (taken : List (Event Class Label) × List G) → machine.walk rules (g ∷ []) signs ≡ Some taken
     → (last : Place) × (walk step start signs ≡ Some last) × Meets last taken.1
@@ -139,7 +139,7 @@ machine_walk start g m signs taken e = go (walk step start signs) refl
         let same : left_at last ≡ Some (flat_all taken.1) = cc in
         (last, h, record { left = same })
 
--- where the tables have no step, the machine has none
+-- if the tables have no step, then the machine has none
 pub no_step : (place : Place) (k : List G) → Meets place k → (c : Class) → step place c ≡ None
     → machine.step rules k c ≡ None
 no_step place k m c e = go (machine.step rules k c) refl
@@ -172,7 +172,7 @@ module _ (good : IsWellFormed rules follows) (place : Place) (g : G) (start : Is
   meets : Meets place (g ∷ [])
   meets = record { left = left }
 
-  -- a walk of the tables is a piece
+  -- a walk of the tables is a piece of the rule
   form_piece : (piece rest : List Class) → IsFrom place piece rest → IsPiece rules (g ∷ []) piece rest
   form_piece piece rest f =
       let at = table_walk place g meets piece f.last f.walks in
@@ -186,7 +186,7 @@ module _ (good : IsWellFormed rules follows) (place : Place) (g : G) (start : Is
       stop last [] s c more e = absurd cc
       stop last (d ∷ rest) s c more e = let same : d ≡ c = cc in ap (step last) (sym same) ∙ s
 
-  -- a piece is a walk of the tables
+  -- a piece of the rule is a walk of the tables
   piece_form : (piece rest : List Class) → IsPiece rules (g ∷ []) piece rest → IsFrom place piece rest
   piece_form piece rest p =
       let w = piece_walk rules follows good (g ∷ []) start piece rest p in

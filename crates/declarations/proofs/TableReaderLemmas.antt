@@ -1,4 +1,4 @@
--- What the walk over the tables reads, as an answer of a function that reads by a rule.
+-- What the walk over the tables reads, as the result of a function that reads by a rule.
 use Rattle.std.proofs.Common.{◌≡◌, refl, sym, ◌∙◌, ap, Bool, true, false, List, [], ◌∷◌, ◌++◌, Some, None}
 use Rattle.std.proofs.Common.{if◌then◌else◌}
 use Rattle.std.specs.Prelude.{MatchResult, Result, Ok, Err}
@@ -63,7 +63,7 @@ scan_walk k (c ∷ cs) left taken e = go (machine.step rules k c) refl e (λ j t
     go None s e f = absurd cc
     go (Some t) s e f = later t s (machine.walk rules t.1 cs) refl e (f t.1)
 
--- where the walk stops
+-- what the machine finds where the walk stops
 scan_stops : (k : List G) (left : List Class) (ended : Bool) → machine.ends k ≡ ended
     → ((c : Class) (more : List Class) → left ≡ c ∷ more → machine.step rules k c ≡ None)
     → scan rules k left ≡ (if ended then Past (machine.closing k) left else Stuck left)
@@ -72,7 +72,7 @@ scan_stops k (c ∷ left) ended e f =
     scan_step rules k c left None (f c left refl)
     ∙ ap (λ b. if b then Past (machine.closing k) (c ∷ left) else Stuck (c ∷ left)) e
 
--- ---- answers
+-- ---- results
 
 no_steps : (start : Place) (ended : Bool) (trees left : List TokenTree) (s : StopsAt start ended trees left)
     (k : List G) → Meets s.place k → (c : Class) (more : List Class) → classes_of (signs left) ≡ c ∷ more
@@ -87,7 +87,7 @@ no_steps start ended trees left s k m c more e =
     stop last (d ∷ rest) s c more e = let same : d ≡ c = cc in ap (step last) (sym same) ∙ s
 
 module _ (place : Place) (g : G) (left_there : left_at place ≡ Some (flat_all (g ∷ []))) where
-  -- what is scanned where the walk stops
+  -- what the machine finds in the trees up to where the walk stops
   table_scan : (ended : Bool) (trees left : List TokenTree) (s : StopsAt place ended trees left)
       → (taken : List (Event Class Label) × List G) × (find rules g (classes_in trees)
       ≡ front taken.0 (if ended then Past (machine.closing taken.1) (classes_in left) else Stuck (classes_in left)))

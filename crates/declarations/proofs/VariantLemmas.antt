@@ -1,4 +1,4 @@
--- The parts of a variant that is read whole.
+-- The parts of a variant that is all of the trees.
 use Rattle.std.proofs.Common.{◌≡◌, refl, sym, ◌∙◌, ap, subst, true, false, List, [], ◌∷◌, ◌++◌, Some}
 use Rattle.std.proofs.Common.{inl, inr, ◌⊎◌}
 use Rattle.pm_token.specs.Leaf.{Name}
@@ -32,7 +32,7 @@ use Rattle.declarations.specs.declared.place.Item.TheVariants as items
 use Rattle.declarations.specs.declared.place.Place.{Place}
 use Rattle.declarations.specs.declared.place.Spot.TheVariants as spots
 
--- ---- its name
+-- ---- the name of a variant
 
 pub record NamedVariant (trees : List TokenTree) : Type 0 where
   pub ident : Name
@@ -64,9 +64,9 @@ named_variant trees begins =
       left = subst (λ p. Goes p begins.more) led.is begins.left;
     }
 
--- ---- its discriminant
+-- ---- the discriminant of a variant
 
--- nothing, or `=` and an expression
+-- there are no trees, or they are `=` and an expression
 pub data Value (trees : List TokenTree) : Type 0 where
   nothing : trees ≡ [] → Value trees
   equals : (mark : TokenTree) (more : List TokenTree) → trees ≡ mark ∷ more → tree_class mark ≡ signs.Equals
@@ -90,7 +90,7 @@ equals_value trees more sign next read whole class is goes =
     equals mark.tree more (whole ∙ ap (λ ts. ts ++ more) one) (sym (ap (λ s. s.class) mark.is) ∙ class)
     (reads_whole (at items.Alone spots.Expression) more (subst (λ p. Goes p more) is goes))
 
--- the first sign of what is left, if any is
+-- there are no trees left, or they begin with a sign
 data Left (place : Place) (trees : List TokenTree) : Type 0 where
   ended : trees ≡ [] → Left place trees
   goes_on : Begins (step place) trees → Left place trees
@@ -110,15 +110,15 @@ value_left trees (goes_on begins) =
 pub value_of : (trees : List TokenTree) → Goes (at items.Alone spots.VariantEnd) trees → Value trees
 value_of trees goes = value_left trees (left_of (at items.Alone spots.VariantEnd) trees (signs trees) refl goes)
 
--- ---- its fields
+-- ---- the fields of a variant
 
--- no group, or the fields in their delimiters
+-- the trees do not begin with a group, or they begin with the fields in their delimiters
 pub data FieldsLeft (trees : List TokenTree) : Type 0 where
   unit : ((g : Grouped) (rest : List TokenTree) → trees ≡ Group g ∷ rest → ⊥) → Value trees → FieldsLeft trees
   within : (g : Grouped) (rest : List TokenTree) → trees ≡ Group g ∷ rest
       → (g.delimiter ≡ delimiters.Parenthesis) ⊎ (g.delimiter ≡ delimiters.Brace) → Value rest → FieldsLeft trees
 
--- what its name leads to
+-- the step after the name of a variant
 abbrev AfterName : Class → Place → Type 0
 AfterName signs.Parentheses next = next ≡ at items.Alone spots.VariantEnd
 AfterName signs.Restriction next = next ≡ at items.Alone spots.VariantEnd
@@ -217,7 +217,7 @@ value_is (tree ∷ trees) discriminant (equals mark more whole class reads) has 
     let rests : more ≡ discriminant = cc in
     (has, ap tree_class (sym marks) ∙ class, subst (ReadsAll IsExpression) rests reads)
 
--- the fields that were found, and what is left
+-- the fields that were found, and the trees after them
 record Fielded (trees : List TokenTree) (found : Fields) (rest : List TokenTree) : Type 0 where
   whole : trees ≡ with_fields found rest
   delimited : AreDelimited found

@@ -1,10 +1,10 @@
--- Walks over signs: at most one stands at a place, and where none goes on.
+-- Walks over signs: at most one begins in a state, and when none does.
 use Rattle.std.proofs.Common.{◌≡◌, refl, sym, ◌∙◌, ap, subst, Bool, true, false, cond, List, [], ◌∷◌, ◌++◌, Option}
 use Rattle.std.proofs.Common.{Some, None, append_assoc, append-nil}
 use Rattle.declarations.specs.Walk.{walk, Stops, IsWalk, IsFront}
 use Rattle.declarations.specs.declared.class.Class.{Class}
 
--- the walk from a place, and what follows it
+-- a walk that a sign comes before
 abbrev pub onto : Class → Option (List Class × List Class) → Option (List Class × List Class)
 onto sign None = None
 onto sign (Some found) = Some (sign ∷ found.0, found.1)
@@ -21,7 +21,7 @@ find step ends place (sign ∷ signs) =
       | Some next ↦ onto sign (find step ends next signs)
     ]
 
--- what one step more leads to
+-- the walk after one step
 abbrev pub after : {P : Type 0} → (P → Class → Option P) → Option P → List Class → Option P
 after step None signs = None
 after step (Some place) signs = walk step place signs
@@ -40,7 +40,7 @@ walk-append step place (sign ∷ front) back =
     ≡ after step (elim o [ None ↦ None | Some next ↦ walk step next front ]) back)
     [ None ↦ refl | Some next ↦ walk-append step next front back ]
 
--- a walk that stands is found
+-- a walk is found
 pub found : {P : Type 0} → (step : P → Class → Option P) (ends : P → Bool) (place last : P) (piece rest : List Class)
     → walk step place piece ≡ Some last → ends last ≡ true → Stops step last rest
     → find step ends place (piece ++ rest) ≡ Some (piece, rest)
@@ -62,7 +62,7 @@ found {P = P} step ends place last (sign ∷ piece) rest walks ended stops =
     [ None ↦ λ h. cc | Some next ↦ λ h. ap (onto sign) (found step ends next last piece rest h ended stops) ]
     walks
 
--- at most one walk stands
+-- two walks from the same state over the same signs are the same
 pub one_walk : {P : Type 0} → (step : P → Class → Option P) (ends : P → Bool) (start : P)
     (piece rest piece2 rest2 : List Class) → IsWalk step ends start piece rest → IsWalk step ends start piece2 rest2
     → piece ++ rest ≡ piece2 ++ rest2 → (piece ≡ piece2) × (rest ≡ rest2)
@@ -75,7 +75,7 @@ one_walk step ends start piece rest piece2 rest2 a b same =
     let pairs : pair ≡ pair2 = cc in
     (ap (λ p. p.0) pairs, ap (λ p. p.1) pairs)
 
--- none is found where the steps end too early
+-- no walk is found if the steps end too early
 pub not_found : {P : Type 0} → (step : P → Class → Option P) (ends : P → Bool) (place last : P)
     (front : List Class) (sign : Class) (more : List Class)
     → walk step place front ≡ Some last → ends last ≡ false → step last sign ≡ None
@@ -111,7 +111,7 @@ not_found-end {P = P} step ends place last (first ∷ front) walks wrong =
     [ None ↦ λ h. cc | Some next ↦ λ h. ap (onto first) (not_found-end step ends next last front h wrong) ]
     walks
 
--- where nothing is found no walk stands
+-- if no walk is found, there is none
 pub none_stands : {P : Type 0} → (step : P → Class → Option P) (ends : P → Bool) (start : P)
     (signs piece rest : List Class) → find step ends start signs ≡ None → signs ≡ piece ++ rest
     → IsWalk step ends start piece rest → ⊥
@@ -121,7 +121,7 @@ none_stands step ends start signs piece rest nothing whole stands =
     let clash : Some pair ≡ None = sym here ∙ ap (find step ends start) (sym whole) ∙ nothing in
     cc
 
--- the front of a walk is one that can go on, if from each place there is a way to an end
+-- a walk can be completed, if some signs lead from its last state to one in which it may end
 pub is_front : {P : Type 0} → (step : P → Class → Option P) (ends : P → Bool) (start last final : P)
     (front more : List Class) → walk step start front ≡ Some last → walk step last more ≡ Some final
     → ends final ≡ true → IsFront (IsWalk step ends start) front
@@ -138,7 +138,7 @@ is_front step ends start last final front more walks goes ended = record {
   };
 }
 
--- one sign more can't, where that sign is no step and the walk can't end
+-- a walk and a sign that is no step cannot be completed, if the walk may not end there
 pub no_front : {P : Type 0} → (step : P → Class → Option P) (ends : P → Bool) (start last : P)
     (front : List Class) (sign : Class) → walk step start front ≡ Some last → ends last ≡ false
     → step last sign ≡ None → IsFront (IsWalk step ends start) (front ++ sign ∷ []) → ⊥

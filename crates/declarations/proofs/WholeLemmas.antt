@@ -1,4 +1,4 @@
--- Trees that are read whole.
+-- Trees that are read as a whole.
 use Rattle.std.proofs.Common.{drop}
 use Rattle.std.proofs.Common.{◌≡◌, refl, sym, ◌∙◌, ap, ℕ, ◌+◌, true, List, [], ◌∷◌, ◌++◌, Some}
 use Rattle.std.proofs.Common.{Option, None, length, arith, append_assoc, append-nil}
@@ -20,7 +20,7 @@ use Rattle.declarations.specs.Whole.{IsWhole, ReadsAll}
 use Rattle.declarations.specs.declared.class.Class.{Class}
 use Rattle.declarations.specs.declared.place.Place.{Place}
 
--- all trees are read where the walk over all of them may end
+-- all trees are read if a walk over them may end
 pub whole_read : {name : Option Name} → (start : Place) (trees left : List TokenTree) (place : Place)
     → Walked start trees left place name → ends place ≡ true → length left ≡ 0 → ReadsAll (IsFrom start) trees
 whole_read start trees [] place walked ended none = record {
@@ -32,7 +32,7 @@ whole_read start trees [] place walked ended none = record {
 }
 whole_read start trees (tree ∷ left) place walked ended none = absurd (omega arith)
 
--- a walk can't go on past the signs where it stops
+-- a walk cannot go on past the signs where it stops
 stuck : (start place : Place) (front : List Class) (sign : Class) (more : List Class) (last : Place)
     → walk step start front ≡ Some place → step place sign ≡ None
     → walk step start (front ++ sign ∷ more) ≡ Some last → ⊥
@@ -107,7 +107,7 @@ whole_fault start trees left place at walked stops wrong counted =
           reads.stands.0.walks reads.stands.0.ended;
     }
 
--- the first tree that is left is the one before which so many stand
+-- the first left tree is the tree after as many trees as come before it
 pub span_at : {name : Option Name} → (start : Place) (trees left : List TokenTree) (place : Place) (at : ℕ)
     → Walked start trees left place name → at + length left ≡ length trees → first_extent left ≡ extent_at trees at
 span_at start trees left place at walked counted =

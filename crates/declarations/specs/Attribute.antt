@@ -15,16 +15,16 @@ use Rattle.declarations.specs.declared.attribute.Attribute.{Attribute}
 use Rattle.declarations.specs.declared.attribute.AttributeArgs.{AttributeArgs}
 use Rattle.declarations.specs.declared.attribute.AttributeArgs.TheVariants as args
 
--- an attribute: its `#`, perhaps with `!`, and its brackets
+-- an attribute: its `#`, perhaps with `!`, and its brackets with the trees in them
 pub record Parts : Type 0 where
   pub marks : List TokenTree
   pub group : Grouped
 
--- the trees of an attribute's parts
+-- the parts of an attribute: its marks and its brackets
 abbrev pub parts_of : Attribute → Parts
 parts_of attribute = record { marks = attribute.marks.now; group = attribute.group.now }
 
--- all its trees
+-- all trees of an attribute
 abbrev pub attribute_trees : Parts → List TokenTree
 attribute_trees parts = parts.marks ++ Group parts.group ∷ []
 
@@ -32,15 +32,15 @@ abbrev pub is_bracket : Delimiter → Bool
 is_bracket delimiters.Bracket = true
 is_bracket _ = false
 
--- `#` (35) and brackets
+-- whether the mark is `#` (35) and the group has brackets
 abbrev pub is_outer : Mark → Grouped → Bool
 is_outer hash g = (hash.mark == 35) && is_bracket g.delimiter
 
--- `#`, `!` (33) and brackets
+-- whether the marks are `#` (35) and `!` (33), and the group has brackets
 abbrev pub is_inner : Mark → Mark → Grouped → Bool
 is_inner hash mark g = (hash.mark == 35) && ((mark.mark == 33) && is_bracket g.delimiter)
 
--- the attributes at the front of trees, up to what is none
+-- the attributes at the start of the trees, up to the first trees that are no attribute
 abbrev pub attributes_in : List TokenTree → List Parts
 attributes_in (Punct hash ∷ Group g ∷ rest) =
     if is_outer hash g then record { marks = Punct hash ∷ []; group = g } ∷ attributes_in rest else []
@@ -49,11 +49,11 @@ attributes_in (Punct hash ∷ Punct mark ∷ Group g ∷ rest) =
     else []
 attributes_in _ = []
 
--- the trees begin with the attribute
+-- the trees are the attribute and then the rest
 abbrev pub IsAttributeAt : List TokenTree → Attribute → List TokenTree → Type 0
 IsAttributeAt trees attribute rest = trees ≡ attribute_trees (parts_of attribute) ++ rest
 
--- ---- what stands in its brackets
+-- ---- what is in the brackets of an attribute
 
 -- the trees in the attribute's brackets
 abbrev pub inside : Attribute → List TokenTree
@@ -63,27 +63,27 @@ abbrev pub has_no_delimiters : Delimiter → Bool
 has_no_delimiters delimiters.None = true
 has_no_delimiters _ = false
 
--- a path may go on with the tree: it isn't `=` (61), nor a group with delimiters
+-- whether the tree can be in a path: it is not `=` (61), and not a group with delimiters
 abbrev pub goes_on : TokenTree → Bool
 goes_on (Group g) = has_no_delimiters g.delimiter
 goes_on (Ident i) = true
 goes_on (Punct p) = not (p.mark == 61)
 goes_on (Literal l) = true
 
--- the path at the front of the trees
+-- the path that the trees begin with
 abbrev pub path_of : List TokenTree → List TokenTree
 path_of trees = take_while goes_on trees
 
--- the trees after the path at the front
+-- the trees after the path that the trees begin with
 abbrev pub after_path : List TokenTree → List TokenTree
 after_path trees = drop (prefix_len goes_on trees) trees
 
--- the trees are one identifier, written so
+-- whether the trees are one identifier with this text
 abbrev pub is_word : List TokenTree → List ℕ → Bool
 is_word (Ident name ∷ []) text = pointwise nat_eq (name_text name) text
 is_word _ text = false
 
--- the trees after a path are these arguments
+-- the trees after a path have this form
 abbrev pub AreArgs : List TokenTree → AttributeArgs → Type 0
 AreArgs rest args.Nothing = rest ≡ []
 AreArgs rest (args.Group g) = rest ≡ Group g.now ∷ []

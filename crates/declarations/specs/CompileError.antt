@@ -1,4 +1,4 @@
--- The call of `compile_error!` that tells a fault.
+-- The call of `compile_error!` that reports an error.
 use Rattle.std.specs.Prelude.{ℕ, List, [], ◌∷◌, Option, Some, None, codes, false}
 use Rattle.pm_span.specs.Extent.{Extent, nowhere}
 use Rattle.pm_token.specs.Escaped.{string_text}
@@ -9,23 +9,23 @@ use Rattle.pm_stream.specs.Trees.{forest}
 use Rattle.pm_stream.specs.declared.stream.TokenTree.{TokenTree}
 use Rattle.pm_stream.specs.declared.stream.TokenTree.TheVariants.{Group, Ident, Punct, Literal}
 
--- where a fault is reported: at its tree, or in no file where more trees are missing
+-- the span at which an error is reported: that of the tree, or the call site if trees are missing
 abbrev pub told_at : Option Extent → Extent
 told_at None = nowhere
 told_at (Some extent) = extent
 
--- `:` (58) and `!` (33), and an identifier
+-- a punctuation mark, such as `:` (58) or `!` (33)
 abbrev pub mark : ℕ → Spacing → Extent → TokenTree
 mark character spacing span = Punct (record { mark = character; spacing = spacing; span = span })
 
 abbrev pub word : List ℕ → Extent → TokenTree
 word text span = Ident (record { name = text; raw = false; span = span })
 
--- the braces of these trees
+-- a group in braces that holds these trees
 abbrev pub braces : List TokenTree → Extent → TokenTree
 braces trees span = Group (record { delimiter = Brace; stream = forest trees; span = span })
 
--- `::core::compile_error! { "text" }`, each tree with this span
+-- the trees of `::core::compile_error! { "text" }`, each with this span
 abbrev pub compile_error : List ℕ → Extent → List TokenTree
 compile_error text span =
     mark 58 Joint span ∷ mark 58 Alone span ∷ word (codes "core") span ∷ mark 58 Joint span ∷ mark 58 Alone span

@@ -1,4 +1,4 @@
--- Lists whose entries must have known names, each once.
+-- Lists whose entries must have known names, and no name twice.
 use Rattle.std.specs.Prelude.{◌≡◌, ℕ, ◌<◌, ◌-◌, ◌==◌, ◌+◌, Bool, true, false, List, [], ◌∷◌, ◌++◌, codes, length}
 use Rattle.std.specs.Prelude.{None, Option, Some, option_copied}
 use Rattle.std.specs.Borrow.{Bor}
@@ -21,19 +21,19 @@ use Rattle.declarations.specs.declared.fault.Fault.{Fault}
 use Rattle.declarations.specs.rules.Entries.{entry}
 use Rattle.declarations.specs.rules.Pieces.{ByRule}
 
--- some names
+-- the names that entries may have
 abbrev pub Names : Type 0
 Names = List (Bor (List ℕ))
 
--- whether the entry's path is this name alone
+-- whether the entry's path is this one name
 abbrev pub has_name : Entry → Bor (List ℕ) → Bool
 has_name entry word = is_word entry.path.now (spelled word.now)
 
--- how many names come before that of the entry; all of them if it has none of these
+-- the position of the entry's name among the known names, or their number if it is not among them
 abbrev pub place_of : Names → Entry → ℕ
 place_of known entry = position_or_len (has_name entry) known
 
--- the entries before the left trees have known names, each another; these are the names' places, the last first
+-- the entries before the left trees have known names, no two the same. Their positions are in the list, the last first
 pub data HasNames (known : Names) (list : List TokenTree) : List ℕ → List TokenTree → Type 0 where
   none : HasNames known list [] list
   more : (places : List ℕ) (left next : List TokenTree) (entry : Entry) → HasNames known list places left
@@ -41,7 +41,7 @@ pub data HasNames (known : Names) (list : List TokenTree) : List ℕ → List To
       → list_any (λ place. place == place_of known entry) places ≡ false
       → HasNames known list (place_of known entry ∷ places) next
 
--- the left trees begin with no entry, or with one that neither a `,` nor the end follows, and there the fault stands
+-- the left trees begin with no entry, or with one that neither `,` nor the end follows, and the error is there
 pub record IsNoEntry (list left : List TokenTree) (error : EntryError) : Type 0 where
   pub fault : Fault
   pub stands : IsListFault (ByRule entry) left fault
@@ -49,12 +49,12 @@ pub record IsNoEntry (list left : List TokenTree) (error : EntryError) : Type 0 
   pub span : error.span ≡ fault.span
   pub unnamed : error.name ≡ None
 
--- the error stands before the left trees
+-- the error is just before the left trees
 pub record StandsBefore (list left : List TokenTree) (error : EntryError) : Type 0 where
   pub counted : error.at ≡ length list - length left
   pub span : error.span ≡ first_extent left
 
--- the error has the identifier that the entry's path is alone, or none where it is another path or a literal
+-- the error has the name of the entry, or none if the entry is a literal or has a longer path
 abbrev pub NamesEntry : EntryError → Entry → Type 0
 NamesEntry error entry = option_copied error.name ≡ sole_name entry.path.now
 
@@ -66,7 +66,7 @@ pub record IsUnknown (known : Names) (left : List TokenTree) (error : EntryError
   pub unknown : place_of known entry ≡ length known
   pub named : NamesEntry error entry
 
--- they begin with an entry whose name an earlier one has
+-- the left trees begin with an entry that has the name of an earlier entry
 pub record IsRepeated (known : Names) (places : List ℕ) (left : List TokenTree) (error : EntryError) : Type 0 where
   pub entry : Entry
   pub next : List TokenTree
@@ -75,14 +75,14 @@ pub record IsRepeated (known : Names) (places : List ℕ) (left : List TokenTree
   pub before : list_any (λ place. place == place_of known entry) places ≡ true
   pub named : NamesEntry error entry
 
--- what is wrong with the left trees
+-- the left trees are wrong in the way that this kind of error says
 abbrev pub IsWrong : EntryProblem → Names → List TokenTree → List ℕ → List TokenTree → EntryError → Type 0
 IsWrong problems.NoEntry known list places left error = IsNoEntry list left error
 IsWrong problems.Unknown known list places left error = IsUnknown known left error × StandsBefore list left error
 IsWrong problems.Repeated known list places left error =
     IsRepeated known places left error × StandsBefore list left error
 
--- the entries up to some trees have known names, each another, and these trees are wrong as the error says
+-- all entries before the error have known names, no two the same, and the trees after them are wrong as the error says
 pub record IsEntryError (known : Names) (list : List TokenTree) (error : EntryError) : Type 0 where
   pub places : List ℕ
   pub left : List TokenTree
@@ -90,44 +90,44 @@ pub record IsEntryError (known : Names) (list : List TokenTree) (error : EntryEr
   pub wrong : IsWrong error.problem known list places left error
   pub told : error.known.now ≡ known
 
--- ---- what an error is printed as
+-- ---- the messages of errors
 
--- a name, as it stands in a sentence
+-- a name in backticks
 abbrev pub quoted : List ℕ → List ℕ
 quoted text = codes "`" ++ text ++ codes "`"
 
--- a space and the name of an entry, or nothing
+-- a space and the name in backticks, or nothing
 abbrev pub name_part : Option Name → List ℕ
 name_part None = []
 name_part (Some ident) = codes " " ++ quoted (spelling ident)
 
--- one more name that is known
+-- a comma and one more known name
 abbrev pub next_known : List ℕ → List ℕ
 next_known word = codes ", " ++ quoted word
 
--- more names that are known
+-- more known names, each after a comma
 abbrev pub more_known : Names → List ℕ
 more_known [] = []
 more_known (word ∷ words) = next_known word.now ++ more_known words
 
--- the end of the sentence, with the names that are known
+-- the end of the message, with the names that are known
 abbrev pub known_part : Names → List ℕ
 known_part [] = codes "; no names are known"
 known_part (word ∷ words) = codes "; known are " ++ (quoted word.now ++ more_known words)
 
--- the sentence for an error
+-- the message of an error
 abbrev pub error_text : EntryProblem → Option Name → Names → List ℕ
 error_text problems.NoEntry name known = codes "not expected here"
 error_text problems.Unknown name known = codes "unknown entry" ++ (name_part name ++ known_part known)
 error_text problems.Repeated name known = codes "a second entry" ++ name_part name
 
--- the number of a problem
+-- the number of an error's kind. No two kinds have the same number
 abbrev pub number_of : EntryProblem → ℕ
 number_of problems.NoEntry = 0
 number_of problems.Unknown = 1
 number_of problems.Repeated = 2
 
--- whether both are the same problem, after as many trees, with the same span or none
+-- whether both errors have the same kind, the same number of trees before them, and the same span or none
 abbrev pub entry_error_eq : EntryError → EntryError → Bool
 entry_error_eq =
     eq_of_both (on (λ error. number_of error.problem) ◌==◌)

@@ -8,7 +8,7 @@ use Rattle.declarations.specs.declared.fault.Fault.{Fault}
 use Rattle.declarations.specs.rules.Entries.{entry}
 use Rattle.declarations.specs.rules.Pieces.{ByRule}
 
--- a call for the next entry gives it, or the fault, and nothing after the last
+-- a call of `next` gives the next entry or an error, and nothing if no trees are left
 abbrev pub GivesEntry : Entries → Option (Result Entry Fault) → Entries → Type 0
 GivesEntry old given new =
     MatchOption given ((old.left.now ≡ []) × (new ≡ old))

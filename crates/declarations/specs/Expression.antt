@@ -1,4 +1,4 @@
--- Where the expressions of discriminants end.
+-- The steps of the walk over an expression, up to its end. A step says where a sign leads.
 use Rattle.std.specs.Prelude.{Option, None}
 use Rattle.declarations.specs.Moves.{open_angle, to_spot}
 use Rattle.declarations.specs.declared.class.Class.{Class}
@@ -10,12 +10,12 @@ use Rattle.declarations.specs.declared.place.Rule.TheVariants as rules
 use Rattle.declarations.specs.declared.place.Shift.{Shift}
 use Rattle.declarations.specs.declared.place.Spot.TheVariants as spots
 
--- after a variant that is whole, in a list
+-- the step after a whole variant in a list
 abbrev pub variant_end : Item → Class → Option Shift
 variant_end items.Variants signs.Comma = to_spot items.Variants (spots.Before parts.Variant)
 variant_end _ _ = None
 
--- where an operand is wanted
+-- the step where an operand must come
 abbrev pub expression : Item → Class → Option Shift
 expression item signs.Restriction = to_spot item spots.ExpressionWhole
 expression item signs.Parentheses = to_spot item spots.ExpressionWhole
@@ -50,7 +50,7 @@ expression item signs.Bar = to_spot item spots.Closure
 expression item signs.Arrow = to_spot item spots.Cast
 expression item _ = None
 
--- where an operand may stand, or what follows one
+-- the step where an operand may come, or what follows an operand
 abbrev pub expression_open : Item → Class → Option Shift
 expression_open item signs.Dot = to_spot item spots.ExpressionOpen
 expression_open item signs.Question = to_spot item spots.ExpressionWhole
@@ -60,7 +60,7 @@ expression_open item signs.Colon = to_spot item spots.Expression
 expression_open item signs.Comma = variant_end item signs.Comma
 expression_open item class = expression item class
 
--- after an operand, of an expression or of a cast
+-- the step after an operand of an expression or of a cast
 abbrev pub operator : Item → Class → Option Shift
 operator item signs.Restriction = to_spot item spots.ExpressionWhole
 operator item signs.Parentheses = to_spot item spots.ExpressionWhole
@@ -89,26 +89,26 @@ operator item (signs.Keyword _) = to_spot item spots.Expression
 operator item signs.Comma = variant_end item signs.Comma
 operator item _ = None
 
--- after an operand
+-- the step after an operand of an expression
 abbrev pub expression_whole : Item → Class → Option Shift
 expression_whole item signs.PathSeparator = to_spot item spots.Expression
 expression_whole item signs.Less = to_spot item spots.Expression
 expression_whole item signs.LessJoint = to_spot item spots.ExpressionLess
 expression_whole item class = operator item class
 
--- after `<` that is an operator and Joint: another belongs to it
+-- the step after a `Joint` `<` that is an operator. A second mark may belong to the operator, as in `<<`
 abbrev pub expression_less : Item → Class → Option Shift
 expression_less item signs.Less = to_spot item spots.Expression
 expression_less item signs.LessJoint = to_spot item spots.Expression
 expression_less item signs.LessEquals = to_spot item spots.Expression
 expression_less item class = expression item class
 
--- after an operand and `.`
+-- the step after an operand and `.`
 abbrev pub expression_dot : Item → Class → Option Shift
 expression_dot item signs.Dot = to_spot item spots.ExpressionOpen
 expression_dot item class = expression item class
 
--- within the bars of a closure
+-- the step within the bars of a closure
 abbrev pub closure : Item → Class → Option Shift
 closure item signs.Bar = to_spot item spots.Expression
 closure item signs.Less = open_angle item rules.ClosureAngle
@@ -116,7 +116,7 @@ closure item signs.LessJoint = open_angle item rules.ClosureAngle
 closure item signs.Semicolon = None
 closure item _ = to_spot item spots.Closure
 
--- where the type of a cast is wanted
+-- the step where the type of a cast must come
 abbrev pub cast : Item → Class → Option Shift
 cast item signs.Restriction = to_spot item spots.CastWhole
 cast item signs.Parentheses = to_spot item spots.CastWhole
@@ -144,7 +144,7 @@ cast item signs.Await = to_spot item spots.Cast
 cast item (signs.Keyword _) = to_spot item spots.Cast
 cast item _ = None
 
--- after the type of a cast, or a part of it
+-- the step after the type of a cast, or after a part of it
 abbrev pub cast_whole : Item → Class → Option Shift
 cast_whole item signs.PathSeparator = to_spot item spots.Cast
 cast_whole item signs.Less = open_angle item rules.CastAngle

@@ -12,17 +12,17 @@ use Rattle.declarations.specs.declared.class.Class.{Class}
 use Rattle.declarations.specs.declared.class.Class.TheVariants as classes
 use Rattle.declarations.specs.declared.field.Field.{Field}
 
--- the trees are attributes, a visibility and these others, each of the two what its rule reads
+-- the trees are attributes, a visibility and the rest. Attributes and visibility are what their rules read
 pub record HasFront (trees attributes visibility rest : List TokenTree) : Type 0 where
   pub whole : trees ≡ attributes ++ (visibility ++ rest)
   pub attributes_read : Reads AreAttributes trees attributes (visibility ++ rest)
   pub visibility_read : Reads IsVisibility (visibility ++ rest) visibility rest
 
--- this is its name
+-- the field has this name
 abbrev pub IsNamed : Name → Field → Type 0
 IsNamed ident field = elim field.name [ None ↦ ⊥ | Some name ↦ name.now ≡ ident ]
 
--- the trees are a field with a name, and these are its parts: a name, `:` and a type stand after its visibility
+-- the trees are a named field with these parts: attributes, a visibility, a name, `:` and a type
 pub record HasFieldParts (trees : List TokenTree) (field : Field) : Type 0 where
   pub ident : Name
   pub colon : TokenTree
@@ -32,13 +32,13 @@ pub record HasFieldParts (trees : List TokenTree) (field : Field) : Type 0 where
   pub is_colon : tree_class colon ≡ classes.Colon
   pub type_read : ReadsAll IsType field.field_type.now
 
--- the trees are a field without a name, and these are its parts: a type stands after its visibility
+-- the trees are a field without a name, with these parts: attributes, a visibility and a type
 pub record HasTypeParts (trees : List TokenTree) (field : Field) : Type 0 where
   pub front : HasFront trees field.attributes.now field.visibility.now field.field_type.now
   pub none : field.name ≡ None
   pub type_read : ReadsAll IsType field.field_type.now
 
--- the trees begin with a field of the form, and these are its parts
+-- the trees begin with a field of this form that has these parts, and the rest comes after it
 pub record IsFieldAt (form : List Class → List Class → Type 0) (has_parts : List TokenTree → Field → Type 0)
     (trees : List TokenTree) (field : Field) (rest : List TokenTree) : Type 0 where
   pub part : List TokenTree

@@ -1,4 +1,4 @@
--- The parts of declarations, by where a walk over them begins.
+-- The parts of declarations, each by the state in which a walk over it begins.
 use Rattle.std.specs.Prelude.{List}
 use Rattle.declarations.specs.Grammar.{step, ends}
 use Rattle.declarations.specs.Walk.{IsWalk}
@@ -13,26 +13,26 @@ use Rattle.declarations.specs.declared.place.State.TheVariants as states
 use Rattle.declarations.specs.declared.place.Spot.TheVariants as spots
 use Rattle.declarations.specs.declared.types.TypeState.TheVariants as types
 
--- what is read from a place on
+-- what a walk reads from a state on
 abbrev pub IsFrom : Place → List Class → List Class → Type 0
 IsFrom start = IsWalk step ends start
 
 abbrev pub start : Rule → State → Place
 start rule state = record { item = items.Alone; rule = rule; state = state; depth = 0 }
 
--- a type begins where an operand is wanted, and ends where none is, with no angle bracket open
+-- a type. It begins where an operand must come, and ends where none must come and no angle bracket is open
 abbrev pub IsType : List Class → List Class → Type 0
 IsType = IsFrom (start rules.Alone (states.Range types.Wanted))
 
--- bounds, which may be none
+-- bounds, perhaps none
 abbrev pub AreBounds : List Class → List Class → Type 0
 AreBounds = IsFrom (start rules.Alone (states.Range types.Bound))
 
--- attributes, any number of `#` and brackets
+-- any number of attributes, each `#` and brackets
 abbrev pub AreAttributes : List Class → List Class → Type 0
 AreAttributes = IsFrom (start rules.Alone (states.At (spots.Before parts.Attributes)))
 
--- `pub`, perhaps with a restriction, or nothing
+-- a visibility or nothing. It is `pub`, perhaps with a restriction, or a group without delimiters that holds one
 abbrev pub IsVisibility : List Class → List Class → Type 0
 IsVisibility = IsFrom (start rules.Alone (states.At (spots.Before parts.Visibility)))
 
@@ -52,7 +52,7 @@ AreFields = IsFrom (start rules.Fields (states.At (spots.Before parts.Field)))
 abbrev pub AreTupleFields : List Class → List Class → Type 0
 AreTupleFields = IsFrom (start rules.TupleFields (states.At (spots.Before parts.TupleField)))
 
--- a variant: attributes, a visibility, a name, and perhaps its fields, and its discriminant
+-- a variant: attributes, a visibility, a name, perhaps fields, and perhaps a discriminant
 abbrev pub IsVariant : List Class → List Class → Type 0
 IsVariant = IsFrom (start rules.Alone (states.At (spots.Before parts.Variant)))
 
@@ -66,7 +66,7 @@ AreVariants =
       depth = 0;
     })
 
--- the expression of a discriminant, whose end alone is read
+-- the expression of a discriminant. Only its end is found
 abbrev pub IsExpression : List Class → List Class → Type 0
 IsExpression = IsFrom (start rules.Alone (states.At spots.Expression))
 
@@ -82,14 +82,14 @@ IsWhere = IsFrom (start rules.Alone (states.At spots.Where))
 abbrev pub IsItem : List Class → List Class → Type 0
 IsItem = IsFrom (start rules.Alone (states.At (spots.Before parts.TypeItem)))
 
--- inner attributes, any number of `#!` and brackets
+-- any number of inner attributes, each `#!` and brackets
 abbrev pub AreInnerAttributes : List Class → List Class → Type 0
 AreInnerAttributes = IsFrom (start rules.Alone (states.At spots.Inner))
 
--- any item: what it begins with, its name, header and body, or a group without delimiters
+-- the state before an item of any kind
 abbrev pub any_item : Place
 any_item = start rules.Alone (states.At (spots.Before parts.AnyItem))
 
--- an item of any kind: what it begins with, its name, header and body, or a group without delimiters
+-- an item of any kind: what comes before its name, its name, header and body; or a group without delimiters
 abbrev pub IsAnyItem : List Class → List Class → Type 0
 IsAnyItem = IsFrom any_item

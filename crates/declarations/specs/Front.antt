@@ -1,4 +1,4 @@
--- Items: what may follow what they begin with, up to their names.
+-- The steps of the walk over an item, up to its name. A step says where a sign leads.
 use Rattle.declarations.specs.Header.{body, generics, header, impl_header}
 use Rattle.std.specs.Prelude.{Bool, true, false, Option, None}
 use Rattle.declarations.specs.Moves.{close_to, to_front, to_spot, turn_to, type_from}
@@ -21,13 +21,13 @@ use Rattle.declarations.specs.declared.place.TypeStart.{TypeStart}
 use Rattle.declarations.specs.declared.types.Turn.TheVariants as turns
 use Rattle.declarations.specs.declared.types.TypeState.TheVariants as types
 
--- the rest of a function's front
+-- the step before `fn` or `extern`, in what must be a function
 abbrev pub qualified : Class → Option Shift
 qualified (signs.Keyword keywords.Extern) = to_front items.Function fronts.FunctionExtern
 qualified (signs.Keyword keywords.Fn) = to_spot items.Function spots.Name
 qualified _ = None
 
--- a keyword that begins an item
+-- the step at a keyword that begins an item
 abbrev pub item_keyword : Keyword → Option Shift
 item_keyword keywords.Async = to_front items.Function fronts.Async
 item_keyword keywords.Const = to_front items.Constant fronts.Const
@@ -45,7 +45,7 @@ item_keyword keywords.Unsafe = to_front items.Function fronts.Unsafe
 item_keyword keywords.Use = to_front items.Use fronts.Use
 item_keyword _ = None
 
--- a word that begins one
+-- the step at a word that begins an item
 abbrev pub item_word : Word → Option Shift
 item_word words.Auto = to_front items.Trait fronts.Auto
 item_word words.Default = to_front items.Function fronts.Default
@@ -53,13 +53,13 @@ item_word words.Safe = to_front items.Function fronts.Safe
 item_word words.Union = to_spot items.Union spots.Name
 item_word words.Plain = None
 
--- after its visibility
+-- the step after the visibility of an item
 abbrev pub declaration : Class → Option Shift
 declaration (signs.Keyword keyword) = item_keyword keyword
 declaration (signs.Word word) = item_word word
 declaration _ = None
 
--- where it has none: a macro call or a group without delimiters too
+-- the step where an item begins without a visibility. It may be a macro call, or a group without delimiters
 abbrev pub unmarked_item : Class → Option Shift
 unmarked_item (signs.Word word) = to_front items.Call (fronts.CallWord word)
 unmarked_item signs.SelfValue = to_front items.Call (fronts.CallWord words.Plain)
@@ -69,7 +69,7 @@ unmarked_item signs.PathSeparator = to_front items.Call fronts.CallPath
 unmarked_item signs.Invisible = to_spot items.Group spots.ItemEnd
 unmarked_item class = declaration class
 
--- a struct, an enum or a union
+-- the step where a struct, an enum or a union begins, after its visibility
 abbrev pub type_item : Class → Option Shift
 type_item (signs.Keyword keywords.Struct) = to_spot items.Struct spots.Name
 type_item (signs.Keyword keywords.Enum) = to_spot items.Enum spots.Name
@@ -102,7 +102,7 @@ async_front (signs.Keyword keywords.Unsafe) = to_front items.Function fronts.Qua
 async_front (signs.Word words.Safe) = to_front items.Function fronts.Qualified
 async_front class = qualified class
 
--- after `const`. `safe` may be a name, or belong to a function
+-- the step after `const`. A `safe` may be the constant's name, or belong to a function
 abbrev pub const_front : Class → Option Shift
 const_front (signs.Keyword keywords.Async) = to_front items.Function fronts.Async
 const_front (signs.Keyword keywords.Unsafe) = to_front items.Function fronts.Qualified
@@ -115,7 +115,7 @@ abbrev pub const_safe : Class → Option Shift
 const_safe (signs.Keyword keyword) = qualified (signs.Keyword keyword)
 const_safe class = generics items.Constant class
 
--- after `extern` and what an ABI it may have
+-- the step after `extern` and its ABI, if it has one
 abbrev pub extern_abi : Class → Option Shift
 extern_abi (signs.Keyword keywords.Fn) = to_spot items.Function spots.Name
 extern_abi class = body items.ExternBlock class
@@ -128,7 +128,7 @@ abbrev pub extern_front : Class → Option Shift
 extern_front signs.Crate = to_front items.ExternCrate fronts.CrateName
 extern_front class = unsafe_extern class
 
--- after the `extern` of what must be a function
+-- the step after the `extern` of what must be a function
 abbrev pub function_extern : Class → Option Shift
 function_extern signs.Literal = to_front items.Function fronts.FunctionAbi
 function_extern (signs.Keyword keywords.Fn) = to_spot items.Function spots.Name
@@ -151,7 +151,7 @@ static_front _ = None
 
 -- ---- macros
 
--- after a word that begins an item: the path of a macro call, or a front
+-- the step after a first word, which may be in the path of a macro call or begin another item
 abbrev pub call_word : Word → Class → Option Shift
 call_word word signs.Exclamation = to_front items.Call fronts.CallName
 call_word word signs.PathSeparator = to_front items.Call fronts.CallPath
@@ -168,7 +168,7 @@ call_path signs.Super = to_front items.Call (fronts.CallWord words.Plain)
 call_path signs.Crate = to_front items.Call (fronts.CallWord words.Plain)
 call_path _ = None
 
--- the group of a call
+-- the step before the group of a macro call
 abbrev pub call_group : Class → Option Shift
 call_group signs.Parentheses = to_front items.Call fronts.Semicolon
 call_group signs.Restriction = to_front items.Call fronts.Semicolon
@@ -176,7 +176,7 @@ call_group signs.Brackets = to_front items.Call fronts.Semicolon
 call_group signs.Braces = to_spot items.Call spots.ItemEnd
 call_group _ = None
 
--- after the `!` of a call: a name, as of `macro_rules!`, or its group
+-- the step after the `!` of a macro call: a name, as in `macro_rules! name`, or the group of the call
 abbrev pub call_name : Class → Option Shift
 call_name (signs.Word _) = to_front items.Call fronts.CallGroup
 call_name class = call_group class
@@ -188,7 +188,7 @@ macro_parameters class = body items.Macro class
 
 -- ---- implementations
 
--- in the brackets of parameters and not of a type
+-- the step after `impl <` if the bracket begins generic parameters
 abbrev pub impl_angle : Class → Option Shift
 impl_angle signs.Greater = close_to items.Impl spots.AfterGenerics
 impl_angle signs.Hash = close_to items.Impl (spots.Hash parts.Parameter)
@@ -197,7 +197,7 @@ impl_angle (signs.Keyword keywords.Const) = close_to items.Impl spots.ConstName
 impl_angle (signs.Word _) = to_front items.Impl fronts.ImplWord
 impl_angle _ = None
 
--- after a word that may be a parameter, or begin a type
+-- the step after `impl <` and a word, if the word is a generic parameter
 abbrev pub impl_word : Class → Option Shift
 impl_word signs.Greater = close_to items.Impl spots.AfterGenerics
 impl_word signs.Comma = close_to items.Impl (spots.Before parts.Parameter)
@@ -205,13 +205,13 @@ impl_word signs.Colon = turn_to items.Impl rules.TypeParameter (states.Range typ
 impl_word signs.Equals = turn_to items.Impl rules.Parameter (states.Range types.Wanted) turns.Close
 impl_word _ = None
 
--- after `impl`, but for types
+-- the step after `impl`, if no type begins there
 abbrev pub impl_front : Class → Option Shift
 impl_front signs.Less = turn_to items.Impl rules.Alone (states.At (spots.Front fronts.ImplAngle)) turns.Open
 impl_front signs.LessJoint = turn_to items.Impl rules.Alone (states.At (spots.Front fronts.ImplAngle)) turns.Open
 impl_front class = impl_header class
 
--- after its `const`, but for types
+-- the step after `impl const`, if no type begins there
 abbrev pub impl_const : Class → Option Shift
 impl_const signs.Exclamation = to_front items.Impl fronts.ImplNot
 impl_const _ = None
@@ -231,7 +231,7 @@ abbrev pub use_front : Class → Option Shift
 use_front signs.PathSeparator = to_front items.Use fronts.UsePath
 use_front class = use_path class
 
--- after a name that `as` may follow
+-- the step after a name that `as` may follow
 abbrev pub renamed : Item → Class → Option Shift
 renamed item signs.As = to_front item fronts.Rename
 renamed item signs.Semicolon = to_spot item spots.ItemEnd
@@ -261,9 +261,9 @@ abbrev pub until : Item → Class → Option Shift
 until item signs.Semicolon = to_spot item spots.ItemEnd
 until item _ = to_front item fronts.Until
 
--- ---- all of them
+-- ---- all steps before a name
 
--- what a sign leads to in the front of an item
+-- the step before an item's name
 abbrev pub front_step : Item → Front → Class → Option Shift
 front_step item fronts.Auto class = auto_front class
 front_step item fronts.Default class = default_front class
@@ -304,7 +304,7 @@ front_step item fronts.Until class = until item class
 front_step item fronts.Semicolon signs.Semicolon = to_spot item spots.ItemEnd
 front_step item _ _ = None
 
--- the type that may begin in a front: that of an `impl`
+-- the type that can begin before an item's name. Only an `impl` has one
 abbrev pub front_type : Front → Option TypeStart
 front_type fronts.Impl = type_from rules.Target types.Wanted
 front_type fronts.ImplAngle = type_from rules.Target types.Wanted
@@ -315,7 +315,7 @@ front_type _ = None
 
 -- ---- names
 
--- whether an item's name is wanted
+-- whether the next sign can be the item's name
 abbrev pub front_names : Front → Bool
 front_names fronts.PlainName = true
 front_names fronts.Static = true

@@ -1,4 +1,4 @@
--- The grammar of declarations: what may follow each place.
+-- The grammar of declarations as an automaton: what may follow each state of the walk.
 use Rattle.std.specs.Prelude.{ℕ, ◌+◌, ◌-◌, ◌==◌, ◌&&◌, Bool, true, false, Option, Some, None, if◌then◌else◌}
 use Rattle.declarations.specs.Expression.{cast, cast_whole, closure, expression, expression_dot, expression_less}
 use Rattle.declarations.specs.Expression.{expression_open, expression_whole, variant_end}
@@ -30,31 +30,31 @@ use Rattle.declarations.specs.declared.types.TypeStep.{TypeStep}
 
 -- ---- generic parameters
 
--- after a parameter that is whole
+-- the step after a whole generic parameter
 abbrev pub parameter_end : Item → Class → Option Shift
 parameter_end item signs.Comma = to_spot item (spots.Before parts.Parameter)
 parameter_end item signs.Greater = to_spot item spots.AfterGenerics
 parameter_end item _ = None
 
--- a parameter
+-- the step where a generic parameter begins
 abbrev pub parameter : Item → Class → Option Shift
 parameter item signs.Lifetime = to_spot item spots.LifetimeName
 parameter item (signs.Word _) = to_spot item spots.TypeName
 parameter item (signs.Keyword keywords.Const) = to_spot item spots.ConstName
 parameter item _ = None
 
--- after a lifetime that is a parameter
+-- the step after a lifetime that is a generic parameter
 abbrev pub lifetime_name : Item → Class → Option Shift
 lifetime_name item signs.Colon = to_bounds item rules.Parameter
 lifetime_name item class = parameter_end item class
 
--- after the name of a parameter that is a type
+-- the step after the name of a type parameter
 abbrev pub type_name : Item → Class → Option Shift
 type_name item signs.Colon = to_bounds item rules.TypeParameter
 type_name item signs.Equals = to_type item rules.Parameter
 type_name item class = parameter_end item class
 
--- the default of a constant, but for types
+-- the step at the default of a constant parameter, if the default is no type
 abbrev pub const_default : Item → Class → Option Shift
 const_default item signs.Literal = to_spot item spots.ConstEnd
 const_default item signs.Braces = to_spot item spots.ConstEnd
@@ -62,9 +62,9 @@ const_default item signs.Truth = to_spot item spots.ConstEnd
 const_default item signs.Minus = to_spot item spots.ConstMinus
 const_default item _ = None
 
--- ---- attributes, visibilities and what they stand before
+-- ---- attributes, visibilities and the parts after them
 
--- what a part begins with, after its attributes and visibility
+-- the step where a part begins, after its attributes and its visibility
 abbrev pub begin : Part → Item → Rule → Class → Option Shift
 begin parts.Field item rule (signs.Word _) = at_spot item rule spots.FieldName
 begin parts.Variant item rule (signs.Word _) = at_spot item rule spots.VariantName
@@ -73,7 +73,7 @@ begin parts.TypeItem item rule class = type_item class
 begin parts.AnyItem item rule class = declaration class
 begin _ item rule _ = None
 
--- the same where no visibility stands before it
+-- the step where a part without a visibility begins, after its attributes
 abbrev pub unmarked : Part → Item → Rule → Class → Option Shift
 unmarked parts.AnyItem item rule class = unmarked_item class
 unmarked part item rule class = begin part item rule class
@@ -83,7 +83,7 @@ has_visibility parts.Attributes = false
 has_visibility parts.Parameter = false
 has_visibility _ = true
 
--- after its attributes
+-- the step after the attributes of a part
 abbrev pub attributed : Part → Item → Rule → Class → Option Shift
 attributed part item rule (signs.Keyword keywords.Pub) =
     only (has_visibility part) (at_spot item rule (spots.Public part))
@@ -94,38 +94,38 @@ abbrev pub has_attributes : Part → Bool
 has_attributes parts.Visibility = false
 has_attributes _ = true
 
--- before another attribute, or what follows them
+-- the step before another attribute of a part, or before what follows the attributes
 abbrev pub before : Part → Item → Rule → Class → Option Shift
 before part item rule signs.Hash = only (has_attributes part) (at_spot item rule (spots.Hash part))
 before part item rule class = attributed part item rule class
 
--- before a part. Generic parameters may end there
+-- the step before a part. A list of generic parameters may end here
 abbrev pub before_first : Part → Item → Rule → Class → Option Shift
 before_first parts.Parameter item rule signs.Greater = to_spot item spots.AfterGenerics
 before_first part item rule class = before part item rule class
 
--- after `pub`
+-- the step after the `pub` of a part
 abbrev pub public : Part → Item → Rule → Class → Option Shift
 public part item rule signs.Restriction = at_spot item rule (spots.Visible part)
 public part item rule class = begin part item rule class
 
 -- ---- variants
 
--- before its discriminant
+-- the step before the discriminant of a variant
 abbrev pub variant_value : Item → Class → Option Shift
 variant_value item signs.Equals = to_spot item spots.Expression
 variant_value item class = variant_end item class
 
--- after its name
+-- the step after the name of a variant
 abbrev pub variant_body : Item → Rule → Class → Option Shift
 variant_body item rule signs.Parentheses = at_spot item rule spots.VariantEnd
 variant_body item rule signs.Restriction = at_spot item rule spots.VariantEnd
 variant_body item rule signs.Braces = at_spot item rule spots.VariantEnd
 variant_body item rule class = variant_value item class
 
--- ---- all of them
+-- ---- all steps outside of types and bounds
 
--- what may follow a type or bounds
+-- the step after a type or bounds
 abbrev pub follow : Item → Rule → Class → Option Shift
 follow item rules.Fields signs.Comma = at_spot item rules.Fields (spots.Before parts.Field)
 follow item rules.TupleFields signs.Comma = at_spot item rules.TupleFields (spots.Before parts.TupleField)
@@ -142,7 +142,7 @@ follow item rules.Target class = header item class
 follow item rules.Header class = header item class
 follow item _ _ = None
 
--- what a sign leads to at a spot
+-- the step outside of types and bounds
 abbrev pub spot_step : Item → Rule → Spot → Class → Option Shift
 spot_step item rule (spots.Before part) class = before_first part item rule class
 spot_step item rule (spots.Hash part) signs.Brackets = at_spot item rule (spots.Attributed part)
@@ -179,12 +179,12 @@ spot_step item rule spots.Inner signs.HashBang = to_spot item spots.InnerHash
 spot_step item rule spots.InnerHash signs.Brackets = to_spot item spots.Inner
 spot_step item rule _ _ = None
 
--- after the generic parameters of an `impl` a type begins
+-- the type that begins after the generic parameters. Only an `impl` has one
 abbrev pub closing_type : Item → Option TypeStart
 closing_type items.Impl = type_from rules.Target types.Wanted
 closing_type _ = None
 
--- the type that may begin at a spot
+-- the type that can begin in this state
 abbrev pub spot_type : Item → Rule → Spot → Option TypeStart
 spot_type item rule (spots.Before parts.TupleField) = type_from rule types.Wanted
 spot_type item rule (spots.Attributed parts.TupleField) = type_from rule types.Wanted
@@ -196,21 +196,21 @@ spot_type item rule spots.Predicate = type_from rules.Bounded types.Wanted
 spot_type item rule (spots.Front front) = front_type front
 spot_type item rule _ = None
 
--- ---- steps
+-- ---- the step from any state
 
 abbrev pub turned : Turn → ℕ → ℕ
 turned turns.Stay depth = depth
 turned turns.Open depth = depth + 1
 turned turns.Close depth = depth - 1
 
--- where an expression goes on after its angle brackets
+-- the state after the angle brackets of an expression
 abbrev pub after_angle : Rule → TypeState → State
 after_angle rules.Angle state = states.At spots.ExpressionWhole
 after_angle rules.CastAngle state = states.At spots.CastWhole
 after_angle rules.ClosureAngle state = states.At spots.Closure
 after_angle _ state = states.Range state
 
--- the state after a step within a type, which may close the brackets of an expression
+-- the state after a step within a type. The step may close the angle brackets of an expression
 abbrev pub range_state : Rule → TypeState → Turn → ℕ → State
 range_state rule state turns.Close depth = if depth == 0 then after_angle rule state else states.Range state
 range_state rule state turns.Stay depth = states.Range state
@@ -225,7 +225,7 @@ ranged place (Some taken) = Some (record {
   depth = turned taken.turn place.depth;
 })
 
--- a step within a type or bounds
+-- the step within a type or bounds
 abbrev pub range_step : Place → TypeState → Class → Option Place
 range_step place state class = ranged place (step_of state class (place.depth == 0))
 
@@ -251,13 +251,13 @@ abbrev pub step_from : State → Place → Class → Option Place
 step_from (states.Range state) place class = else_follow (range_step place state class) place state class
 step_from (states.At spot) place class = else_type (spot_step place.item place.rule spot class) place spot class
 
--- the place of the grammar that a sign leads to, or nothing where it may not stand
+-- the state that a sign of this class leads to, or nothing if the sign cannot come next
 abbrev pub step : Place → Class → Option Place
 step place class = step_from place.state place class
 
--- ---- ends
+-- ---- where a part may end
 
--- whether what is read may end after a type or bounds
+-- whether the part that is read may end after a type or bounds
 abbrev pub rule_ends : Item → Rule → Bool
 rule_ends item rules.Alone = true
 rule_ends item rules.Fields = true
@@ -269,13 +269,13 @@ rule_ends item rules.CastAngle = true
 rule_ends item rules.ClosureAngle = true
 rule_ends item _ = false
 
--- whether attributes and a visibility are all of it
+-- whether the part has only attributes or a visibility
 abbrev pub is_front : Part → Bool
 is_front parts.Attributes = true
 is_front parts.Visibility = true
 is_front _ = false
 
--- whether it may end before a part: a list may
+-- whether what is read may end before this part, as a list may
 abbrev pub part_ends : Item → Rule → Part → Bool
 part_ends item rules.Fields parts.Field = true
 part_ends item rules.TupleFields parts.TupleField = true
@@ -304,25 +304,25 @@ abbrev pub ends_at : State → Place → Bool
 ends_at (states.Range state) place = ((place.depth == 0) && may_end state) && rule_ends place.item place.rule
 ends_at (states.At spot) place = spot_ends place.item place.rule spot
 
--- whether what is read may end at this place of the grammar
+-- whether the part that is read may end in this state
 abbrev pub ends : Place → Bool
 ends place = ends_at place.state place
 
--- ---- names and kinds
+-- ---- the names of items
 
--- whether an item's name is wanted
+-- whether the name of the item may come next
 abbrev pub wants_name : State → Bool
 wants_name (states.At spots.Name) = true
 wants_name (states.At (spots.Front front)) = front_names front
 wants_name _ = false
 
--- what it may be
+-- whether a sign of this class can be the name of an item
 abbrev pub is_name : Class → Bool
 is_name (signs.Word _) = true
 is_name signs.SelfValue = true
 is_name signs.Underscore = true
 is_name _ = false
 
--- whether a sign of this class is an item's name
+-- whether a sign of this class is the name of the item, in this state
 abbrev pub names : Place → Class → Bool
 names place class = wants_name place.state && is_name class

@@ -1,4 +1,4 @@
--- Items: what may follow their names.
+-- The steps of the walk over an item, from its name on. A step says where a sign leads.
 use Rattle.std.specs.Prelude.{Bool, true, false, Option, None}
 use Rattle.declarations.specs.Moves.{only, to_bounds, to_front, to_spot, to_type}
 use Rattle.declarations.specs.declared.class.Class.{Class}
@@ -12,7 +12,7 @@ use Rattle.declarations.specs.declared.place.Rule.TheVariants as rules
 use Rattle.declarations.specs.declared.place.Shift.{Shift}
 use Rattle.declarations.specs.declared.place.Spot.TheVariants as spots
 
--- whether a body in braces may end the item
+-- whether the item may end with a body in braces
 abbrev pub in_braces : Item → Bool
 in_braces items.Struct = true
 in_braces items.Enum = true
@@ -27,7 +27,7 @@ in_braces items.Macro = true
 in_braces items.Call = true
 in_braces _ = false
 
--- whether `;` may end it
+-- whether the item may end with `;`
 abbrev pub in_semicolon : Item → Bool
 in_semicolon items.Struct = true
 in_semicolon items.Tuple = true
@@ -42,28 +42,28 @@ in_semicolon items.Use = true
 in_semicolon items.ExternCrate = true
 in_semicolon _ = false
 
--- after `=`: the type of an alias, or the expression of a constant
+-- the step after `=`, before the type of an alias or the expression of a constant
 abbrev pub value : Item → Option Shift
 value items.Alias = to_type items.Aliased rules.Header
 value items.Constant = to_front items.Constant fronts.UntilFirst
 value items.Static = to_front items.Static fronts.UntilFirst
 value _ = None
 
--- after the header of an item, or its where clause
+-- the step after the header of an item, or after its where clause
 abbrev pub body : Item → Class → Option Shift
 body item signs.Braces = only (in_braces item) (to_spot item spots.ItemEnd)
 body item signs.Semicolon = only (in_semicolon item) (to_spot item spots.ItemEnd)
 body item signs.Equals = value item
 body item _ = None
 
--- whether no item is declared around a part, whose body would have to follow
+-- whether the part is read on its own, so that no body has to follow
 abbrev pub is_alone : Item → Bool
 is_alone items.Alone = true
 is_alone items.Variants = true
 is_alone items.Group = true
 is_alone _ = false
 
--- whether it may have a where clause
+-- whether the item may have a where clause
 abbrev pub has_where : Item → Bool
 has_where items.Struct = true
 has_where items.Tuple = true
@@ -77,29 +77,29 @@ has_where items.TraitAlias = true
 has_where items.Impl = true
 has_where _ = false
 
--- after the header of an item, which a where clause may follow
+-- the step after the header of an item, where a where clause may begin
 abbrev pub header : Item → Class → Option Shift
 header item (signs.Keyword keywords.Where) = only (has_where item) (to_spot item spots.Predicate)
 header item class = body item class
 
--- after the generic parameters of a struct
+-- the step after the generic parameters of a struct
 abbrev pub struct_header : Class → Option Shift
 struct_header signs.Parentheses = to_spot items.Tuple spots.AfterGenerics
 struct_header signs.Restriction = to_spot items.Tuple spots.AfterGenerics
 struct_header class = header items.Struct class
 
--- after those of a function, which its parameters follow
+-- the step after the generic parameters of a function, before its parameters
 abbrev pub function_header : Class → Option Shift
 function_header signs.Parentheses = to_spot items.Returning spots.AfterGenerics
 function_header signs.Restriction = to_spot items.Returning spots.AfterGenerics
 function_header _ = None
 
--- after the parameters of a function
+-- the step after the parameters of a function
 abbrev pub return_header : Class → Option Shift
 return_header signs.Arrow = to_type items.Returning rules.Header
 return_header class = header items.Returning class
 
--- after the name of a constant or static
+-- the step after the name of a constant or a static
 abbrev pub typed_header : Item → Class → Option Shift
 typed_header item signs.Colon = to_type item rules.Header
 typed_header item _ = None
@@ -113,13 +113,13 @@ trait_header signs.Colon = to_bounds items.Trait rules.Header
 trait_header signs.Equals = to_bounds items.TraitAlias rules.Header
 trait_header class = header items.Trait class
 
--- after the generic parameters of an `impl`, but for types
+-- the step after the generic parameters of an `impl`, if no type begins there
 abbrev pub impl_header : Class → Option Shift
 impl_header (signs.Keyword keywords.Const) = to_front items.Impl fronts.ImplConst
 impl_header signs.Exclamation = to_front items.Impl fronts.ImplNot
 impl_header _ = None
 
--- what may stand after the generic parameters of an item, or after those that may be left out
+-- the step after the generic parameters of an item, which may be left out
 abbrev pub closing : Item → Class → Option Shift
 closing items.Struct class = struct_header class
 closing items.Function class = function_header class
@@ -131,7 +131,7 @@ closing items.Trait class = trait_header class
 closing items.Impl class = impl_header class
 closing item class = header item class
 
--- after a name that generic parameters may follow
+-- the step after a name that generic parameters may follow
 abbrev pub generics : Item → Class → Option Shift
 generics item signs.Less = to_spot item (spots.Before parts.Parameter)
 generics item signs.LessJoint = to_spot item (spots.Before parts.Parameter)

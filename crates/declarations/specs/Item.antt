@@ -1,4 +1,4 @@
--- The parts of a struct, an enum or a union, in reading order.
+-- The parts of a struct, an enum or a union.
 use Rattle.std.specs.Prelude.{◌≡◌, ◌⊎◌, List, [], ◌∷◌, ◌++◌, Bool, true, false, not}
 use Rattle.pm_token.specs.Leaf.{Name}
 use Rattle.pm_token.specs.declared.delimiters.Delimiter.TheVariants as delimiters
@@ -24,9 +24,9 @@ use Rattle.declarations.specs.declared.item.Body.TheVariants as bodies
 use Rattle.declarations.specs.declared.item.Fields.TheVariants as fields
 use Rattle.declarations.specs.declared.item.TypeItem.{TypeItem}
 
--- ---- the trees after each part
+-- ---- the trees from each part on
 
--- what follows a where clause: the fields in braces or a `;`
+-- the trees after a where clause: fields or variants in braces, or a `;`
 abbrev pub after_clause : Body → List TokenTree → List TokenTree
 after_clause (bodies.Struct (fields.Named g)) semicolon = Group g.now ∷ semicolon
 after_clause (bodies.Struct (fields.Tuple g)) semicolon = semicolon
@@ -34,7 +34,7 @@ after_clause (bodies.Struct fields.Unit) semicolon = semicolon
 after_clause (bodies.Enum g) semicolon = Group g.now ∷ semicolon
 after_clause (bodies.Union g) semicolon = Group g.now ∷ semicolon
 
--- the fields in parentheses stand before it
+-- the fields of a tuple struct, if there are some, and then the rest
 abbrev pub with_tuple : Body → List TokenTree → List TokenTree
 with_tuple (bodies.Struct (fields.Named g)) rest = rest
 with_tuple (bodies.Struct (fields.Tuple g)) rest = Group g.now ∷ rest
@@ -57,27 +57,27 @@ after_visibility item = Ident item.keyword.now ∷ Ident item.name.now ∷ after
 abbrev pub after_attributes : TypeItem → List TokenTree
 after_attributes item = item.visibility.now ++ after_visibility item
 
--- all its parts, in reading order
+-- all trees of the item's parts, in reading order
 abbrev pub parts_of : TypeItem → List TokenTree
 parts_of item = item.attributes.now ++ after_attributes item
 
 -- ---- what each part is
 
--- a word may be a name
+-- a sign of this class can be a name
 abbrev pub IsNameClass : Class → Type 0
 IsNameClass (classes.Word word) = Unit {0}
 IsNameClass class = ⊥
 
--- the same, as a test
+-- whether a sign of this class can be a name
 abbrev pub is_name_class : Class → Bool
 is_name_class (classes.Word word) = true
 is_name_class class = false
 
--- an identifier that can't be a name
+-- whether an identifier is a keyword, and so cannot be a name
 abbrev pub is_keyword : Name → Bool
 is_keyword ident = not (is_name_class (name_class ident))
 
--- the body that the keyword calls for, and a `;` after a struct without braces alone
+-- the item with this keyword has this body, and `;` exactly if it is a struct without braces
 abbrev pub HasBody : Class → Body → List TokenTree → Type 0
 HasBody (classes.Keyword keywords.Struct) (bodies.Struct (fields.Named g)) semicolon =
     (g.now.delimiter ≡ delimiters.Brace) × (semicolon ≡ [])
@@ -91,22 +91,22 @@ HasBody (classes.Word words.Union) (bodies.Union g) semicolon =
     (g.now.delimiter ≡ delimiters.Brace) × (semicolon ≡ [])
 HasBody class body semicolon = ⊥
 
--- the trees after the generic parameters are this where clause and body
+-- the trees after the generic parameters are this where clause and this body
 pub record HasEnding (keyword : Class) (trees : List TokenTree) (body : Body) (clause semicolon : List TokenTree)
     : Type 0 where
   pub whole : trees ≡ ending body clause semicolon
   pub clause_reads : Reads IsWhere (clause ++ after_clause body semicolon) clause (after_clause body semicolon)
   pub shape : HasBody keyword body semicolon
 
--- a where clause and braces are all that is left
+-- the trees are a where clause and a group in braces, with nothing after it
 pub record HasBraces (trees clause : List TokenTree) (group : Grouped) (after : List TokenTree) : Type 0 where
   pub whole : trees ≡ clause ++ Group group ∷ after
   pub clause_reads : Reads IsWhere (clause ++ Group group ∷ after) clause (Group group ∷ after)
   pub braces : group.delimiter ≡ delimiters.Brace
   pub none : after ≡ []
 
--- the trees are an item, and these are its parts: in order they are the trees, and each is what its rule reads of the
--- trees from it on
+-- the trees are an item with these parts. In order the parts are the trees, and each part is what its rule reads from
+-- there on
 pub record IsTypeItem (trees : List TokenTree) (item : TypeItem) : Type 0 where
   pub all : ReadsAll IsItem trees
   pub whole : trees ≡ parts_of item
@@ -117,17 +117,17 @@ pub record IsTypeItem (trees : List TokenTree) (item : TypeItem) : Type 0 where
   pub end : HasEnding (name_class item.keyword.now) (after_generics item) item.body item.where_clause.now
       item.semicolon.now
 
--- ---- what is left of an item
+-- ---- the trees that are left of an item
 
 abbrev pub behind_generics : Item → Place
 behind_generics item = record { item = item; rule = rules.Alone; state = states.At spots.AfterGenerics; depth = 0 }
 
--- of an enum or a union
+-- the trees are what comes after the generic parameters of an enum or a union
 abbrev pub AreBracesLeft : List TokenTree → Type 0
 AreBracesLeft trees =
     ReadsAll (IsFrom (behind_generics items.Enum)) trees ⊎ ReadsAll (IsFrom (behind_generics items.Union)) trees
 
--- after the generic parameters of an item of this keyword
+-- the trees are what comes after the generic parameters of an item with this keyword
 abbrev pub IsLeft : Class → List TokenTree → Type 0
 IsLeft (classes.Keyword keywords.Struct) trees = ReadsAll (IsFrom (behind_generics items.Struct)) trees
 IsLeft (classes.Keyword keywords.Enum) trees = AreBracesLeft trees

@@ -1,4 +1,4 @@
--- What is told of an item: its kind and its name.
+-- The kind and the name of an item.
 use Rattle.std.specs.Prelude.{◌≡◌, List, Option}
 use Rattle.pm_token.specs.Leaf.{Name}
 use Rattle.pm_stream.specs.declared.stream.TokenTree.{TokenTree}
@@ -32,7 +32,7 @@ kind_of items.Macro = kinds.Macro
 kind_of items.Call = kinds.MacroCall
 kind_of _ = kinds.Group
 
--- the walk over an item's signs, which the rest follows, ends where an item of this kind does, and takes this name
+-- the walk over the item's signs, up to the rest, ends in an item of this kind and finds this name
 pub record Tells (trees rest : List TokenTree) (kind : ItemKind) (name : Option Name) : Type 0 where
   pub last : Place
   pub walked : Walked any_item trees rest last name

@@ -1,4 +1,4 @@
--- Lists of parts, one at a time.
+-- Lists of parts, one part at a time.
 use Rattle.std.specs.Prelude.{◌≡◌, ℕ, ◌⊎◌, Bool, true, false, List, [], ◌∷◌, Option, Result}
 use Rattle.std.specs.Prelude.{MatchOption, MatchResult, length}
 use Rattle.pm_stream.specs.Trees.{forest}
@@ -19,13 +19,13 @@ use Rattle.declarations.specs.declared.list.FieldList.{FieldList}
 use Rattle.declarations.specs.declared.list.VariantList.{VariantList}
 use Rattle.declarations.specs.declared.variant.Variant.{Variant}
 
--- what follows a part of a list: nothing, or `,` (44) and the trees that are left
+-- the trees are `,` (44) and then the left trees, or both are empty
 abbrev pub IsPastComma : List TokenTree → List TokenTree → Type 0
 IsPastComma [] left = left ≡ []
 IsPastComma (Punct mark ∷ rest) left = (mark.mark ≡ 44) × (left ≡ rest)
 IsPastComma (tree ∷ rest) left = ⊥
 
--- a part is read, and neither a `,` nor the end follows it
+-- a part is read, and neither `,` nor the end comes after it
 pub record LacksComma (form : List Class → List Class → Type 0) (trees : List TokenTree) (at : ℕ) : Type 0 where
   pub part : List TokenTree
   pub rest : List TokenTree
@@ -33,24 +33,24 @@ pub record LacksComma (form : List Class → List Class → Type 0) (trees : Lis
   pub counted : at ≡ length part
   pub none : (left : List TokenTree) → IsPastComma rest left → ⊥
 
--- the fault of a list: so many trees stand before it, of those that are left
+-- the error of a list: its next part cannot be read, or neither `,` nor the end comes after that part
 pub record IsListFault (form : List Class → List Class → Type 0) (trees : List TokenTree) (fault : Fault)
     : Type 0 where
   pub place : FaultAt form trees fault.at ⊎ LacksComma form trees fault.at
   pub span : fault.span ≡ extent_at trees fault.at
 
--- the part of a list at its front, as `at` says, and the trees after its comma
+-- the list begins with this part, and the left trees are those after its comma
 abbrev pub IsFirst : {A : Type 0} → (List TokenTree → A → List TokenTree → Type 0) → List TokenTree → A
     → List TokenTree → Type 0
 IsFirst at trees part left = (rest : List TokenTree) × at trees part rest × IsPastComma rest left
 
--- the first part or the fault, after which nothing is left
+-- the list begins with this part; or it has this error at its first part, and no trees are left
 abbrev pub BeginsList : {A : Type 0} → (List TokenTree → A → List TokenTree → Type 0)
     → (List Class → List Class → Type 0) → List TokenTree → Result A Fault → List TokenTree → Type 0
 BeginsList at form trees found left =
     MatchResult found (λ part. IsFirst at trees part left) (λ fault. IsListFault form trees fault × (left ≡ []))
 
--- a list gives these parts, and these trees are left
+-- the list begins with these parts, and then has the left trees
 abbrev pub Lists : {A : Type 0} → (List TokenTree → A → List TokenTree → Type 0) → List TokenTree → List A
     → List TokenTree → Type 0
 Lists at trees [] left = trees ≡ left
@@ -66,18 +66,18 @@ abbrev pub field_form : Bool → List Class → List Class → Type 0
 field_form true = IsField
 field_form false = IsTupleField
 
--- a call for the next field gives it, or the fault, and nothing after the last
+-- a call of `next` gives the next field or an error, and nothing if no trees are left
 abbrev pub GivesField : FieldList → Option (Result Field Fault) → FieldList → Type 0
 GivesField old given new =
     MatchOption given ((old.left.now ≡ []) × (new ≡ old))
     (λ found. BeginsList (IsFieldOf old.named) (field_form old.named) old.left.now found new.left.now
     × (new.named ≡ old.named))
 
--- these are the trees in the group
+-- these are the trees inside the group
 abbrev pub AreInside : List TokenTree → Grouped → Type 0
 AreInside trees g = forest trees ≡ g.stream
 
--- the list reads the fields that a struct or a variant has
+-- the list gives the fields of this struct or variant
 abbrev pub ListsFields : Fields → FieldList → Type 0
 ListsFields (fields.Named g) list = (list.named ≡ true) × AreInside list.left.now g.now
 ListsFields (fields.Tuple g) list = (list.named ≡ false) × AreInside list.left.now g.now

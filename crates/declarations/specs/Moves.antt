@@ -1,4 +1,4 @@
--- Moves from one place within a declaration to another.
+-- The moves from one state of the walk to another.
 use Rattle.std.specs.Prelude.{Bool, true, false, Option, Some, None}
 use Rattle.declarations.specs.declared.place.Front.{Front}
 use Rattle.declarations.specs.declared.place.Item.{Item}
@@ -30,7 +30,7 @@ to_spot item spot = at_spot item rules.Alone spot
 abbrev pub to_front : Item → Front → Option Shift
 to_front item front = to_spot item (spots.Front front)
 
--- out of angle brackets that are those of parameters
+-- the move out of the angle brackets of generic parameters
 abbrev pub close_to : Item → Spot → Option Shift
 close_to item spot = turn_to item rules.Alone (states.At spot) turns.Close
 
@@ -40,7 +40,7 @@ to_type item rule = move_to item rule (states.Range types.Wanted)
 abbrev pub to_bounds : Item → Rule → Option Shift
 to_bounds item rule = move_to item rule (states.Range types.Bound)
 
--- into the angle brackets of an expression
+-- the move into the angle brackets of an expression
 abbrev pub open_angle : Item → Rule → Option Shift
 open_angle item rule = turn_to item rule (states.Range types.Argument) turns.Open
 
@@ -48,6 +48,6 @@ abbrev pub only : Bool → Option Shift → Option Shift
 only true shift = shift
 only false shift = None
 
--- a type that may begin at a place
+-- a type that can begin in a state
 abbrev pub type_from : Rule → TypeState → Option TypeStart
 type_from rule state = Some (record { rule = rule; state = state })

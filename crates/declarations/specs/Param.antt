@@ -14,44 +14,44 @@ use Rattle.declarations.specs.declared.generics.ParamKind.{ParamKind}
 use Rattle.declarations.specs.declared.generics.ParamKind.TheVariants as kinds
 use Rattle.declarations.specs.declared.generics.Predicate.{Predicate}
 
--- ---- signs and what may follow them
+-- ---- single signs
 
--- the trees begin with a sign of this class, which is these trees, and the rest follows it
+-- the trees are a sign of this class and then the rest
 pub record HasSign (class : Class) (trees sign rest : List TokenTree) : Type 0 where
   pub begins : BeginsWith trees class rest
   pub whole : trees ≡ sign ++ rest
 
--- a word, whatever it is
+-- the trees are a word of any kind and then the rest
 pub record IsWord (trees name rest : List TokenTree) : Type 0 where
   pub word : Word
   pub sign : HasSign (classes.Word word) trees name rest
 
--- no sign of this class stands at the front
+-- the trees do not begin with a sign of this class
 abbrev pub HasNo : Class → List TokenTree → Type 0
 HasNo class trees = (rest : List TokenTree) → BeginsWith trees class rest → ⊥
 
--- the mark and what the form reads after it; or no such mark, and nothing is taken
+-- the trees begin with the mark and a part of this form; or they do not begin with the mark, and the part is empty
 pub data MayHave (mark : Class) (form : List TokenTree → List TokenTree → List TokenTree → Type 0)
     (trees part rest : List TokenTree) : Type 0 where
   stands : (left : List TokenTree) → BeginsWith trees mark left → form left part rest
       → MayHave mark form trees part rest
   left_out : HasNo mark trees → part ≡ [] → rest ≡ trees → MayHave mark form trees part rest
 
--- the mark and what the form reads after it
+-- the trees begin with the mark and a part of this form
 pub record MustHave (mark : Class) (form : List TokenTree → List TokenTree → List TokenTree → Type 0)
     (trees part rest : List TokenTree) : Type 0 where
   pub left : List TokenTree
   pub begins : BeginsWith trees mark left
   pub reads : form left part rest
 
--- the end of an element of a list: a `,`, or no trees
+-- the end of a list's element: a `,`, or the end of the trees
 pub data EndsElement (trees rest : List TokenTree) : Type 0 where
   comma : BeginsWith trees classes.Comma rest → EndsElement trees rest
   last : trees ≡ [] → rest ≡ [] → EndsElement trees rest
 
 -- ---- generic parameters
 
--- the trees of a parameter's parts
+-- the parts of a generic parameter, as lists of trees
 pub record ParamTrees : Type 0 where
   pub attributes : List TokenTree
   pub kind : ParamKind
@@ -59,7 +59,7 @@ pub record ParamTrees : Type 0 where
   pub bounds : List TokenTree
   pub default : List TokenTree
 
--- the trees of a parameter's parts, as the library gives them
+-- the parts of a generic parameter that the library returns, as lists of trees
 abbrev pub param_trees : Param → ParamTrees
 param_trees param = record {
   attributes = param.attributes.now;
@@ -69,40 +69,40 @@ param_trees param = record {
   default = param.default.now;
 }
 
--- what its kind and its name are read of
+-- the trees begin with the name of a parameter of this kind
 abbrev pub HasName : ParamKind → List TokenTree → List TokenTree → List TokenTree → Type 0
 HasName kinds.Lifetime trees name rest = HasSign classes.Lifetime trees name rest
 HasName kinds.Type trees name rest = IsWord trees name rest
 HasName kinds.Const trees name rest = MustHave (classes.Keyword keywords.Const) IsWord trees name rest
 
--- bounds, or the type of a constant
+-- the trees begin with the bounds of a parameter, or with the type of a constant
 abbrev pub HasBounds : ParamKind → List TokenTree → List TokenTree → List TokenTree → Type 0
 HasBounds kinds.Lifetime trees bounds rest = MayHave classes.Colon (Reads AreBounds) trees bounds rest
 HasBounds kinds.Type trees bounds rest = MayHave classes.Colon (Reads AreBounds) trees bounds rest
 HasBounds kinds.Const trees bounds rest = MustHave classes.Colon (Reads IsType) trees bounds rest
 
--- whether a sign is a constant by itself
+-- whether a sign of this class is the whole default of a constant
 abbrev pub is_constant : Class → Bool
 is_constant classes.Literal = true
 is_constant classes.Braces = true
 is_constant classes.Truth = true
 is_constant _ = false
 
--- the default of a constant: such a sign, `-` and a literal, or a type
+-- the default of a constant: a literal, braces, `true`, `false`, `-` and a literal, or a type
 pub data ReadsConstant (trees part rest : List TokenTree) : Type 0 where
   one_sign : (class : Class) → is_constant class ≡ true → HasSign class trees part rest → ReadsConstant trees part rest
   negative : (left : List TokenTree) → BeginsWith trees classes.Minus left → BeginsWith left classes.Literal rest
       → trees ≡ part ++ rest → ReadsConstant trees part rest
   of_type : Reads IsType trees part rest → ReadsConstant trees part rest
 
--- what stands after `=`
+-- the trees begin with `=` and the default of a parameter, or the default is left out
 abbrev pub HasDefault : ParamKind → List TokenTree → List TokenTree → List TokenTree → Type 0
 HasDefault kinds.Lifetime trees default rest = (default ≡ []) × (rest ≡ trees)
 HasDefault kinds.Type trees default rest = MayHave classes.Equals (Reads IsType) trees default rest
 HasDefault kinds.Const trees default rest = MayHave classes.Equals ReadsConstant trees default rest
 
--- the trees begin with a parameter, and these are its parts: each is what its rule reads of the trees after the one
--- before it, and a `,` follows the last, or nothing
+-- the trees begin with a generic parameter that has these parts. Each part is what its rule reads after the part before
+-- it. Then comes a `,` and the rest, or nothing
 pub record IsParamAt (trees : List TokenTree) (param : ParamTrees) (rest : List TokenTree) : Type 0 where
   pub from_name : List TokenTree
   pub from_bounds : List TokenTree
@@ -114,7 +114,7 @@ pub record IsParamAt (trees : List TokenTree) (param : ParamTrees) (rest : List 
   pub default : HasDefault param.kind from_default param.default from_end
   pub ends : EndsElement from_end rest
 
--- no other parameter with another rest stands at the front of the trees
+-- no other parameter, and none with another rest, is at the start of the trees
 abbrev pub IsOnlyParam : List TokenTree → ParamTrees → List TokenTree → Type 0
 IsOnlyParam trees param rest =
     (param2 : ParamTrees) (rest2 : List TokenTree) → IsParamAt trees param2 rest2
@@ -122,16 +122,16 @@ IsOnlyParam trees param rest =
 
 -- ---- predicates
 
--- the trees of a predicate's parts
+-- the parts of a predicate, as lists of trees
 pub record PredicateTrees : Type 0 where
   pub bounded : List TokenTree
   pub bounds : List TokenTree
 
--- the trees of a predicate's parts, as the library gives them
+-- the parts of a predicate that the library returns, as lists of trees
 abbrev pub predicate_trees : Predicate → PredicateTrees
 predicate_trees predicate = record { bounded = predicate.bounded.now; bounds = predicate.bounds.now }
 
--- the trees begin with a predicate, and these are its parts: a type, and after `:` bounds
+-- the trees begin with a predicate that has these parts: a type, and bounds after `:`. Then comes a `,`, or nothing
 pub record IsPredicateAt (trees : List TokenTree) (predicate : PredicateTrees) (rest : List TokenTree)
     : Type 0 where
   pub from_colon : List TokenTree
@@ -140,26 +140,26 @@ pub record IsPredicateAt (trees : List TokenTree) (predicate : PredicateTrees) (
   pub bounds : MustHave classes.Colon (Reads AreBounds) from_colon predicate.bounds from_end
   pub ends : EndsElement from_end rest
 
--- no other predicate with another rest stands at the front of the trees
+-- no other predicate, and none with another rest, is at the start of the trees
 abbrev pub IsOnlyPredicate : List TokenTree → PredicateTrees → List TokenTree → Type 0
 IsOnlyPredicate trees predicate rest =
     (predicate2 : PredicateTrees) (rest2 : List TokenTree) → IsPredicateAt trees predicate2 rest2
     → (predicate2 ≡ predicate) × (rest2 ≡ rest)
 
--- ---- what the lists stand in
+-- ---- the trees that hold the lists
 
 abbrev pub is_mark_of : ℕ → TokenTree → Bool
 is_mark_of c (Punct p) = p.mark == c
 is_mark_of c _ = false
 
--- the trees between `<` (60) and `>` (62), or none where there are no generics
+-- the trees between `<` (60) and `>` (62), or no trees if there are no generic parameters
 abbrev pub IsWithin : List TokenTree → List TokenTree → Type 0
 IsWithin [] inside = inside ≡ []
 IsWithin (first ∷ rest) inside =
     (close : TokenTree) × (rest ≡ inside ++ close ∷ []) × (is_mark_of 60 first ≡ true)
     × (is_mark_of 62 close ≡ true)
 
--- the trees of a where clause after `where`, or none where there is no clause
+-- the trees after the `where` of a where clause, or no trees if there is no clause
 abbrev pub IsAfterWhere : List TokenTree → List TokenTree → Type 0
 IsAfterWhere [] inside = inside ≡ []
 IsAfterWhere (Ident i ∷ rest) inside = (is_written i (codes "where") ≡ true) × (inside ≡ rest)
@@ -167,11 +167,11 @@ IsAfterWhere _ inside = ⊥
 
 -- ---- steps of the parser
 
--- the trees end with those that are left
+-- the trees end with the left trees
 abbrev pub IsBack : List TokenTree → List TokenTree → Type 0
 IsBack left trees = (front : List TokenTree) × (trees ≡ front ++ left)
 
--- the form reads nothing, and the fault stands before the trees that are left
+-- nothing of the form can be read from the trees, and the error is before the left trees
 pub record Fails (form : List TokenTree → List TokenTree → List TokenTree → Type 0) (trees left : List TokenTree)
     : Type 0 where
   pub back : IsBack left trees

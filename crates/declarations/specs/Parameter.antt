@@ -27,7 +27,7 @@ use Rattle.declarations.specs.rules.Types.{type}
 
 -- ---- what a parameter is
 
--- a part by the first rule, `:` and a part by the second
+-- the trees begin with a part by the first rule, `:`, and a part by the second rule
 pub record HasType (name end : G) (trees named ended rest : List TokenTree) : Type 0 where
   pub from_colon : List TokenTree
   pub from_end : List TokenTree
@@ -35,20 +35,20 @@ pub record HasType (name end : G) (trees named ended rest : List TokenTree) : Ty
   pub colon : BeginsWith from_colon classes.Colon from_end
   pub end_read : Reads (ByRule end) from_end ended rest
 
--- `...` alone, or after a pattern and `:`
+-- the trees begin with `...`, or with a pattern, `:` and `...`
 abbrev pub IsVariadic : List TokenTree → List TokenTree → List TokenTree → Type 0
 IsVariadic trees pattern rest =
     ((pattern ≡ []) × (ended : List TokenTree) × Reads (ByRule rule.dots) trees ended rest)
     ⊎ ((ended : List TokenTree) × HasType rule.pattern rule.dots trees pattern ended rest)
 
--- the trees after the attributes begin with these parts
+-- the trees after the attributes begin with a parameter of this kind that has this pattern
 abbrev pub HasKind : ParameterKind → List TokenTree → List TokenTree → List TokenTree → Type 0
 HasKind kinds.Receiver trees pattern rest = Reads (ByRule rule.receiver) trees pattern rest
 HasKind (kinds.TypedReceiver ty) trees pattern rest = HasType rule.receiver type trees pattern ty.now rest
 HasKind (kinds.Typed ty) trees pattern rest = HasType rule.pattern type trees pattern ty.now rest
 HasKind kinds.Variadic trees pattern rest = IsVariadic trees pattern rest
 
--- the trees begin with a parameter, and these are its parts
+-- the trees begin with a function's parameter that has these parts, and the rest comes after it
 pub record IsParameterAt (trees : List TokenTree) (parameter : Parameter) (rest : List TokenTree) : Type 0 where
   pub part : List TokenTree
   pub reads : Reads (ByRule rule.function_parameter) trees part rest
@@ -56,47 +56,47 @@ pub record IsParameterAt (trees : List TokenTree) (parameter : Parameter) (rest 
   pub attributes : Reads (ByRule attributes) trees parameter.attributes.now after_attributes
   pub parts : HasKind parameter.kind after_attributes parameter.pattern.now rest
 
--- a call for the next parameter gives it, or the fault, and nothing after the last
+-- a call of `next` gives the next parameter or an error, and nothing if no trees are left
 abbrev pub GivesParameter : Parameters → Option (Result Parameter Fault) → Parameters → Type 0
 GivesParameter old given new =
     MatchOption given ((old.left.now ≡ []) × (new ≡ old))
     (λ found. BeginsList IsParameterAt (ByRule rule.function_parameter) old.left.now found new.left.now)
 
--- ---- how it is read
+-- ---- how a parameter is read
 
--- what the rule finds in the trees begins with what comes before the rest, and goes on with what another finds there
+-- what the rule `g` finds in the trees is what comes before the rest, and then what the rule `h` finds in the rest
 pub record LeadsTo (g : G) (trees : List TokenTree) (h : G) (rest : List TokenTree) : Type 0 where
   pub events : List (Event Class Label)
   pub found : find rules g (classes_in trees) ≡ front events (find rules h (classes_in rest))
   pub remains : Remains rest trees
 
--- what is still to be read of a parameter
+-- the rule that reads the rest of a parameter with this beginning
 abbrev pub left_of : Shape → G
 left_of shapes.Pattern = rule.typed
 left_of shapes.Receiver = rule.self_type
 left_of shapes.Reference = Nothing
 
--- what is read of it, where this is the rule of a receiver
+-- the rule that reads this beginning of a parameter. The given rule is that of a receiver
 abbrev pub front_of : G → Shape → G
 front_of receiver shapes.Pattern = rule.pattern
 front_of receiver shapes.Receiver = receiver
 front_of receiver shapes.Reference = receiver
 
--- what is found up to the `:` of a parameter, or its end
+-- the result is the beginning of a parameter, up to its `:` or its end, or the trees from the error on
 abbrev pub ReadsFront : G → G → List TokenTree → Result (Shape × Bor (List TokenTree)) (Bor (List TokenTree)) → Type 0
 ReadsFront g receiver trees result =
     MatchResult result
     (λ found. LeadsTo g trees (left_of found.0) found.1.now × Finds (front_of receiver found.0) trees found.1.now)
     (λ left. Sticks g trees left.now)
 
--- a pattern, up to its `:`
+-- the result is a pattern, up to its `:`, or the trees from the error on
 abbrev pub ReadsPattern : List TokenTree → Result (Shape × Bor (List TokenTree)) (Bor (List TokenTree)) → Type 0
 ReadsPattern trees result =
     MatchResult result
     (λ found. (found.0 ≡ shapes.Pattern) × Finds rule.pattern trees found.1.now)
     (λ left. Sticks rule.pattern trees left.now)
 
--- what follows a receiver
+-- the trees after a receiver begin with what a parameter of this kind has there
 abbrev pub HasSelfType : ParameterKind → List TokenTree → List TokenTree → Type 0
 HasSelfType kinds.Receiver trees rest = trees ≡ rest
 HasSelfType (kinds.TypedReceiver ty) trees rest =
@@ -104,32 +104,32 @@ HasSelfType (kinds.TypedReceiver ty) trees rest =
 HasSelfType (kinds.Typed ty) trees rest = ⊥
 HasSelfType kinds.Variadic trees rest = ⊥
 
--- what follows the `:` after a pattern
+-- the trees after a pattern and `:` begin with what a parameter of this kind has there
 abbrev pub IsTyped : ParameterKind → List TokenTree → List TokenTree → Type 0
 IsTyped kinds.Receiver trees rest = ⊥
 IsTyped (kinds.TypedReceiver ty) trees rest = ⊥
 IsTyped (kinds.Typed ty) trees rest = Reads (ByRule type) trees ty.now rest
 IsTyped kinds.Variadic trees rest = (ended : List TokenTree) × Reads (ByRule rule.dots) trees ended rest
 
--- the kind of a parameter with a pattern
+-- the result is the kind of a parameter with a pattern, from after its `:` on, or the trees from the error on
 abbrev pub ReadsTyped : List TokenTree → Result (ParameterKind × Bor (List TokenTree)) (Bor (List TokenTree)) → Type 0
 ReadsTyped trees result =
     MatchResult result
     (λ found. Finds rule.typed_end trees found.1.now × IsTyped found.0 trees found.1.now)
     (λ left. Sticks rule.typed_end trees left.now)
 
--- what follows a pattern
+-- the trees after a pattern begin with `:` and what a parameter of this kind has there
 abbrev pub HasPatternType : ParameterKind → List TokenTree → List TokenTree → Type 0
 HasPatternType kind trees rest =
     (from_end : List TokenTree) × BeginsWith trees classes.Colon from_end × IsTyped kind from_end rest
 
--- what follows what is read of a parameter
+-- the trees after this beginning of a parameter begin with what a parameter of this kind has there
 abbrev pub HasEnd : Shape → ParameterKind → List TokenTree → List TokenTree → Type 0
 HasEnd shapes.Pattern = HasPatternType
 HasEnd shapes.Receiver = HasSelfType
 HasEnd shapes.Reference = HasSelfType
 
--- the kind of a parameter and the trees after what the rule finds, or those from the fault on
+-- the result is the kind of a parameter and the trees after what the rule finds, or the trees from the error on
 abbrev pub ReadsEnd : G → Shape → List TokenTree → Result (ParameterKind × Bor (List TokenTree)) (Bor (List TokenTree))
     → Type 0
 ReadsEnd g shape trees result =
@@ -137,7 +137,7 @@ ReadsEnd g shape trees result =
     (λ found. Finds g trees found.1.now × HasEnd shape found.0 trees found.1.now)
     (λ left. Sticks g trees left.now)
 
--- a parameter without its attributes: its pattern and its kind
+-- the result is the pattern and the kind of a parameter after its attributes, or the trees from the error on
 abbrev pub ReadsNamed : G → List TokenTree
     → Result (Named × Bor (List TokenTree)) (Bor (List TokenTree)) → Type 0
 ReadsNamed g trees result =
@@ -145,7 +145,7 @@ ReadsNamed g trees result =
     (λ found. Finds g trees found.1.now × HasKind found.0.kind trees found.0.pattern.now found.1.now)
     (λ left. Sticks g trees left.now)
 
--- a parameter and the trees after what the rule finds, or those from the fault on
+-- the result is a parameter and the trees after what the rule finds, or the trees from the error on
 abbrev pub ReadsParameter : List TokenTree → Result (Parameter × Bor (List TokenTree)) (Bor (List TokenTree)) → Type 0
 ReadsParameter trees result =
     MatchResult result

@@ -1,4 +1,4 @@
--- What a function that reads by a rule of the grammar answers.
+-- What a function returns that reads by one rule of the grammar.
 use Rattle.std.specs.Prelude.{◌≡◌, List, ◌++◌, Result, Ok, Err}
 use Rattle.std.specs.Borrow.{Bor}
 use Rattle.grammars.specs.Grammar.{Event}
@@ -13,24 +13,24 @@ use Rattle.declarations.specs.rules.Rules.{rules}
 unfoldable pub classes_in : List TokenTree → List Class
 classes_in trees = classes_of (signs trees)
 
--- these trees remain of the others after some whole signs
+-- the rest is what remains of the trees after some whole signs
 pub record Remains (rest trees : List TokenTree) : Type 0 where
   pub front : List Sign
   pub read : signs trees ≡ front ++ signs rest
   pub whole : trees ≡ trees_of front ++ rest
 
--- what the rule finds at the front of the trees ends before the rest
+-- what the rule finds at the start of the trees ends before the rest
 pub record Finds (g : G) (trees rest : List TokenTree) : Type 0 where
   pub events : List (Event Class Label)
   pub found : find rules g (classes_in trees) ≡ Past events (classes_in rest)
   pub remains : Remains rest trees
 
--- the rule finds nothing: the fault stands before the trees that are left
+-- the rule finds nothing at the start of the trees, and the error is before the left trees
 pub record Sticks (g : G) (trees left : List TokenTree) : Type 0 where
   pub stuck : find rules g (classes_in trees) ≡ Stuck (classes_in left)
   pub remains : Remains left trees
 
--- the trees after what the rule finds, or those from the fault on
+-- the result is the trees after what the rule finds, or the trees from the error on
 abbrev pub ReadsRule : G → List TokenTree → Result (Bor (List TokenTree)) (Bor (List TokenTree)) → Type 0
 ReadsRule g trees (Ok rest) = Finds g trees rest.now
 ReadsRule g trees (Err left) = Sticks g trees left.now

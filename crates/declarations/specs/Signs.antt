@@ -1,4 +1,4 @@
--- The signs of trees: each is one tree, or two that are read as one.
+-- The signs of trees. A sign is one tree, or two trees that are read as one.
 use Rattle.std.specs.Prelude.{◌≡◌, ℕ, ◌==◌, ◌<◌, ◌&&◌, ◌||◌, Bool, true, false, List, [], ◌∷◌, ◌++◌, codes, Option}
 use Rattle.std.specs.Prelude.{Some, None}
 use Rattle.std.specs.Prelude.{length, nat_eq, if◌then◌else◌}
@@ -20,11 +20,11 @@ use Rattle.declarations.specs.declared.class.Keyword.TheVariants as keywords
 use Rattle.declarations.specs.declared.class.Word.{Word}
 use Rattle.declarations.specs.declared.class.Word.TheVariants as words
 
--- whether the identifier is written so
+-- whether the identifier has this text
 abbrev pub is_written : Name → List ℕ → Bool
 is_written ident text = pointwise nat_eq (name_text ident) text
 
--- the keywords that stand in a path
+-- the class of a keyword that can be in a path
 abbrev pub path_class : Name → Option Class
 path_class ident =
     if is_written ident (codes "self") then Some classes.SelfValue
@@ -36,7 +36,7 @@ path_class ident =
 abbrev pub is_truth : Name → Bool
 is_truth ident = is_written ident (codes "true") || is_written ident (codes "false")
 
--- those that are operands, or stand before or after one that may be left out
+-- the class of a keyword that is an operand, or that can come before or after an operand
 abbrev pub operand_class : Name → Option Class
 operand_class ident =
     if is_truth ident then Some classes.Truth
@@ -47,7 +47,7 @@ operand_class ident =
     else (if is_written ident (codes "break") then Some classes.Jump
     else (if is_written ident (codes "yield") then Some classes.Jump else None))))))
 
--- those that begin items alone
+-- the keyword, if it only begins items or their parts
 abbrev pub item_keyword : Name → Option Keyword
 item_keyword ident =
     if is_written ident (codes "struct") then Some keywords.Struct
@@ -60,7 +60,7 @@ item_keyword ident =
     else (if is_written ident (codes "pub") then Some keywords.Pub
     else (if is_written ident (codes "where") then Some keywords.Where else None))))))))
 
--- those before a type's operand
+-- the keyword, if it can come before the operand of a type
 abbrev pub type_keyword : Name → Option Keyword
 type_keyword ident =
     if is_written ident (codes "mut") then Some keywords.Mut
@@ -74,7 +74,7 @@ type_keyword ident =
     else (if is_written ident (codes "fn") then Some keywords.Fn
     else (if is_written ident (codes "use") then Some keywords.Use else None)))))))))
 
--- those that no rule names
+-- whether the identifier is one of the keywords from `abstract` to `let` that no rule names
 abbrev pub is_early_keyword : Name → Bool
 is_early_keyword ident =
     is_written ident (codes "abstract")
@@ -105,7 +105,7 @@ other_keyword ident =
     if is_early_keyword ident then Some keywords.Other
     else (if is_late_keyword ident then Some keywords.Other else None)
 
--- words
+-- the kind of word that an identifier is
 abbrev pub word_of : Name → Word
 word_of ident =
     if is_written ident (codes "auto") then words.Auto
@@ -131,7 +131,7 @@ class_or_name (Some class) ident = class
 abbrev pub name_class : Name → Class
 name_class ident = class_or_name (or_else (path_class ident) (operand_class ident)) ident
 
--- a mark that stands in expressions alone
+-- the class of a mark that occurs only in expressions
 abbrev pub operator_class : ℕ → Class
 operator_class c =
     if c == 124 then classes.Bar
@@ -139,7 +139,7 @@ operator_class c =
     else (if (c == 47) || ((c == 37) || ((c == 94) || (c == 64))) then classes.Infix
     else classes.Mark))
 
--- a mark, by its character and whether it is Joint
+-- the class of a mark, by its character and whether it is `Joint`
 abbrev pub mark_class : ℕ → Bool → Class
 mark_class c joint =
     if (c == 60) && joint then classes.LessJoint
@@ -159,21 +159,21 @@ mark_class c joint =
     else (if c == 126 then classes.Tilde
     else operator_class c))))))))))))))
 
--- whether an identifier restricts `pub`, alone in parentheses or not
+-- whether an identifier in parentheses restricts `pub`. The second argument says that it is the only tree there
 abbrev pub restricts : Name → Bool → Bool
 restricts ident alone =
     is_written ident (codes "in")
     || (alone && ((is_written ident (codes "crate") || is_written ident (codes "self"))
     || is_written ident (codes "super")))
 
--- the name of a token, in words for which it doesn't matter where it stands
+-- whether a token in parentheses restricts `pub`. Its span does not matter
 abbrev pub restricts_by : Token → Bool → Bool
 restricts_by (tokens.Name raw name) alone =
     restricts (record { name = name; raw = raw; span = record { lo = 0; hi = 0 } }) alone
 restricts_by (tokens.Mark c joint) alone = false
 restricts_by (tokens.Literal text) alone = false
 
--- whether trees in parentheses restrict `pub`: `crate`, `self` or `super` alone, or `in` and others
+-- whether trees in parentheses restrict `pub`: `crate`, `self` or `super` alone, or `in` and more trees
 abbrev pub is_restriction : Forest → Bool
 is_restriction nil = false
 is_restriction (leaf token lo hi rest) = restricts_by token (is_nil rest)
@@ -183,7 +183,7 @@ abbrev pub parentheses_class : Bool → Class
 parentheses_class true = classes.Restriction
 parentheses_class false = classes.Parentheses
 
--- whether an identifier is `pub`, and what follows it belongs to it
+-- whether the identifier is `pub`, and what follows belongs to it
 abbrev pub is_pub : Name → Bool → Bool
 is_pub ident belongs = is_written ident (codes "pub") && belongs
 
@@ -193,24 +193,24 @@ is_pub_by (tokens.Name raw name) belongs =
 is_pub_by (tokens.Mark c joint) belongs = false
 is_pub_by (tokens.Literal text) belongs = false
 
--- whether a group restricts `pub`, being the last tree
+-- whether the group restricts `pub`. It must be the last tree
 abbrev pub restricts_in : Delimiter → Forest → Bool → Bool
 restricts_in delimiters.Parenthesis inside last = last && is_restriction inside
 restricts_in _ inside last = false
 
--- whether the trees after `pub` are a restriction, or none
+-- whether the trees after `pub` are a restriction or none
 abbrev pub may_restrict : Forest → Bool
 may_restrict nil = true
 may_restrict (leaf token lo hi rest) = false
 may_restrict (group d lo hi inside rest) = restricts_in d inside (is_nil rest)
 
--- whether trees are a visibility: none, or `pub`, perhaps with a restriction
+-- whether the trees are a visibility: no trees, or `pub` with a restriction or without
 abbrev pub is_visibility : Forest → Bool
 is_visibility nil = true
 is_visibility (leaf token lo hi rest) = is_pub_by token (may_restrict rest)
 is_visibility (group d lo hi inside rest) = false
 
--- a group without delimiters
+-- the class of a group without delimiters
 abbrev pub unseen_class : Forest → Class
 unseen_class inside = if is_visibility inside then classes.Visibility else classes.Invisible
 
@@ -220,18 +220,18 @@ group_class delimiters.Bracket inside = classes.Brackets
 group_class delimiters.Brace inside = classes.Braces
 group_class delimiters.None inside = unseen_class inside
 
--- the class of a tree that is read alone
+-- the class of a tree that is a sign of its own
 abbrev pub tree_class : TokenTree → Class
 tree_class (Group g) = group_class g.delimiter g.stream
 tree_class (Ident i) = name_class i
 tree_class (Punct p) = mark_class p.mark (is_joint p.spacing)
 tree_class (Literal l) = classes.Literal
 
--- two marks that are read as one, Joint or not: `#` (35) and `!` (33)
+-- the class of two marks that are read as one, whatever the spacing of the first is: `#` (35) and `!` (33)
 abbrev pub loose_class : ℕ → ℕ → Option Class
 loose_class first second = if (first == 35) && (second == 33) then Some classes.HashBang else None
 
--- two that are where the first is Joint: `::` (58, 58), `->` (45, 62), `<=` (60, 61) and `||` (124, 124)
+-- the class of two marks that are one sign if the first is `Joint`: `::` (58), `->` (45, 62), `<=` (60, 61), `||` (124)
 abbrev pub marks_class : ℕ → ℕ → Option Class
 marks_class first second =
     if (first == 58) && (second == 58) then Some classes.PathSeparator
@@ -242,19 +242,19 @@ marks_class first second =
 abbrev pub joint_class : ℕ → ℕ → Option Class
 joint_class first second = or_else (marks_class first second) (loose_class first second)
 
--- the class of two trees that are read as one sign, if they are: those marks, or `'` (39) and an identifier
+-- the class of two trees that are read as one sign, or nothing. They are two marks, or `'` (39) and an identifier
 abbrev pub pair_class : TokenTree → TokenTree → Option Class
 pair_class (Punct p) (Punct q) =
     if is_joint p.spacing then joint_class p.mark q.mark else loose_class p.mark q.mark
 pair_class (Punct p) (Ident i) = if p.mark == 39 then Some classes.Lifetime else None
 pair_class _ _ = None
 
--- a sign, with its trees
+-- a sign: its class and its trees
 pub record Sign : Type 0 where
   pub class : Class
   pub trees : List TokenTree
 
--- the signs of these trees, perhaps after one that is not yet read
+-- the signs of these trees, perhaps after one tree that is not yet read
 abbrev pub signs_after : Option TokenTree → List TokenTree → List Sign
 signs_after None [] = []
 signs_after None (tree ∷ rest) = signs_after (Some tree) rest
@@ -264,21 +264,21 @@ signs_after (Some first) (tree ∷ rest) = elim (pair_class first tree) [
   | Some class ↦ record { class = class; trees = first ∷ tree ∷ [] } ∷ signs_after None rest
 ]
 
--- the signs of trees: two trees that can be are read as one, from the left
+-- the signs of the trees, from the left. Two trees that can be one sign are read as one
 abbrev pub signs : List TokenTree → List Sign
 signs trees = signs_after None trees
 
--- what the signs are to the grammar
+-- the classes of the signs
 abbrev pub classes_of : List Sign → List Class
 classes_of [] = []
 classes_of (sign ∷ rest) = sign.class ∷ classes_of rest
 
--- the trees of signs
+-- the trees of the signs
 abbrev pub trees_of : List Sign → List TokenTree
 trees_of [] = []
 trees_of (sign ∷ rest) = sign.trees ++ trees_of rest
 
--- the trees begin with a sign of this class, and the rest follows it
+-- the trees begin with a sign of this class, and the rest comes after it
 pub record BeginsWith (trees : List TokenTree) (class : Class) (rest : List TokenTree) : Type 0 where
   pub front : List TokenTree
   pub whole : trees ≡ front ++ rest

@@ -1,4 +1,4 @@
--- The steps of the walk over a type.
+-- The steps of the walk over a type or bounds, up to their end.
 use Rattle.std.specs.Prelude.{Bool, true, false, Option, Some, None}
 use Rattle.declarations.specs.declared.class.Class.{Class}
 use Rattle.declarations.specs.declared.class.Class.TheVariants.{Word, SelfValue, SelfType, Super, Crate, Underscore}
@@ -21,7 +21,7 @@ go state turn = Some (record { state = state; turn = turn })
 abbrev pub stay : TypeState → Option TypeStep
 stay state = go state turns.Stay
 
--- only within angle brackets
+-- the step, if an angle bracket is open. The first argument says that none is
 abbrev pub within : Bool → Option TypeStep → Option TypeStep
 within true step = None
 within false step = step
@@ -32,7 +32,7 @@ open_bracket = go states.Argument turns.Open
 abbrev pub close_bracket : Bool → Option TypeStep
 close_bracket outside = within outside (go states.Whole turns.Close)
 
--- the step at a keyword that stands before an operand
+-- the step at a keyword that comes before an operand
 abbrev pub front : Keyword → Option TypeStep
 front keywords.Async = stay states.Wanted
 front keywords.Dyn = stay states.Wanted
@@ -45,7 +45,7 @@ front keywords.Extern = stay states.Abi
 front keywords.For = stay states.For
 front _ = None
 
--- the step where an operand may stand, outside of angle brackets or not
+-- the step where an operand may come. The second argument says that no angle bracket is open
 abbrev pub operand : Class → Bool → Option TypeStep
 operand (Word _) outside = stay states.Whole
 operand SelfValue outside = stay states.Whole
@@ -90,7 +90,7 @@ continuation LessJoint outside = open_bracket
 continuation Greater outside = close_bracket outside
 continuation _ outside = None
 
--- before a bound, or at the end of bounds
+-- the step before a bound, or at the end of bounds
 abbrev pub bound : Class → Bool → Option TypeStep
 bound Comma outside = within outside (stay states.Argument)
 bound Greater outside = close_bracket outside
@@ -100,7 +100,7 @@ abbrev pub after_lifetime : Class → Bool → Option TypeStep
 after_lifetime Plus outside = stay states.Bound
 after_lifetime class outside = bound class outside
 
--- before an argument, or at the end of arguments
+-- the step before an argument, or at the end of the arguments
 abbrev pub argument : Class → Bool → Option TypeStep
 argument Greater outside = close_bracket outside
 argument class outside = operand class outside
@@ -142,7 +142,7 @@ binder Plus = stay states.Binder
 binder Greater = stay states.Wanted
 binder _ = None
 
--- the step from a state, outside of angle brackets or not
+-- the step from a state. The last argument says that no angle bracket is open
 abbrev pub step_of : TypeState → Class → Bool → Option TypeStep
 step_of states.Wanted class outside = operand class outside
 step_of states.Bound class outside = bound class outside
@@ -157,7 +157,7 @@ step_of states.Minus class outside = minus class
 step_of states.For class outside = for_binder class
 step_of states.Binder class outside = binder class
 
--- whether a type may end there, outside of angle brackets
+-- whether a type may end in this state, outside of angle brackets
 abbrev pub may_end : TypeState → Bool
 may_end states.Whole = true
 may_end states.Lifetime = true

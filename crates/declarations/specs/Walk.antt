@@ -1,18 +1,18 @@
--- Walks over signs, which take each sign by a step, as far as steps go.
+-- Walks over signs: each sign is a step from one state to the next, as far as there are steps.
 use Rattle.std.specs.Prelude.{◌≡◌, Bool, true, List, [], ◌∷◌, ◌++◌, Option, Some, None}
 use Rattle.declarations.specs.declared.class.Class.{Class}
 
--- what the steps over the signs lead to, if there is one for each
+-- the state after a step for each of the signs, or nothing if a sign is no step
 abbrev pub walk : {P : Type 0} → (P → Class → Option P) → P → List Class → Option P
 walk step place [] = Some place
 walk step place (sign ∷ signs) = elim (step place sign) [ None ↦ None | Some next ↦ walk step next signs ]
 
--- the first of the signs is no step
+-- there are no signs, or the first of them is no step
 abbrev pub Stops : {P : Type 0} → (P → Class → Option P) → P → List Class → Type 0
 Stops step place [] = Unit {0}
 Stops step place (sign ∷ signs) = step place sign ≡ None
 
--- the piece is a walk to a place where it may end, and what follows begins with no step
+-- the piece is a walk to a state where it may end, and the rest begins with no step
 pub record IsWalk {P : Type 0} (step : P → Class → Option P) (ends : P → Bool) (start : P) (piece rest : List Class)
     : Type 0 where
   pub last : P
@@ -20,7 +20,7 @@ pub record IsWalk {P : Type 0} (step : P → Class → Option P) (ends : P → B
   pub ended : ends last ≡ true
   pub stops : Stops step last rest
 
--- some signs can follow the front such that the form stands at the beginning, whether it ends in the front or after it
+-- other signs could complete this prefix so that a piece of the form is at the start
 pub record IsFront (form : List Class → List Class → Type 0) (front : List Class) : Type 0 where
   pub more : List Class
   pub piece : List Class

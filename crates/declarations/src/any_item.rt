@@ -1,4 +1,4 @@
-//! Any item at the front of trees, with its kind and name.
+//! The item at the start of trees, with its kind and name.
 ghost use Rattle.std.specs.Prelude.{◌≡◌, ◌<◌, IfErr, IfOk, MatchOption, None, Option, Some, length};
 ghost use Rattle.pm_token.specs.Leaf.{Name};
 ghost use Rattle.declarations.specs.Fault.{extent_at};
@@ -12,7 +12,7 @@ use crate::walk::split_from;
 use pm_stream::TokenTree;
 use pm_token::Ident;
 
-/// What an item declares.
+/// The kind of an item.
 #[derive(Clone, Copy, Debug, PartialEq, Eq)]
 pub enum ItemKind {
     /// `const`
@@ -25,13 +25,13 @@ pub enum ItemKind {
     ExternCrate,
     /// `fn`
     Function,
-    /// A group without delimiters, as a macro by example passes an item.
+    /// A group without delimiters, in which a `macro_rules!` macro passes an item (`$item`).
     Group,
     /// `impl`
     Impl,
     /// `macro`
     Macro,
-    /// A macro call. That of `macro_rules!` has a name.
+    /// A macro call. Its name is the one after the `!`, as in `macro_rules! name`.
     MacroCall,
     /// `mod`
     Module,
@@ -51,28 +51,30 @@ pub enum ItemKind {
     Use,
 }
 
-/// An item: its trees, with attributes and visibility, and what it declares.
+/// An item of any kind: its kind, its name and its trees.
 #[derive(Clone, Copy, Debug)]
 pub struct AnyItem<'a> {
-    /// What it declares.
+    /// The kind of the item.
     pub kind: ItemKind,
-    /// The name; `_` of a constant without one, and of an external crate not that of its `as`. An `impl`, a `use`, a
-    /// block of foreign items, a group and most macro calls have none.
+    /// The name of the item, or `None` if it has none. A constant without a name has the name `_`. For
+    /// `extern crate a as b;` the name is `a`. An `impl`, a `use`, an `extern` block, a group without delimiters and
+    /// most macro calls have no name.
     pub name: Option<&'a Ident>,
-    /// All of its trees.
+    /// All trees of the item, with its attributes and its visibility.
     pub trees: &'a [TokenTree],
 }
 
-/// The item at the front of the trees, and the trees after it.
+/// Returns the item at the start of the trees, and the trees after it.
 ///
-/// It is any item that may stand in a file, a module, a trait, an `impl` or a block of foreign items. What stands
-/// within its groups isn't read. Of `pub fn f() {} struct S;` it is `pub fn f() {}`, a function with the name `f`.
-/// Where no item stands it answers the fault. It takes no memory.
+/// The item can be any that may be in a file, a module, a trait, an `impl` or an `extern` block. The trees inside its
+/// groups are not read. If the trees begin with no item, the call returns a `Fault`. It allocates nothing.
+///
+/// For `pub fn f() {} struct S;` it returns the function `pub fn f() {}` with the name `f`, and the rest `struct S;`.
 pub fn split_any_item<'a>(trees: &'a [TokenTree]) -> Result<(AnyItem<'a>, &'a [TokenTree]), Fault>
     ensures ok { IfOk result (λ found. Reads IsAnyItem trees.now found.0.trees.now found.1.now) }
     ensures only { IfOk result (λ found. IsOnly IsAnyItem trees.now found.0.trees.now found.1.now) }
     ensures fewer { IfOk result (λ found. length found.1.now < length trees.now) }
-    // The kind and the name are those of the one walk over the item's signs.
+    // The kind and the name are those that the walk over the item's signs finds.
     ensures told { IfOk result (λ found. (name : Option Name) × Tells trees.now found.1.now found.0.kind name
         × MatchOption found.0.name (name ≡ None) (λ ident. name ≡ Some ident.now)) }
     ensures fault { IfErr result (λ fault. FaultAt IsAnyItem trees.now fault.at) }
@@ -93,7 +95,7 @@ pub fn split_any_item<'a>(trees: &'a [TokenTree]) -> Result<(AnyItem<'a>, &'a [T
     Ok((item, split.rest))
 }
 
-/// The identifier that is the first of the trees.
+/// The identifier that is the first tree, if it is one.
 fn first_name<'a>(trees: &'a [TokenTree]) -> Option<&'a Ident>
     ensures { MatchOption result (first_name trees.now ≡ None) (λ ident. first_name trees.now ≡ Some ident.now) }
 {

@@ -16,31 +16,31 @@ use crate::item::split_group;
 use pm_stream::{Group, TokenTree};
 use pm_token::{Delimiter, Literal, Punct};
 
-/// An attribute, as `#[derive(Clone)]` or `#![no_std]`. A doc comment is one too.
+/// An attribute, such as `#[derive(Clone)]` or `#![no_std]`. A doc comment is an attribute too.
 #[derive(Clone, Copy, Debug)]
 pub struct Attribute<'a> {
-    /// `#`, or `#` and `!`.
+    /// The `#` of an outer attribute, or the `#` and the `!` of an inner one.
     pub marks: &'a [TokenTree],
-    /// The brackets, with what stands in them.
+    /// The brackets, with the trees in them.
     pub group: &'a Group,
 }
 
-/// What follows the path of an attribute.
+/// What comes after the path of an attribute.
 #[derive(Clone, Copy, Debug)]
 pub enum AttributeArgs<'a> {
     /// Nothing, as in `#[no_mangle]`.
     Nothing,
     /// A group alone, as in `#[derive(Clone)]`.
     Group(&'a Group),
-    /// The trees after `=`, as in `#[path = "a.rs"]`.
+    /// The trees after the `=`, as in `#[path = "a.rs"]`.
     Value(&'a [TokenTree]),
-    /// A group, and trees after it, which no attribute of Rust has.
+    /// A group and more trees after it. No attribute of Rust has this form.
     Other(&'a Group, &'a [TokenTree]),
 }
 
-/// The attributes at the front of trees, in order, as of those of an item, a field or a variant.
+/// The attributes at the start of trees, such as those of an item, a field or a variant, in order.
 ///
-/// It ends before the first trees that are no attribute, which stay in `left`. It takes no memory.
+/// The iterator ends before the first trees that are no attribute, which stay in `left`. It allocates nothing.
 ///
 /// ```text
 /// for attribute in Attributes::new(field.attributes) {
@@ -49,12 +49,12 @@ pub enum AttributeArgs<'a> {
 /// ```
 #[derive(Clone, Copy, Debug)]
 pub struct Attributes<'a> {
-    /// The trees that are left.
+    /// The trees that are not yet read.
     pub left: &'a [TokenTree],
 }
 
 impl<'a> Attributes<'a> {
-    /// The attributes at the front of these trees.
+    /// Returns an iterator over the attributes at the start of these trees.
     pub fn new(trees: &'a [TokenTree]) -> Attributes<'a>
         ensures { result.left.now ≡ trees.now }
     {
@@ -67,7 +67,7 @@ impl<'a> Iterator for Attributes<'a> {
 
     type Item = Attribute<'a>;
 
-    // What is given are the attributes at the front of the trees, each once.
+    // The iterator gives the attributes at the start of the trees, each of them once.
     ghost next_gives = { YieldsFirstBy parts_of (λ list. attributes_in list.left.now) };
 
     ghost remaining = { item_count (λ list. attributes_in list.left.now) };
@@ -79,9 +79,9 @@ impl<'a> Iterator for Attributes<'a> {
     }
 }
 
-/// The attribute at the front of the trees, outer or inner, and the trees after it. `None` where none stands there.
+/// Returns the attribute at the start of the trees, outer or inner, and the trees after it.
 ///
-/// Of `#[a] #[b] pub x` it is `#[a]`, and `#[b] pub x` is left.
+/// It returns `None` if the trees begin with no attribute. For `#[a] #[b] pub x` it returns `#[a]` and `#[b] pub x`.
 pub fn split_attribute(trees: &[TokenTree]) -> Option<(Attribute<'_>, &[TokenTree])>
     ensures found { MatchOption result (attributes_in trees.now ≡ [])
         (λ found. attributes_in trees.now ≡ parts_of found.0 ∷ attributes_in found.1.now) }
@@ -98,7 +98,7 @@ pub fn split_attribute(trees: &[TokenTree]) -> Option<(Attribute<'_>, &[TokenTre
     }
 }
 
-/// The same, where an inner attribute alone may stand: these trees follow the first mark.
+/// The inner attribute at the start of `trees`, and the trees after it. `rest` are the trees after `hash`.
 fn split_inner<'a>(
     trees: &'a [TokenTree],
     hash: &Punct,
@@ -153,16 +153,16 @@ fn is_bracket(delimiter: Delimiter) -> bool
 }
 
 impl<'a> Attribute<'a> {
-    /// Whether it is an inner attribute, as `#![a]`.
+    /// Returns whether this is an inner attribute, such as `#![a]`.
     pub fn is_inner(&self) -> bool
         ensures { result ≡ (length self.now.marks.now == 2) }
     {
         self.marks.len() == 2
     }
 
-    /// Its path: the trees in the brackets before the first `=` or group with delimiters.
+    /// Returns the path: the trees in the brackets before the first `=` or the first group with delimiters.
     ///
-    /// Of `#[rustfmt::skip]` it is `rustfmt::skip`, of `#[doc = "a"]` `doc`, and of `#[unsafe(no_mangle)]` `unsafe`.
+    /// It is `rustfmt::skip` in `#[rustfmt::skip]`, `doc` in `#[doc = "a"]`, and `unsafe` in `#[unsafe(no_mangle)]`.
     pub fn path(&self) -> &'a [TokenTree]
         ensures { result.now ≡ path_of (inside self.now) }
     {
@@ -171,7 +171,7 @@ impl<'a> Attribute<'a> {
         path
     }
 
-    /// What follows its path.
+    /// Returns what comes after the path.
     pub fn args(&self) -> AttributeArgs<'a>
         ensures { AreArgs (after_path (inside self.now)) result }
     {
@@ -180,7 +180,7 @@ impl<'a> Attribute<'a> {
         args_of(rest)
     }
 
-    /// Whether its path is this one identifier. A raw identifier is written with its `r#`.
+    /// Returns whether the path is this one identifier. A raw identifier is compared with its `r#`.
     pub fn is(&self, word: &str) -> bool
         ensures { result ≡ is_word (path_of (inside self.now)) (spelled word.now) }
     {
@@ -190,7 +190,7 @@ impl<'a> Attribute<'a> {
         }
     }
 
-    /// The literal of a doc comment, or of `#[doc = "text"]`, and `None` of every other attribute.
+    /// Returns the literal of a doc comment or of `#[doc = "text"]`, and `None` for every other attribute.
     pub fn doc(&self) -> Option<&'a Literal>
         ensures { option_copied result ≡ doc_of self.now.group.now }
     {
@@ -198,7 +198,7 @@ impl<'a> Attribute<'a> {
     }
 }
 
-/// How many trees a path at the front has.
+/// The number of trees in the path at the start of the trees.
 fn path_len(trees: &[TokenTree]) -> usize
     ensures { result ≡ prefix_len goes_on trees.now }
 {
@@ -212,7 +212,7 @@ fn path_len(trees: &[TokenTree]) -> usize
     trees.len()
 }
 
-/// Whether a path may go on with the tree.
+/// Whether the tree can be in a path: it is not `=`, and not a group with delimiters.
 fn goes_on(tree: &TokenTree) -> bool
     ensures { result ≡ goes_on tree.now }
 {
@@ -232,7 +232,7 @@ pub(crate) fn has_no_delimiters(delimiter: Delimiter) -> bool
     }
 }
 
-/// The arguments that these trees after a path are.
+/// The form of the trees after a path.
 fn args_of(rest: &[TokenTree]) -> AttributeArgs<'_>
     requires { prefix_len goes_on rest.now ≡ 0 }
     ensures { AreArgs rest.now result }

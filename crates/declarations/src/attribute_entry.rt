@@ -1,4 +1,4 @@
-//! The entry that an attribute is.
+//! An attribute as one entry.
 ghost use Rattle.std.specs.Prelude.{[], IfErr, IfOk};
 ghost use Rattle.declarations.specs.Attribute.{inside};
 ghost use Rattle.declarations.specs.Entry.{IsEntryAt, IsEntryFault};
@@ -8,12 +8,12 @@ use crate::entry::{Entry, whole_entry};
 use crate::fault::Fault;
 
 impl<'a> Attribute<'a> {
-    /// What stands in its brackets, as one entry: a path, a path and a list, or a path, `=` and an expression.
+    /// Returns the trees in the brackets as one entry: a path, a path and a list, or a path, `=` and an expression.
     ///
-    /// Of `#[name(a, b)]` it is the entry `name(a, b)`, whose list `Entries` reads, of `#[path = "a.rs"]` the entry
-    /// `path = "a.rs"`. It answers the fault where the trees are no entry, or where others follow one, as those of
-    /// another grammar may: [`args`](Attribute::args) gives these as they are. The trees in the brackets are counted.
-    /// It takes no memory.
+    /// `#[name(a, b)]` gives the entry `name(a, b)`, whose list `Entries` can read, and `#[path = "a.rs"]` gives the
+    /// entry `path = "a.rs"`. If the trees in the brackets are not exactly one entry, the call returns a `Fault`, whose
+    /// `at` counts the trees in the brackets. [`args`](Attribute::args) returns trees of any other form as they are.
+    /// The call allocates nothing.
     pub fn entry(&self) -> Result<Entry<'a>, Fault>
         ensures ok { IfOk result (λ entry. IsEntryAt (inside self.now) entry []) }
         ensures err { IfErr result (λ fault. IsEntryFault (inside self.now) fault) }

@@ -1,8 +1,8 @@
-//! What a sign is to the grammar.
+//! The classes of signs that the grammar tells apart.
 ghost use Rattle.std.specs.Prelude.{◌≡◌};
 ghost use Rattle.declarations.specs.rules.Classes.{code};
 
-/// An identifier that is no keyword, or a raw one.
+/// An identifier that is no keyword, or a raw identifier.
 #[derive(Clone, Copy, Debug, PartialEq, Eq)]
 pub enum Word {
     /// `auto`
@@ -13,11 +13,11 @@ pub enum Word {
     Safe,
     /// `union`
     Union,
-    /// Any other.
+    /// Any other word.
     Plain,
 }
 
-/// A keyword that is no class of its own.
+/// A keyword that has no class of its own.
 #[derive(Clone, Copy, Debug, PartialEq, Eq)]
 pub enum Keyword {
     /// `async`
@@ -58,11 +58,11 @@ pub enum Keyword {
     Use,
     /// `where`
     Where,
-    /// One that no rule names.
+    /// A keyword that no rule of the grammar names, such as `if`.
     Other,
 }
 
-/// What a sign is to the grammar: a word, a keyword, a literal, a group or a mark.
+/// The class of a sign in the grammar: a kind of word, keyword, literal, group or punctuation mark.
 #[derive(Clone, Copy, Debug, PartialEq, Eq)]
 pub enum Class {
     /// A word.
@@ -95,13 +95,13 @@ pub enum Class {
     PathSeparator,
     /// `->`
     Arrow,
-    /// `#` and `!`, Joint or not.
+    /// `#` and `!`. The spacing of the `#` does not matter.
     HashBang,
     /// `<=`
     LessEquals,
     /// `||`
     Bars,
-    /// `(crate)`, `(self)`, `(super)`, or `(in ..)`: parentheses that may restrict `pub`.
+    /// Parentheses that can restrict `pub`: `(crate)`, `(self)`, `(super)` or `(in ..)`.
     Restriction,
     /// Any other `( .. )`.
     Parentheses,
@@ -109,13 +109,13 @@ pub enum Class {
     Brackets,
     /// `{ .. }`
     Braces,
-    /// A group without delimiters that holds a visibility, or nothing.
+    /// A group without delimiters that holds a visibility or nothing.
     Visibility,
     /// Any other group without delimiters.
     Invisible,
-    /// `<` that is Alone.
+    /// `<` with the spacing `Alone`.
     Less,
-    /// `<` that is Joint.
+    /// `<` with the spacing `Joint`.
     LessJoint,
     /// `>`
     Greater,
@@ -153,7 +153,7 @@ pub enum Class {
     Mark,
 }
 
-/// The number of a class, which differs from that of each other one.
+/// The number of a class. No two classes have the same number.
 pub(crate) fn code(class: Class) -> u8
     ensures { result ≡ code class }
 {

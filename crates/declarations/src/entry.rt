@@ -1,4 +1,4 @@
-//! The entries of attributes' lists.
+//! The entries of an attribute's list.
 ghost use Rattle.std.specs.Prelude.{◌≡◌, ◌<◌, [], IfErr, IfNone, IfOk, IfSome, MatchResult};
 ghost use Rattle.std.specs.Prelude.{false, length, option_copied};
 ghost use Rattle.grammars.specs.First.{heads, may_begin};
@@ -31,37 +31,37 @@ use pm_span::Span;
 use pm_stream::{Group, TokenTree};
 use pm_token::Ident;
 
-/// What an entry of an attribute's list is.
+/// The form of an entry in an attribute's list.
 #[derive(Clone, Copy, Debug)]
 pub enum EntryKind<'a> {
-    /// A path alone, as `skip`.
+    /// A path alone, such as `skip`.
     Path,
-    /// A path and a group, as `rename(a, b)`. What stands in the group isn't read.
+    /// A path and a group, such as `rename(a, b)`. The trees inside the group are not read.
     List(&'a Group),
-    /// A path, `=` and this expression, as `rename = "a"`.
+    /// A path, `=` and this expression, such as `rename = "a"`.
     Value(&'a [TokenTree]),
-    /// This literal, as `"a"`, `-1` or `true`; there is no path.
+    /// This literal, such as `"a"`, `-1` or `true`. There is no path.
     Literal(&'a [TokenTree]),
 }
 
-/// An entry of an attribute's list, as `skip`, `rename = "a"` or `bound(T, U)`.
+/// An entry of an attribute's list, such as `skip`, `rename = "a"` or `bound(T, U)`.
 #[derive(Clone, Copy, Debug)]
 pub struct Entry<'a> {
-    /// The path, as `a` or `a::b`. It has no trees if the entry is a literal.
+    /// The path, such as `a` or `a::b`. It has no trees if the entry is a literal.
     pub path: &'a [TokenTree],
-    /// What the entry is, with what follows its path.
+    /// The form of the entry, with what comes after its path.
     pub kind: EntryKind<'a>,
 }
 
-/// The entry at the front of the trees, and the trees after it.
+/// Returns the entry at the start of the trees, and the trees after it.
 ///
-/// The trees are those in a group of an attribute, or what an earlier call left of them. An entry is a literal, or a
-/// path with nothing, a group, or `=` and an expression after it. The segments of a path are any identifiers but `_`,
-/// `true` and `false`, keywords too, so `unsafe(no_mangle)` is an entry with the path `unsafe`. As elsewhere only the
-/// end of an expression is found. Of `a::b = f(1) + 2, c` the path is `a::b`, the value `f(1) + 2`, and `, c` is left.
+/// Pass the trees in a group of an attribute, or the rest that an earlier call returned. An entry is a literal or a
+/// path. After a path there may be a group, or `=` and an expression; of an expression only the end is found. A segment
+/// of a path is any identifier except `_`, `true` and `false`. It may be a keyword: `unsafe(no_mangle)` has the path
+/// `unsafe`.
 ///
-/// Where no entry stands it answers the fault. The grammar is that of crates/declarations/README.md, with the one
-/// reading that the grammar gives. It takes no memory.
+/// If the trees begin with no entry, the call returns a `Fault`. The rule `entry` is in crates/declarations/README.md.
+/// The call allocates nothing. For `a::b = f(1) + 2, c` the path is `a::b`, the value `f(1) + 2`, and the rest `, c`.
 pub fn parse_entry(trees: &[TokenTree]) -> Result<(Entry<'_>, &[TokenTree]), Fault>
     ensures ok { IfOk result (λ found. IsEntryAt trees.now found.0 found.1.now) }
     ensures only { IfOk result (λ found. IsOnlyRest entry trees.now found.1.now) }
@@ -76,7 +76,7 @@ pub fn parse_entry(trees: &[TokenTree]) -> Result<(Entry<'_>, &[TokenTree]), Fau
 }
 
 impl<'a> Entry<'a> {
-    /// Whether its path is this one identifier. A raw identifier is written with its `r#`.
+    /// Returns whether the path is this one identifier. A raw identifier is compared with its `r#`.
     pub fn is(&self, word: &str) -> bool
         ensures { result ≡ is_word self.now.path.now (spelled word.now) }
     {
@@ -86,9 +86,9 @@ impl<'a> Entry<'a> {
         }
     }
 
-    /// The identifier that its path is alone, and `None` of a literal or a path of several segments.
+    /// Returns the path if it is one identifier, and `None` for a literal or a longer path.
     ///
-    /// Of `rename = "a"` it is `rename`.
+    /// For `rename = "a"` it returns `rename`.
     pub fn name(&self) -> Option<&'a Ident>
         ensures { option_copied result ≡ sole_name self.now.path.now }
     {
@@ -98,7 +98,7 @@ impl<'a> Entry<'a> {
         }
     }
 
-    /// The span of its first tree; each entry that is read has one.
+    /// Returns the span of the first tree. An entry that a call of this crate returned always has one.
     pub fn span(&self) -> Option<Span>
         ensures { result ≡ entry_extent self.now.kind self.now.path.now }
     {
@@ -109,7 +109,7 @@ impl<'a> Entry<'a> {
     }
 }
 
-/// The span of the first of the trees.
+/// The span of the first tree.
 fn first_span(trees: &[TokenTree]) -> Option<Span>
     ensures { result ≡ first_extent trees.now }
 {
@@ -119,7 +119,7 @@ fn first_span(trees: &[TokenTree]) -> Option<Span>
     }
 }
 
-/// The entry that all of these trees are.
+/// The entry that all of the trees are.
 pub(crate) fn whole_entry(trees: &[TokenTree]) -> Result<Entry<'_>, Fault>
     ensures ok { IfOk result (λ entry. IsEntryAt trees.now entry []) }
     ensures err { IfErr result (λ fault. IsEntryFault trees.now fault) }
@@ -147,7 +147,7 @@ fn is_segment(class: Class) -> bool
     }
 }
 
-/// Past a segment of a path.
+/// Skips a segment of a path.
 #[tactic(auto, using(crate::proofs::ReaderLemmas::steps))]
 fn segment(trees: &[TokenTree]) -> Result<&[TokenTree], &[TokenTree]>
     ensures { ReadsRule (Sign is_entry_segment) trees.now result }
@@ -164,7 +164,7 @@ fn segment(trees: &[TokenTree]) -> Result<&[TokenTree], &[TokenTree]>
     }
 }
 
-/// Past a `::`, or nothing.
+/// Skips `::`, if it is next.
 #[tactic(auto, using(crate::proofs::ReaderLemmas::steps))]
 fn separator(trees: &[TokenTree]) -> Result<&[TokenTree], &[TokenTree]>
     ensures { ReadsRule (perhaps (one signs.PathSeparator)) trees.now result }
@@ -176,7 +176,7 @@ fn separator(trees: &[TokenTree]) -> Result<&[TokenTree], &[TokenTree]>
     }
 }
 
-/// Past `::` and a segment.
+/// Skips `::` and a segment.
 #[tactic(auto, using(crate::proofs::ReaderLemmas::steps))]
 fn next_segment(trees: &[TokenTree]) -> Result<&[TokenTree], &[TokenTree]>
     ensures { ReadsRule next_segment trees.now result }
@@ -184,7 +184,7 @@ fn next_segment(trees: &[TokenTree]) -> Result<&[TokenTree], &[TokenTree]>
     segment(past(trees, Class::PathSeparator)?)
 }
 
-/// Past more segments.
+/// Skips more segments, each after `::`.
 fn more_segments(trees: &[TokenTree]) -> Result<&[TokenTree], &[TokenTree]>
     ensures { ReadsRule more_segments trees.now result }
 {
@@ -198,7 +198,7 @@ fn more_segments(trees: &[TokenTree]) -> Result<&[TokenTree], &[TokenTree]>
     Ok(left)
 }
 
-/// Past a segment, and more of them.
+/// Skips a segment and all that follow it after `::`.
 #[tactic(auto, using(crate::proofs::ReaderLemmas::steps))]
 fn segments(trees: &[TokenTree]) -> Result<&[TokenTree], &[TokenTree]>
     ensures { ReadsRule segments trees.now result }
@@ -206,7 +206,7 @@ fn segments(trees: &[TokenTree]) -> Result<&[TokenTree], &[TokenTree]>
     more_segments(segment(trees)?)
 }
 
-/// Past the path of an entry.
+/// Skips the path of an entry.
 #[tactic(auto, using(crate::proofs::ReaderLemmas::steps))]
 fn entry_path(trees: &[TokenTree]) -> Result<&[TokenTree], &[TokenTree]>
     ensures { ReadsRule entry_path trees.now result }
@@ -223,7 +223,7 @@ fn is_literal(class: Class) -> bool
     }
 }
 
-/// Past a literal without a sign.
+/// Skips a literal without a minus sign.
 #[tactic(auto, using(crate::proofs::ReaderLemmas::steps))]
 fn plain_literal(trees: &[TokenTree]) -> Result<&[TokenTree], &[TokenTree]>
     ensures { ReadsRule (Sign is_literal) trees.now result }
@@ -240,7 +240,7 @@ fn plain_literal(trees: &[TokenTree]) -> Result<&[TokenTree], &[TokenTree]>
     }
 }
 
-/// Past a literal.
+/// Skips a literal, with a minus sign or without.
 #[tactic(auto, using(crate::proofs::ReaderLemmas::steps))]
 fn literal(trees: &[TokenTree]) -> Result<&[TokenTree], &[TokenTree]>
     ensures { ReadsRule entry_literal trees.now result }
@@ -252,7 +252,7 @@ fn literal(trees: &[TokenTree]) -> Result<&[TokenTree], &[TokenTree]>
     }
 }
 
-/// Past an expression.
+/// Skips an expression.
 #[tactic(auto, using(crate::proofs::EntryLemmas::expression_reads))]
 fn past_expression(trees: &[TokenTree]) -> Result<&[TokenTree], &[TokenTree]>
     ensures { ReadsRule expression trees.now result }
@@ -266,7 +266,7 @@ fn past_expression(trees: &[TokenTree]) -> Result<&[TokenTree], &[TokenTree]>
     walk_past(trees, start)
 }
 
-/// Whether a sign goes on after an operand, but begins no value.
+/// Whether the sign can go on after an operand but can begin no value: `=`, `>` or `->`.
 fn continues(class: Class) -> bool
     ensures { result ≡ continues class }
 {
@@ -276,7 +276,7 @@ fn continues(class: Class) -> bool
     }
 }
 
-/// Past the value of an entry.
+/// Skips the value of an entry.
 #[tactic(auto, using(crate::proofs::EntryLemmas::values))]
 fn past_value(trees: &[TokenTree]) -> Result<&[TokenTree], &[TokenTree]>
     ensures { ReadsRule entry_value trees.now result }
@@ -293,7 +293,7 @@ fn past_value(trees: &[TokenTree]) -> Result<&[TokenTree], &[TokenTree]>
     }
 }
 
-/// The group at the front of the trees that is a list, and the trees after it.
+/// The group with delimiters at the start of the trees, and the trees after it.
 #[tactic(auto, using(crate::proofs::EntryLemmas::lists))]
 fn split_list(trees: &[TokenTree]) -> Option<(&Group, &[TokenTree])>
     ensures found { IfSome result (λ found. IsListAt trees.now (trees_are.Group found.0.now) found.1.now) }
@@ -311,7 +311,7 @@ fn split_list(trees: &[TokenTree]) -> Option<(&Group, &[TokenTree])>
     }
 }
 
-/// What follows the path of an entry, and the trees after it.
+/// What comes after the path of an entry, and the trees after the entry.
 #[tactic(auto, using(crate::proofs::EntryLemmas::arguments))]
 fn args_of(trees: &[TokenTree]) -> Result<(EntryKind<'_>, &[TokenTree]), &[TokenTree]>
     ensures { MatchResult result (λ found. Finds entry_rest trees.now found.1.now
@@ -323,7 +323,7 @@ fn args_of(trees: &[TokenTree]) -> Result<(EntryKind<'_>, &[TokenTree]), &[Token
     }
 }
 
-/// The value of an entry, or nothing, and the trees after it.
+/// The value of an entry, if `=` is next, and the trees after the entry.
 #[tactic(auto, using(crate::proofs::EntryLemmas::arguments))]
 fn value_of(trees: &[TokenTree]) -> Result<(EntryKind<'_>, &[TokenTree]), &[TokenTree]>
     requires { heads entry_list (classes_in trees.now) ≡ false }
@@ -345,7 +345,7 @@ fn value_of(trees: &[TokenTree]) -> Result<(EntryKind<'_>, &[TokenTree]), &[Toke
     }
 }
 
-/// Whether a literal begins with a sign of this class.
+/// Whether a literal can begin with a sign of this class.
 fn begins_literal(class: Class) -> bool
     ensures { result ≡ may_begin literal_entry class }
 {
@@ -355,7 +355,7 @@ fn begins_literal(class: Class) -> bool
     }
 }
 
-/// The entry at the front of the trees, and the trees after it; or those from the fault on.
+/// The entry at the start of the trees, and the trees after it; or the trees from the error on.
 #[tactic(auto, using(crate::proofs::EntryLemmas::kinds_of))]
 fn entry_of(trees: &[TokenTree]) -> Result<(Entry<'_>, &[TokenTree]), &[TokenTree]>
     ensures { ReadsEntry entry trees.now result }
@@ -372,7 +372,7 @@ fn entry_of(trees: &[TokenTree]) -> Result<(Entry<'_>, &[TokenTree]), &[TokenTre
     }
 }
 
-/// The same, where a literal begins.
+/// The literal at the start of the trees as an entry, and the trees after it; or the trees from the error on.
 #[tactic(auto, using(crate::proofs::EntryLemmas::literals))]
 fn literal_of(trees: &[TokenTree]) -> Result<(Entry<'_>, &[TokenTree]), &[TokenTree]>
     ensures { ReadsEntry literal_entry trees.now result }
@@ -392,7 +392,7 @@ fn literal_of(trees: &[TokenTree]) -> Result<(Entry<'_>, &[TokenTree]), &[TokenT
     }
 }
 
-/// The same, where no literal begins.
+/// The entry with a path at the start of the trees, and the trees after it; or the trees from the error on.
 #[tactic(auto, using(crate::proofs::EntryLemmas::paths))]
 fn named_of(trees: &[TokenTree]) -> Result<(Entry<'_>, &[TokenTree]), &[TokenTree]>
     ensures { ReadsEntry named_entry trees.now result }

@@ -10,11 +10,11 @@ use crate::fault::Fault;
 use crate::list::{fault_after, past_comma};
 use pm_stream::{Group, TokenTree};
 
-/// The entries in a group of an attribute, in order, with `,` between two and perhaps after the last.
+/// The entries in a group of an attribute, in order. A `,` is between two entries, and may be after the last.
 ///
-/// It gives each entry as [`parse_entry`] answers it of the trees that are left, or the fault, whose trees are counted
-/// from there on. After a fault it gives nothing. Of `(skip, rename = "a")` it gives `skip` and `rename = "a"`. It
-/// takes no memory.
+/// The iterator gives each entry as [`parse_entry`] reads it from the remaining trees. At an error it gives a `Fault`,
+/// whose `at` counts from the start of the remaining trees, and then ends. It allocates nothing. For
+/// `(skip, rename = "a")` it gives `skip` and `rename = "a"`.
 ///
 /// ```text
 /// for entry in Entries::new(group) {
@@ -24,12 +24,12 @@ use pm_stream::{Group, TokenTree};
 /// ```
 #[derive(Clone, Copy, Debug)]
 pub struct Entries<'a> {
-    /// The trees that are left.
+    /// The trees that are not yet read.
     pub left: &'a [TokenTree],
 }
 
 impl<'a> Entries<'a> {
-    /// The entries in this group, as in `(a, b)` of `#[name(a, b)]`.
+    /// Returns an iterator over the entries in this group, such as `(a, b)` in `#[name(a, b)]`.
     pub fn new(group: &'a Group) -> Entries<'a>
         ensures { AreInside result.left.now group.now }
     {
@@ -47,7 +47,7 @@ impl<'a> Iterator for Entries<'a> {
 
     ghost next_gives = { GivesEntry };
 
-    // No more come than trees are left.
+    // At most as many elements come as trees are left.
     ghost remaining = { λ list. at_most (length list.left.now) };
 
     fn next(&mut self) -> Option<Result<Entry<'a>, Fault>> {

@@ -1,4 +1,4 @@
-//! Where the expressions of discriminants end.
+//! The steps of the walk over an expression, up to its end. A step says where a sign leads.
 ghost use Rattle.std.specs.Prelude.{◌≡◌};
 ghost use Rattle.declarations.specs.Expression.{cast, cast_whole, closure, expression, expression_dot};
 ghost use Rattle.declarations.specs.Expression.{expression_less, expression_open, expression_whole, operator};
@@ -7,7 +7,7 @@ ghost use Rattle.declarations.specs.Expression.{variant_end};
 use crate::class::Class;
 use crate::place::{Item, Part, Rule, Shift, Spot, open_angle, to_spot};
 
-/// Where an operand is wanted.
+/// The step where an operand must come.
 pub(crate) fn expression(item: Item, class: Class) -> Option<Shift>
     ensures { result ≡ expression item class }
 {
@@ -45,7 +45,7 @@ pub(crate) fn expression(item: Item, class: Class) -> Option<Shift>
     }
 }
 
-/// Where an operand may stand, or what follows one.
+/// The step where an operand may come, or what follows an operand.
 pub(crate) fn expression_open(item: Item, class: Class) -> Option<Shift>
     ensures { result ≡ expression_open item class }
 {
@@ -58,7 +58,7 @@ pub(crate) fn expression_open(item: Item, class: Class) -> Option<Shift>
     }
 }
 
-/// After an operand, of an expression or of a cast.
+/// The step after an operand of an expression or of a cast.
 fn operator(item: Item, class: Class) -> Option<Shift>
     ensures { result ≡ operator item class }
 {
@@ -91,7 +91,7 @@ fn operator(item: Item, class: Class) -> Option<Shift>
     }
 }
 
-/// After an operand.
+/// The step after an operand of an expression.
 pub(crate) fn expression_whole(item: Item, class: Class) -> Option<Shift>
     ensures { result ≡ expression_whole item class }
 {
@@ -102,7 +102,7 @@ pub(crate) fn expression_whole(item: Item, class: Class) -> Option<Shift>
     }
 }
 
-/// After `<` that is an operator and Joint: another belongs to it.
+/// The step after a `Joint` `<` that is an operator. A second mark may belong to the operator, as in `<<`.
 pub(crate) fn expression_less(item: Item, class: Class) -> Option<Shift>
     ensures { result ≡ expression_less item class }
 {
@@ -112,7 +112,7 @@ pub(crate) fn expression_less(item: Item, class: Class) -> Option<Shift>
     }
 }
 
-/// After an operand and `.`.
+/// The step after an operand and `.`.
 pub(crate) fn expression_dot(item: Item, class: Class) -> Option<Shift>
     ensures { result ≡ expression_dot item class }
 {
@@ -122,7 +122,7 @@ pub(crate) fn expression_dot(item: Item, class: Class) -> Option<Shift>
     }
 }
 
-/// Within the bars of a closure.
+/// The step within the bars of a closure.
 pub(crate) fn closure(item: Item, class: Class) -> Option<Shift>
     ensures { result ≡ closure item class }
 {
@@ -134,7 +134,7 @@ pub(crate) fn closure(item: Item, class: Class) -> Option<Shift>
     }
 }
 
-/// Where the type of a cast is wanted.
+/// The step where the type of a cast must come.
 pub(crate) fn cast(item: Item, class: Class) -> Option<Shift>
     ensures { result ≡ cast item class }
 {
@@ -166,7 +166,7 @@ pub(crate) fn cast(item: Item, class: Class) -> Option<Shift>
     }
 }
 
-/// After the type of a cast, or a part of it.
+/// The step after the type of a cast, or after a part of it.
 pub(crate) fn cast_whole(item: Item, class: Class) -> Option<Shift>
     ensures { result ≡ cast_whole item class }
 {
@@ -177,7 +177,7 @@ pub(crate) fn cast_whole(item: Item, class: Class) -> Option<Shift>
     }
 }
 
-/// After a variant that is whole, in a list.
+/// The step after a whole variant in a list.
 pub(crate) fn variant_end(item: Item, class: Class) -> Option<Shift>
     ensures { result ≡ variant_end item class }
 {

@@ -1,4 +1,4 @@
-//! Where trees aren't as the grammar has them.
+//! Errors in trees that the grammar does not accept.
 ghost use Rattle.std.specs.Prelude.{◌≡◌};
 ghost use Rattle.std.specs.Option.{option_eq};
 ghost use Rattle.declarations.specs.Fault.{first_extent};
@@ -9,17 +9,17 @@ use pm_stream::TokenTree;
 use std::error::Error;
 use std::fmt;
 
-/// Where trees aren't as the grammar has them.
+/// An error: where trees do not fit the grammar.
 #[derive(Clone, Copy, Debug)]
 pub struct Fault {
-    /// How many trees stand before the first sign that doesn't fit. They are all of them where more are missing.
+    /// The number of trees before the first sign that does not fit. It is the number of all trees if more are missing.
     pub at: usize,
-    /// The span of the first tree of that sign; `None` where more trees are missing.
+    /// The span of the first tree of that sign, or `None` if more trees are missing.
     pub span: Option<Span>,
 }
 
 impl Fault {
-    /// The fault after so many trees, before those that are left.
+    /// The error after `at` trees, where `left` are the trees that remain.
     pub(crate) fn ahead_of(at: usize, left: &[TokenTree]) -> Fault
         ensures at { result.at ≡ at }
         ensures span { result.span ≡ first_extent left.now }
@@ -31,7 +31,7 @@ impl Fault {
         Fault { at, span }
     }
 
-    /// The field [`span`](Fault::span): where the first tree that doesn't fit stands.
+    /// Returns the field [`span`](Fault::span): the span of the first tree that does not fit.
     pub fn span(&self) -> Option<Span>
         ensures { result ≡ self.now.span }
     {
@@ -48,7 +48,7 @@ impl PartialEq for Fault {
 
     ghost laws = { Prim.search (comparing, rules) };
 
-    /// Whether both count as many trees, and have the same span or none.
+    /// Whether both errors have the same number of trees before them, and the same span or none.
     fn eq(&self, other: &Fault) -> bool {
         self.at == other.at && are_same(self.span, other.span)
     }
@@ -61,7 +61,7 @@ impl Eq for Fault {
     ghost laws = { Prim.search (comparing, rules) };
 }
 
-/// Whether both are the same span, or none.
+/// Whether both are the same span, or both are `None`.
 pub(crate) fn are_same(span: Option<Span>, other: Option<Span>) -> bool
     ensures { result ≡ option_eq extent_eq span other }
 {

@@ -12,23 +12,23 @@ use crate::parts::{split_attributes, split_field, split_tuple_field, split_visib
 use pm_stream::TokenTree;
 use pm_token::Ident;
 
-/// A field: its parts in reading order.
+/// A field, split into its parts in reading order.
 #[derive(Clone, Copy, Debug)]
 pub struct Field<'a> {
-    /// The outer attributes, which may be none.
+    /// The outer attributes, perhaps none.
     pub attributes: &'a [TokenTree],
-    /// The visibility, which may be left out.
+    /// The visibility, or no trees.
     pub visibility: &'a [TokenTree],
-    /// The name, after which a `:` stands; a field in parentheses has none.
+    /// The name before the `:`, or `None` for a field in parentheses.
     pub name: Option<&'a Ident>,
     /// The type.
     pub field_type: &'a [TokenTree],
 }
 
-/// The parts of the named field at the front of the trees, and the trees after it.
+/// Returns the parts of the named field at the start of the trees, and the trees after it.
 ///
-/// It answers as [`split_field`] does. Of `#[a] pub x: Vec<A, B>, y: C` the name is `x`, the type `Vec<A, B>`, and
-/// `, y: C` is left.
+/// It reads the same trees as [`split_field`], and returns the same errors. For `#[a] pub x: Vec<A, B>, y: C` the name
+/// is `x`, the type is `Vec<A, B>`, and the rest is `, y: C`.
 pub fn parse_field(trees: &[TokenTree]) -> Result<(Field<'_>, &[TokenTree]), Fault>
     ensures ok { IfOk result (λ found. IsFieldAt IsField HasFieldParts trees.now found.0 found.1.now) }
     ensures fault { IfErr result (λ fault. FaultAt IsField trees.now fault.at) }
@@ -41,9 +41,10 @@ pub fn parse_field(trees: &[TokenTree]) -> Result<(Field<'_>, &[TokenTree]), Fau
     }
 }
 
-/// The parts of the field without a name at the front of the trees, and the trees after it.
+/// Returns the parts of the field without a name at the start of the trees, and the trees after it.
 ///
-/// It answers as [`split_tuple_field`] does. Of `pub (A, B), C` the type is `(A, B)`, and `, C` is left.
+/// It reads the same trees as [`split_tuple_field`], and returns the same errors. For `pub (A, B), C` the type is
+/// `(A, B)`, and the rest is `, C`.
 pub fn parse_tuple_field(trees: &[TokenTree]) -> Result<(Field<'_>, &[TokenTree]), Fault>
     ensures ok { IfOk result (λ found. IsFieldAt IsTupleField HasTypeParts trees.now found.0 found.1.now) }
     ensures fault { IfErr result (λ fault. FaultAt IsTupleField trees.now fault.at) }
@@ -56,7 +57,7 @@ pub fn parse_tuple_field(trees: &[TokenTree]) -> Result<(Field<'_>, &[TokenTree]
     }
 }
 
-/// The parts of a named field.
+/// The parts of a named field that is all of the trees.
 fn named_field(trees: &[TokenTree]) -> Result<Field<'_>, Fault>
     requires { ReadsAll IsField trees.now }
     ensures { MatchResult result (λ field. HasFieldParts trees.now field) (λ fault. ⊥) }
@@ -75,7 +76,7 @@ fn named_field(trees: &[TokenTree]) -> Result<Field<'_>, Fault>
     }
 }
 
-/// The parts of a field without a name.
+/// The parts of a field without a name that is all of the trees.
 fn tuple_field(trees: &[TokenTree]) -> Result<Field<'_>, Fault>
     requires { ReadsAll IsTupleField trees.now }
     ensures { MatchResult result (λ field. HasTypeParts trees.now field) (λ fault. ⊥) }

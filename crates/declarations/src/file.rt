@@ -1,4 +1,4 @@
-//! Files, and what modules, traits and the like have in their braces: inner attributes, and items one after the other.
+//! Files, and the bodies of modules, traits, `impl`s and `extern` blocks: inner attributes, and then items.
 ghost use Rattle.std.specs.Prelude.{◌≡◌, [], IfErr, IfOk, List, MatchOption, None, Option, Some, length};
 ghost use Rattle.pm_stream.specs.declared.stream.TokenTree.{TokenTree as Tree};
 ghost use Rattle.pm_token.specs.Leaf.{Name};
@@ -17,32 +17,33 @@ use crate::walk::read_whole;
 use pm_stream::{Group, TokenTree};
 use pm_token::Delimiter;
 
-/// A file, or what stands in the braces of a module, a trait, an `impl` or a block of foreign items.
+/// The content of a file, or of the braces of a module, a trait, an `impl` or an `extern` block.
 #[derive(Clone, Copy)]
 pub struct File<'a> {
-    /// The inner attributes, which may be none.
+    /// The inner attributes, perhaps none.
     pub inner: &'a [TokenTree],
-    /// The items after them.
+    /// The items after the inner attributes.
     pub items: Items<'a>,
 }
 
-/// The items that are left of a file, one after the other. It is copied freely.
+/// The remaining items of a file, in order. The iterator is `Copy`.
 ///
-/// It gives each item as [`split_any_item`] answers it of the trees that are left, or the fault where the trees go on
-/// with none. After a fault it gives nothing. Those that [`parse_file`] answers have no fault. Of `fn f() {} struct S;`
-/// it gives the function `f` and the struct `S`. It takes no memory.
+/// It gives each item as [`split_any_item`] reads it from the remaining trees. At an error it gives a `Fault`, whose
+/// `at` counts from the start of the remaining trees, and then ends. It allocates nothing. The items that
+/// [`parse_file`] returns have no error. For `fn f() {} struct S;` the iterator gives the function `f` and the struct
+/// `S`.
 #[derive(Clone, Copy, Debug)]
 pub struct Items<'a> {
-    /// The trees that are left.
+    /// The trees that are not yet read.
     pub left: &'a [TokenTree],
 }
 
-/// The inner attributes and the items that the trees are.
+/// Reads all of the trees as a file: inner attributes, and then items.
 ///
-/// It answers `Ok` exactly where the trees are inner attributes and then items, and else the fault: that of the inner
-/// attributes, or of the first item that [`split_any_item`] doesn't read, counted from the front of all trees. What
-/// stands within the items' groups isn't read. Of `#![a] fn f() {} struct S;` the inner attributes are `#![a]`, and
-/// there are two items. It takes no memory.
+/// If the trees are no file, the call returns a `Fault`. The error is in the inner attributes, or in the first item
+/// that [`split_any_item`] cannot read. Its `at` counts from the start of the file. The call does not read the trees
+/// inside the items' groups, and allocates nothing. For `#![a] fn f() {} struct S;` the inner attributes are `#![a]`,
+/// and there are two items.
 pub fn parse_file(trees: &[TokenTree]) -> Result<File<'_>, Fault>
     ensures ok { IfOk result (λ file. IsFile trees.now file.inner.now file.items.left.now) }
     ensures fault { IfErr result (λ fault. FileFaultAt trees.now fault.at) }
@@ -70,14 +71,14 @@ pub fn parse_file(trees: &[TokenTree]) -> Result<File<'_>, Fault>
     })
 }
 
-/// The item that the trees are.
+/// Reads all of the trees as one item.
 ///
-/// It answers `Ok` exactly where [`split_any_item`] reads all of the trees, and else the fault, which stands before
-/// the first tree that is too many or doesn't fit. Of `fn f() {}` it is the function `f`; `fn f() {} fn g() {}` has
-/// its fault at the second `fn`. It takes no memory.
+/// It returns `Ok` exactly if [`split_any_item`] reads all of the trees. Otherwise it returns a `Fault` at the first
+/// tree that does not fit or is too many, or at the end if trees are missing. It allocates nothing. `fn f() {}` gives
+/// the function `f`, and `fn f() {} fn g() {}` has an error at the second `fn`.
 pub fn parse_item(trees: &[TokenTree]) -> Result<AnyItem<'_>, Fault>
     ensures ok { IfOk result (λ item. ReadsAll IsAnyItem trees.now × (item.trees.now ≡ trees.now)) }
-    // The kind and the name are those of the one walk over the item's signs.
+    // The kind and the name are those that the walk over the item's signs finds.
     ensures told { IfOk result (λ item. (name : Option Name) × Tells trees.now [] item.kind name
         × MatchOption item.name (name ≡ None) (λ ident. name ≡ Some ident.now)) }
     ensures fault { IfErr result (λ fault. FaultAt (IsWhole IsAnyItem) trees.now fault.at) }
@@ -102,7 +103,7 @@ impl<'a> Iterator for Items<'a> {
 
     ghost next_gives = { GivesItem };
 
-    // No more come than trees are left.
+    // At most as many items come as trees are left.
     ghost remaining = { λ items. at_most (length items.left.now) };
 
     fn next(&mut self) -> Option<Result<AnyItem<'a>, Fault>> {
@@ -123,9 +124,10 @@ impl<'a> Iterator for Items<'a> {
 }
 
 impl<'a> AnyItem<'a> {
-    /// The braces in which the items of a module, a trait, an `impl` or a block of foreign items stand.
+    /// Returns the braces that hold the items of a module, a trait, an `impl` or an `extern` block.
     ///
-    /// [`parse_file`] reads what stands in them. A module that ends in `;` has none, and no item of another kind.
+    /// The result is `None` for a module that ends in `;`, and for an item of any other kind. [`parse_file`] reads the
+    /// trees in the braces.
     pub fn body(&self) -> Option<&'a Group>
         ensures { MatchOption result (body_of self.now.kind self.now.trees.now ≡ None)
             (λ group. body_of self.now.kind self.now.trees.now ≡ Some group.now) }
@@ -138,7 +140,7 @@ impl<'a> AnyItem<'a> {
     }
 }
 
-/// The group in braces that is the last of the trees.
+/// The last tree, if it is a group in braces.
 fn last_braces(trees: &[TokenTree]) -> Option<&Group>
     ensures { MatchOption result (last_braces trees.now ≡ None) (λ group. last_braces trees.now ≡ Some group.now) }
 {
@@ -148,7 +150,7 @@ fn last_braces(trees: &[TokenTree]) -> Option<&Group>
     }
 }
 
-/// The group that the tree is, if it has braces.
+/// The tree as a group, if it is a group in braces.
 fn braces(tree: &TokenTree) -> Option<&Group>
     ensures { MatchOption result (braces tree.now ≡ None) (λ group. braces tree.now ≡ Some group.now) }
 {

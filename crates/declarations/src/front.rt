@@ -1,4 +1,4 @@
-//! Items: what may follow what they begin with, up to their names.
+//! The steps of the walk over an item, up to its name. A step says where a sign leads.
 ghost use Rattle.std.specs.Prelude.{◌≡◌};
 ghost use Rattle.declarations.specs.Front.{async_front, auto_front, call_group, call_name, call_path, call_word};
 ghost use Rattle.declarations.specs.Front.{const_front, const_safe, crate_name, declaration, default_front};
@@ -17,7 +17,7 @@ use crate::place::{
 };
 use crate::types::{Turn, TypeState};
 
-/// The rest of a function's front.
+/// The step before `fn` or `extern`, in what must be a function.
 fn qualified(class: Class) -> Option<Shift>
     ensures { result ≡ qualified class }
 {
@@ -28,7 +28,7 @@ fn qualified(class: Class) -> Option<Shift>
     }
 }
 
-/// A keyword that begins an item.
+/// The step at a keyword that begins an item.
 fn item_keyword(keyword: Keyword) -> Option<Shift>
     ensures { result ≡ item_keyword keyword }
 {
@@ -51,7 +51,7 @@ fn item_keyword(keyword: Keyword) -> Option<Shift>
     }
 }
 
-/// A word that begins one.
+/// The step at a word that begins an item.
 fn item_word(word: Word) -> Option<Shift>
     ensures { result ≡ item_word word }
 {
@@ -64,7 +64,7 @@ fn item_word(word: Word) -> Option<Shift>
     }
 }
 
-/// After its visibility.
+/// The step after the visibility of an item.
 pub(crate) fn declaration(class: Class) -> Option<Shift>
     ensures { result ≡ declaration class }
 {
@@ -75,7 +75,7 @@ pub(crate) fn declaration(class: Class) -> Option<Shift>
     }
 }
 
-/// Where it has none: a macro call or a group without delimiters too.
+/// The step where an item begins without a visibility. It may be a macro call, or a group without delimiters.
 pub(crate) fn unmarked_item(class: Class) -> Option<Shift>
     ensures { result ≡ unmarked_item class }
 {
@@ -91,7 +91,7 @@ pub(crate) fn unmarked_item(class: Class) -> Option<Shift>
     }
 }
 
-/// A struct, an enum or a union.
+/// The step where a struct, an enum or a union begins, after its visibility.
 pub(crate) fn type_item(class: Class) -> Option<Shift>
     ensures { result ≡ type_item class }
 {
@@ -156,7 +156,7 @@ fn async_front(class: Class) -> Option<Shift>
     }
 }
 
-/// After `const`. `safe` may be a name, or belong to a function.
+/// The step after `const`. A `safe` may be the constant's name, or belong to a function.
 fn const_front(class: Class) -> Option<Shift>
     ensures { result ≡ const_front class }
 {
@@ -178,7 +178,7 @@ fn const_safe(class: Class) -> Option<Shift>
     }
 }
 
-/// After `extern` and what an ABI it may have.
+/// The step after `extern` and its ABI, if it has one.
 fn extern_abi(class: Class) -> Option<Shift>
     ensures { result ≡ extern_abi class }
 {
@@ -206,7 +206,7 @@ fn extern_front(class: Class) -> Option<Shift>
     }
 }
 
-/// After the `extern` of what must be a function.
+/// The step after the `extern` of what must be a function.
 fn function_extern(class: Class) -> Option<Shift>
     ensures { result ≡ function_extern class }
 {
@@ -242,7 +242,7 @@ fn static_front(class: Class) -> Option<Shift>
     }
 }
 
-/// After a word that begins an item: the path of a macro call, or a front.
+/// The step after a first word, which may be in the path of a macro call or begin another item.
 fn call_word(word: Word, class: Class) -> Option<Shift>
     ensures { result ≡ call_word word class }
 {
@@ -269,7 +269,7 @@ fn call_path(class: Class) -> Option<Shift>
     }
 }
 
-/// The group of a call.
+/// The step before the group of a macro call.
 fn call_group(class: Class) -> Option<Shift>
     ensures { result ≡ call_group class }
 {
@@ -283,7 +283,7 @@ fn call_group(class: Class) -> Option<Shift>
     }
 }
 
-/// After the `!` of a call: a name, as of `macro_rules!`, or its group.
+/// The step after the `!` of a macro call: a name, as in `macro_rules! name`, or the group of the call.
 fn call_name(class: Class) -> Option<Shift>
     ensures { result ≡ call_name class }
 {
@@ -302,7 +302,7 @@ fn macro_parameters(class: Class) -> Option<Shift>
     }
 }
 
-/// In the brackets of parameters and not of a type.
+/// The step after `impl <` if the bracket begins generic parameters.
 fn impl_angle(class: Class) -> Option<Shift>
     ensures { result ≡ impl_angle class }
 {
@@ -316,7 +316,7 @@ fn impl_angle(class: Class) -> Option<Shift>
     }
 }
 
-/// After a word that may be a parameter, or begin a type.
+/// The step after `impl <` and a word, if the word is a generic parameter.
 fn impl_word(class: Class) -> Option<Shift>
     ensures { result ≡ impl_word class }
 {
@@ -339,7 +339,7 @@ fn impl_word(class: Class) -> Option<Shift>
     }
 }
 
-/// After `impl`, but for types.
+/// The step after `impl`, if no type begins there.
 fn impl_front(class: Class) -> Option<Shift>
     ensures { result ≡ impl_front class }
 {
@@ -354,7 +354,7 @@ fn impl_front(class: Class) -> Option<Shift>
     }
 }
 
-/// After its `const`, but for types.
+/// The step after `impl const`, if no type begins there.
 fn impl_const(class: Class) -> Option<Shift>
     ensures { result ≡ impl_const class }
 {
@@ -386,7 +386,7 @@ fn use_front(class: Class) -> Option<Shift>
     }
 }
 
-/// After a name that `as` may follow.
+/// The step after a name that `as` may follow.
 fn renamed(item: Item, class: Class) -> Option<Shift>
     ensures { result ≡ renamed item class }
 {
@@ -442,7 +442,7 @@ fn until(item: Item, class: Class) -> Option<Shift>
     }
 }
 
-/// What a sign leads to in the front of an item.
+/// The step before an item's name.
 pub(crate) fn front_step(item: Item, front: Front, class: Class) -> Option<Shift>
     ensures { result ≡ front_step item front class }
 {
@@ -488,7 +488,7 @@ pub(crate) fn front_step(item: Item, front: Front, class: Class) -> Option<Shift
     }
 }
 
-/// The type that may begin in a front: that of an `impl`.
+/// The type that can begin before an item's name. Only an `impl` has one.
 pub(crate) fn front_type(front: Front) -> Option<TypeStart>
     ensures { result ≡ front_type front }
 {
@@ -501,7 +501,7 @@ pub(crate) fn front_type(front: Front) -> Option<TypeStart>
     }
 }
 
-/// Whether an item's name is wanted.
+/// Whether the next sign can be the item's name.
 pub(crate) fn front_names(front: Front) -> bool
     ensures { result ≡ front_names front }
 {

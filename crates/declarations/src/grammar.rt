@@ -1,4 +1,4 @@
-//! The grammar of declarations: what may follow each place.
+//! The grammar of declarations as an automaton: what may follow each state of the walk.
 ghost use Rattle.std.specs.Prelude.{◌≡◌, ◌+◌, ◌≤◌, ◌<◌, ◌^◌, IfSome};
 ghost use Rattle.declarations.specs.Grammar.{after_angle, attributed, before, before_first, begin, closing_type};
 ghost use Rattle.declarations.specs.Grammar.{const_default, ends, follow, has_attributes, has_visibility, is_front};
@@ -21,7 +21,7 @@ use crate::place::{
 use crate::types::{Turn, TypeState, may_end, type_step};
 
 impl Place {
-    /// What the sign leads to, if it may stand there.
+    /// The state that a sign of this class leads to, or `None` if the sign cannot come next.
     pub fn step(self, class: Class) -> Option<Place>
         requires { self.depth + 1 < 2 ^ 64 }
         ensures value { result ≡ step self class }
@@ -54,7 +54,7 @@ impl Place {
         }
     }
 
-    /// Whether what is read may end there.
+    /// Whether the part that is read may end in this state.
     pub fn may_end(self) -> bool
         ensures { result ≡ ends self }
     {
@@ -66,7 +66,7 @@ impl Place {
         }
     }
 
-    /// Whether a sign of this class is an item's name.
+    /// Whether a sign of this class is the name of the item.
     pub fn names(self, class: Class) -> bool
         ensures { result ≡ names self class }
     {
@@ -74,7 +74,7 @@ impl Place {
     }
 }
 
-/// Whether an item's name is wanted.
+/// Whether the name of the item may come next.
 fn wants_name(state: State) -> bool
     ensures { result ≡ wants_name state }
 {
@@ -85,7 +85,7 @@ fn wants_name(state: State) -> bool
     }
 }
 
-/// What it may be.
+/// Whether a sign of this class can be the name of an item.
 fn is_name(class: Class) -> bool
     ensures { result ≡ is_name class }
 {
@@ -95,7 +95,7 @@ fn is_name(class: Class) -> bool
     }
 }
 
-/// A step within a type or bounds.
+/// The step within a type or bounds.
 fn range_step(place: Place, state: TypeState, class: Class) -> Option<Place>
     requires { place.depth + 1 < 2 ^ 64 }
     ensures value { result ≡ range_step place state class }
@@ -139,7 +139,7 @@ fn shifted(depth: usize, shift: Option<Shift>) -> Option<Place>
     })
 }
 
-/// Where an expression goes on after its angle brackets.
+/// The state after the angle brackets of an expression.
 fn after_angle(rule: Rule, state: TypeState) -> State
     ensures { result ≡ after_angle rule state }
 {
@@ -151,7 +151,7 @@ fn after_angle(rule: Rule, state: TypeState) -> State
     }
 }
 
-/// The state after a step within a type, which may close the brackets of an expression.
+/// The state after a step within a type. The step may close the angle brackets of an expression.
 fn range_state(rule: Rule, state: TypeState, turn: Turn, depth: usize) -> State
     ensures { result ≡ range_state rule state turn depth }
 {
@@ -167,7 +167,7 @@ fn range_state(rule: Rule, state: TypeState, turn: Turn, depth: usize) -> State
     }
 }
 
-/// After a generic parameter that is whole.
+/// The step after a whole generic parameter.
 fn parameter_end(item: Item, class: Class) -> Option<Shift>
     ensures { result ≡ parameter_end item class }
 {
@@ -178,7 +178,7 @@ fn parameter_end(item: Item, class: Class) -> Option<Shift>
     }
 }
 
-/// A generic parameter.
+/// The step where a generic parameter begins.
 fn parameter(item: Item, class: Class) -> Option<Shift>
     ensures { result ≡ parameter item class }
 {
@@ -190,7 +190,7 @@ fn parameter(item: Item, class: Class) -> Option<Shift>
     }
 }
 
-/// After a lifetime that is a parameter.
+/// The step after a lifetime that is a generic parameter.
 fn lifetime_name(item: Item, class: Class) -> Option<Shift>
     ensures { result ≡ lifetime_name item class }
 {
@@ -200,7 +200,7 @@ fn lifetime_name(item: Item, class: Class) -> Option<Shift>
     }
 }
 
-/// After the name of a parameter that is a type.
+/// The step after the name of a type parameter.
 fn type_name(item: Item, class: Class) -> Option<Shift>
     ensures { result ≡ type_name item class }
 {
@@ -211,7 +211,7 @@ fn type_name(item: Item, class: Class) -> Option<Shift>
     }
 }
 
-/// The default of a constant, but for types.
+/// The step at the default of a constant parameter, if the default is no type.
 fn const_default(item: Item, class: Class) -> Option<Shift>
     ensures { result ≡ const_default item class }
 {
@@ -222,7 +222,7 @@ fn const_default(item: Item, class: Class) -> Option<Shift>
     }
 }
 
-/// What a part begins with, after its attributes and visibility.
+/// The step where a part begins, after its attributes and its visibility.
 fn begin(part: Part, item: Item, rule: Rule, class: Class) -> Option<Shift>
     ensures { result ≡ begin part item rule class }
 {
@@ -236,7 +236,7 @@ fn begin(part: Part, item: Item, rule: Rule, class: Class) -> Option<Shift>
     }
 }
 
-/// The same where no visibility stands before it.
+/// The step where a part without a visibility begins, after its attributes.
 fn unmarked(part: Part, item: Item, rule: Rule, class: Class) -> Option<Shift>
     ensures { result ≡ unmarked part item rule class }
 {
@@ -255,7 +255,7 @@ fn has_visibility(part: Part) -> bool
     }
 }
 
-/// After the attributes of a part.
+/// The step after the attributes of a part.
 fn attributed(part: Part, item: Item, rule: Rule, class: Class) -> Option<Shift>
     ensures { result ≡ attributed part item rule class }
 {
@@ -278,7 +278,7 @@ fn has_attributes(part: Part) -> bool
     }
 }
 
-/// Before another attribute of a part, or what follows them.
+/// The step before another attribute of a part, or before what follows the attributes.
 fn before(part: Part, item: Item, rule: Rule, class: Class) -> Option<Shift>
     ensures { result ≡ before part item rule class }
 {
@@ -289,7 +289,7 @@ fn before(part: Part, item: Item, rule: Rule, class: Class) -> Option<Shift>
     }
 }
 
-/// Before a part. Generic parameters may end there.
+/// The step before a part. A list of generic parameters may end here.
 fn before_first(part: Part, item: Item, rule: Rule, class: Class) -> Option<Shift>
     ensures { result ≡ before_first part item rule class }
 {
@@ -299,7 +299,7 @@ fn before_first(part: Part, item: Item, rule: Rule, class: Class) -> Option<Shif
     }
 }
 
-/// After the `pub` of a part.
+/// The step after the `pub` of a part.
 fn public(part: Part, item: Item, rule: Rule, class: Class) -> Option<Shift>
     ensures { result ≡ public part item rule class }
 {
@@ -309,7 +309,7 @@ fn public(part: Part, item: Item, rule: Rule, class: Class) -> Option<Shift>
     }
 }
 
-/// Before the discriminant of a variant.
+/// The step before the discriminant of a variant.
 fn variant_value(item: Item, class: Class) -> Option<Shift>
     ensures { result ≡ variant_value item class }
 {
@@ -319,7 +319,7 @@ fn variant_value(item: Item, class: Class) -> Option<Shift>
     }
 }
 
-/// After the name of a variant.
+/// The step after the name of a variant.
 fn variant_body(item: Item, rule: Rule, class: Class) -> Option<Shift>
     ensures { result ≡ variant_body item rule class }
 {
@@ -331,7 +331,7 @@ fn variant_body(item: Item, rule: Rule, class: Class) -> Option<Shift>
     }
 }
 
-/// What may follow a type or bounds.
+/// The step after a type or bounds.
 fn follow(item: Item, rule: Rule, class: Class) -> Option<Shift>
     ensures { result ≡ follow item rule class }
 {
@@ -353,7 +353,7 @@ fn follow(item: Item, rule: Rule, class: Class) -> Option<Shift>
     }
 }
 
-/// What a sign leads to at a spot.
+/// The step outside of types and bounds.
 fn spot_step(item: Item, rule: Rule, spot: Spot, class: Class) -> Option<Shift>
     ensures { result ≡ spot_step item rule spot class }
 {
@@ -395,7 +395,7 @@ fn spot_step(item: Item, rule: Rule, spot: Spot, class: Class) -> Option<Shift>
     }
 }
 
-/// After the generic parameters of an `impl` a type begins.
+/// The type that begins after the generic parameters. Only an `impl` has one.
 fn closing_type(item: Item) -> Option<TypeStart>
     ensures { result ≡ closing_type item }
 {
@@ -405,7 +405,7 @@ fn closing_type(item: Item) -> Option<TypeStart>
     }
 }
 
-/// The type that may begin at a spot.
+/// The type that can begin in this state.
 fn spot_type(item: Item, rule: Rule, spot: Spot) -> Option<TypeStart>
     ensures { result ≡ spot_type item rule spot }
 {
@@ -422,7 +422,7 @@ fn spot_type(item: Item, rule: Rule, spot: Spot) -> Option<TypeStart>
     }
 }
 
-/// Whether what is read may end after a type or bounds.
+/// Whether the part that is read may end after a type or bounds.
 fn rule_ends(item: Item, rule: Rule) -> bool
     ensures { result ≡ rule_ends item rule }
 {
@@ -434,7 +434,7 @@ fn rule_ends(item: Item, rule: Rule) -> bool
     }
 }
 
-/// Whether attributes and a visibility are all of it.
+/// Whether the part has only attributes or a visibility.
 fn is_front(part: Part) -> bool
     ensures { result ≡ is_front part }
 {
@@ -444,7 +444,7 @@ fn is_front(part: Part) -> bool
     }
 }
 
-/// Whether what is read may end before a part: a list may.
+/// Whether what is read may end before this part, as a list may.
 fn part_ends(item: Item, rule: Rule, part: Part) -> bool
     ensures { result ≡ part_ends item rule part }
 {

@@ -1,4 +1,4 @@
-//! Items: what may follow their names.
+//! The steps of the walk over an item, from its name on. A step says where a sign leads.
 ghost use Rattle.std.specs.Prelude.{◌≡◌};
 ghost use Rattle.declarations.specs.Header.{alias_header, body, closing, function_header, generics, has_where};
 ghost use Rattle.declarations.specs.Header.{header, impl_header, in_braces, in_semicolon, is_alone, return_header};
@@ -7,7 +7,7 @@ ghost use Rattle.declarations.specs.Header.{struct_header, trait_header, typed_h
 use crate::class::{Class, Keyword};
 use crate::place::{Front, Item, Part, Rule, Shift, Spot, to_bounds, to_front, to_spot, to_type};
 
-/// Whether a body in braces may end the item.
+/// Whether the item may end with a body in braces.
 fn in_braces(item: Item) -> bool
     ensures { result ≡ in_braces item }
 {
@@ -27,7 +27,7 @@ fn in_braces(item: Item) -> bool
     }
 }
 
-/// Whether `;` may end it.
+/// Whether the item may end with `;`.
 fn in_semicolon(item: Item) -> bool
     ensures { result ≡ in_semicolon item }
 {
@@ -47,7 +47,7 @@ fn in_semicolon(item: Item) -> bool
     }
 }
 
-/// After `=`: the type of an alias, or the expression of a constant.
+/// The step after `=`, before the type of an alias or the expression of a constant.
 fn value(item: Item) -> Option<Shift>
     ensures { result ≡ value item }
 {
@@ -58,7 +58,7 @@ fn value(item: Item) -> Option<Shift>
     }
 }
 
-/// After the header of an item, or its where clause.
+/// The step after the header of an item, or after its where clause.
 pub(crate) fn body(item: Item, class: Class) -> Option<Shift>
     ensures { result ≡ body item class }
 {
@@ -70,7 +70,7 @@ pub(crate) fn body(item: Item, class: Class) -> Option<Shift>
     }
 }
 
-/// Whether no item is declared around a part, whose body would have to follow.
+/// Whether the part is read on its own, so that no body has to follow.
 pub(crate) fn is_alone(item: Item) -> bool
     ensures { result ≡ is_alone item }
 {
@@ -80,7 +80,7 @@ pub(crate) fn is_alone(item: Item) -> bool
     }
 }
 
-/// Whether it may have a where clause.
+/// Whether the item may have a where clause.
 fn has_where(item: Item) -> bool
     ensures { result ≡ has_where item }
 {
@@ -99,7 +99,7 @@ fn has_where(item: Item) -> bool
     }
 }
 
-/// After the header of an item, which a where clause may follow.
+/// The step after the header of an item, where a where clause may begin.
 pub(crate) fn header(item: Item, class: Class) -> Option<Shift>
     ensures { result ≡ header item class }
 {
@@ -109,7 +109,7 @@ pub(crate) fn header(item: Item, class: Class) -> Option<Shift>
     }
 }
 
-/// After the generic parameters of a struct.
+/// The step after the generic parameters of a struct.
 fn struct_header(class: Class) -> Option<Shift>
     ensures { result ≡ struct_header class }
 {
@@ -119,7 +119,7 @@ fn struct_header(class: Class) -> Option<Shift>
     }
 }
 
-/// After those of a function, which its parameters follow.
+/// The step after the generic parameters of a function, before its parameters.
 fn function_header(class: Class) -> Option<Shift>
     ensures { result ≡ function_header class }
 {
@@ -129,7 +129,7 @@ fn function_header(class: Class) -> Option<Shift>
     }
 }
 
-/// After the parameters of a function.
+/// The step after the parameters of a function.
 fn return_header(class: Class) -> Option<Shift>
     ensures { result ≡ return_header class }
 {
@@ -139,7 +139,7 @@ fn return_header(class: Class) -> Option<Shift>
     }
 }
 
-/// After the name of a constant or static.
+/// The step after the name of a constant or a static.
 fn typed_header(item: Item, class: Class) -> Option<Shift>
     ensures { result ≡ typed_header item class }
 {
@@ -168,7 +168,7 @@ fn trait_header(class: Class) -> Option<Shift>
     }
 }
 
-/// After the generic parameters of an `impl`, but for types.
+/// The step after the generic parameters of an `impl`, if no type begins there.
 pub(crate) fn impl_header(class: Class) -> Option<Shift>
     ensures { result ≡ impl_header class }
 {
@@ -179,7 +179,7 @@ pub(crate) fn impl_header(class: Class) -> Option<Shift>
     }
 }
 
-/// What may stand after the generic parameters of an item, or after those that may be left out.
+/// The step after the generic parameters of an item, which may be left out.
 pub(crate) fn closing(item: Item, class: Class) -> Option<Shift>
     ensures { result ≡ closing item class }
 {
@@ -195,7 +195,7 @@ pub(crate) fn closing(item: Item, class: Class) -> Option<Shift>
     }
 }
 
-/// After a name that generic parameters may follow.
+/// The step after a name that generic parameters may follow.
 pub(crate) fn generics(item: Item, class: Class) -> Option<Shift>
     ensures { result ≡ generics item class }
 {

@@ -1,4 +1,4 @@
-//! A struct, an enum or a union, as a derive is given it.
+//! Structs, enums and unions, as a derive macro gets them.
 ghost use Rattle.std.specs.Prelude.{◌≡◌, ◌∷◌, IfErr, IfNone, IfOk, IfSome, List, MatchResult};
 ghost use Rattle.pm_stream.specs.declared.stream.Group.{Group as Grouped};
 ghost use Rattle.pm_stream.specs.declared.stream.TokenTree.{TokenTree as Tree};
@@ -22,39 +22,39 @@ use crate::walk::read_whole;
 use pm_stream::{Group, TokenTree};
 use pm_token::{Delimiter, Ident};
 
-/// A struct, an enum or a union: its parts in reading order, but that the fields in parentheses of a struct stand
-/// before its where clause.
+/// A struct, an enum or a union, split into its parts.
 ///
-/// A macro by example passes a fragment as a group without delimiters. One that holds a visibility, or nothing, is the
-/// visibility.
+/// The parts are in reading order, except that the fields of a tuple struct come before its where clause. A
+/// `macro_rules!` macro passes a visibility (`$vis`) as a group without delimiters, which may be empty. Such a group is
+/// the visibility of the item.
 #[derive(Clone, Copy, Debug)]
 pub struct TypeItem<'a> {
-    /// The outer attributes, which may be none.
+    /// The outer attributes, perhaps none.
     pub attributes: &'a [TokenTree],
-    /// The visibility, which may be left out, or one group without delimiters.
+    /// The visibility: `pub` with its restriction, one group without delimiters, or no trees.
     pub visibility: &'a [TokenTree],
-    /// `struct`, `enum` or `union`.
+    /// The keyword: `struct`, `enum` or `union`.
     pub keyword: &'a Ident,
     /// The name of the type.
     pub name: &'a Ident,
-    /// The generic parameters in their brackets, or nothing.
+    /// The generic parameters with their angle brackets, or no trees.
     pub generics: &'a [TokenTree],
-    /// The where clause with its `where`, or nothing.
+    /// The where clause with its `where`, or no trees.
     pub where_clause: &'a [TokenTree],
-    /// The fields or variants.
+    /// The fields or the variants.
     pub body: Body<'a>,
-    /// The `;` of a struct without braces, or nothing.
+    /// The `;` of a struct without braces, or no trees.
     pub semicolon: &'a [TokenTree],
 }
 
-/// What a type is declared to be.
+/// The body of a struct, an enum or a union.
 #[derive(Clone, Copy, Debug)]
 pub enum Body<'a> {
     /// A struct with these fields.
     Struct(Fields<'a>),
-    /// An enum, whose variants stand in these braces.
+    /// An enum with its variants in these braces.
     Enum(&'a Group),
-    /// A union, whose fields stand in these braces.
+    /// A union with its fields in these braces.
     Union(&'a Group),
 }
 
@@ -65,19 +65,19 @@ pub enum Fields<'a> {
     Named(&'a Group),
     /// Fields without names, in parentheses.
     Tuple(&'a Group),
-    /// None, with no delimiters.
+    /// No fields and no delimiters.
     Unit,
 }
 
-/// The parts of the struct, the enum or the union that the trees are.
+/// Splits a struct, an enum or a union into its parts. The item must be all of the trees.
 ///
-/// It answers `Ok` exactly where [`split_item`](crate::split_item) reads all of the trees, and else
-/// the fault, which stands before the first tree that is too many or doesn't fit. What stands within
-/// the braces or parentheses of the body isn't read. A group without delimiters that holds a whole
-/// item is a fault: its own trees are to be given. It takes no memory.
+/// It returns `Ok` exactly if [`split_item`](crate::split_item) reads all of the trees. Otherwise it
+/// returns a `Fault` at the first tree that does not fit or is too many, or at the end if trees are missing. The trees
+/// inside the braces or parentheses of the body are not read. For a group without delimiters that holds a whole item
+/// it returns a `Fault`: pass the trees in that group instead. It allocates nothing.
 ///
-/// Of `pub struct S<T>(T) where T: A;` the visibility is `pub`, the name `S`, the generic parameters are `<T>`, the
-/// fields `(T)`, and the where clause is `where T: A`.
+/// For `pub struct S<T>(T) where T: A;` the visibility is `pub`, the name is `S`, the generic parameters are `<T>`, the
+/// fields are `(T)`, and the where clause is `where T: A`.
 pub fn parse_type_item(trees: &[TokenTree]) -> Result<TypeItem<'_>, Fault>
     ensures ok { IfOk result (λ item. IsTypeItem trees.now item) }
     ensures fault { IfErr result (λ fault. FaultAt (IsWhole IsItem) trees.now fault.at) }
@@ -95,7 +95,7 @@ pub fn parse_type_item(trees: &[TokenTree]) -> Result<TypeItem<'_>, Fault>
     }
 }
 
-/// The parts of an item.
+/// The parts of an item that is all of the trees.
 fn item_of(trees: &[TokenTree]) -> Result<TypeItem<'_>, Fault>
     requires { ReadsAll IsItem trees.now }
     ensures { MatchResult result (λ item. IsTypeItem trees.now item) (λ fault. ⊥) }
@@ -118,7 +118,7 @@ fn item_of(trees: &[TokenTree]) -> Result<TypeItem<'_>, Fault>
     })
 }
 
-/// What follows the generic parameters.
+/// What comes after the generic parameters of an item.
 #[derive(Clone, Copy)]
 struct Ending<'a> {
     where_clause: &'a [TokenTree],
@@ -170,7 +170,7 @@ fn struct_ending(trees: &[TokenTree]) -> Result<Ending<'_>, Fault>
     }
 }
 
-/// The same, where no fields in parentheses stand.
+/// The end of a struct that has no fields in parentheses.
 fn plain_ending(trees: &[TokenTree]) -> Result<Ending<'_>, Fault>
     requires left { ReadsAll (IsFrom (behind_generics items.Struct)) trees.now }
     requires plain { (group : Grouped) → (rest : List Tree) → trees.now ≡ trees_are.Group group ∷ rest
@@ -193,7 +193,7 @@ fn plain_ending(trees: &[TokenTree]) -> Result<Ending<'_>, Fault>
     }
 }
 
-/// A where clause and the braces after it.
+/// A where clause, the braces after it, and the trees after the braces.
 fn braces_of(trees: &[TokenTree]) -> Result<(&[TokenTree], &Group, &[TokenTree]), Fault>
     requires { AreBracesLeft trees.now }
     ensures { MatchResult result (λ found. HasBraces trees.now found.0.now found.1.now found.2.now) (λ fault. ⊥) }
@@ -229,7 +229,7 @@ pub(crate) fn split_group(trees: &[TokenTree]) -> Option<(&Group, &[TokenTree])>
     }
 }
 
-/// The same, if it has parentheses.
+/// The group in parentheses that the trees begin with, and the trees after it.
 pub(crate) fn split_parentheses(trees: &[TokenTree]) -> Option<(&Group, &[TokenTree])>
     ensures found { IfSome result (λ found. (trees.now ≡ trees_are.Group found.0.now ∷ found.1.now)
         × (found.0.now.delimiter ≡ Delimiter.Parenthesis)) }

@@ -1,4 +1,4 @@
-//! Keywords.
+//! Which identifiers are keywords of the grammar.
 ghost use Rattle.std.specs.Prelude.{◌≡◌};
 ghost use Rattle.declarations.specs.Item.{is_keyword};
 
@@ -6,10 +6,10 @@ use crate::class::Class;
 use crate::signs::name_class;
 use pm_token::Ident;
 
-/// Whether the identifier is a keyword to the grammar, and so no name: a strict or reserved one of Rust 2021, or `_`,
-/// but for `try`.
+/// Returns whether the identifier is a keyword of the grammar, and so cannot be a name.
 ///
-/// `struct` is, and `union`, `r#struct` and `auto` are not.
+/// The keywords are `_` and the strict and reserved keywords of Rust 2021, except `try`. For example, `struct` is a
+/// keyword, and `union`, `r#struct` and `auto` are none.
 pub fn is_keyword(ident: &Ident) -> bool
     ensures { result ≡ is_keyword ident.now }
 {

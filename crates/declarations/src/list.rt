@@ -1,4 +1,4 @@
-//! Lists of fields and of variants, one at a time.
+//! Lists of fields and of variants, one element at a time.
 ghost use Rattle.std.specs.Prelude.{◌≡◌, ◌-◌, ◌≤◌, ◌<◌, IfErr, IfNone, IfOk, IfSome, List, MatchResult, length, true};
 ghost use Rattle.pm_stream.specs.declared.stream.TokenTree.{TokenTree as Tree};
 ghost use Rattle.declarations.specs.Fault.{extent_at, first_extent};
@@ -14,11 +14,11 @@ use crate::item::Fields;
 use crate::variant::{Variant, parse_variant};
 use pm_stream::{Group, TokenTree};
 
-/// The fields in braces or parentheses, in order, with `,` between two and perhaps after the last.
+/// The fields in braces or parentheses, in order. A `,` is between two fields, and may be after the last.
 ///
-/// It gives each field, or the fault where the trees go on with none. After a fault it gives nothing. Each field is as
-/// [`parse_field`] answers it of the trees that are left, [`parse_tuple_field`] where it has no name; so is a fault,
-/// whose trees are counted from there on. Of `a: A, b: B` it gives `a: A` and `b: B`. It takes no memory.
+/// The iterator gives each field as [`parse_field`] reads it from the remaining trees, or as [`parse_tuple_field`] does
+/// if the fields have no names. At an error it gives a `Fault`, whose `at` counts from the start of the remaining
+/// trees, and then ends. It allocates nothing. For `a: A, b: B` it gives `a: A` and `b: B`.
 ///
 /// ```text
 /// for field in fields.list() {
@@ -30,22 +30,23 @@ use pm_stream::{Group, TokenTree};
 pub struct FieldList<'a> {
     /// Whether the fields have names.
     pub named: bool,
-    /// The trees that are left.
+    /// The trees that are not yet read.
     pub left: &'a [TokenTree],
 }
 
-/// The variants in the braces of an enum, in order, with `,` between two and perhaps after the last.
+/// The variants in the braces of an enum, in order. A `,` is between two variants, and may be after the last.
 ///
-/// It gives each variant as [`parse_variant`] answers it of the trees that are left, or the fault. After a fault it
-/// gives nothing. Of `A, B(u8) = 1` it gives `A` and `B(u8) = 1`. It takes no memory.
+/// The iterator gives each variant as [`parse_variant`] reads it from the remaining trees. At an error it gives a
+/// `Fault`, whose `at` counts from the start of the remaining trees, and then ends. It allocates nothing. For
+/// `A, B(u8) = 1` it gives `A` and `B(u8) = 1`.
 #[derive(Clone, Copy, Debug)]
 pub struct VariantList<'a> {
-    /// The trees that are left.
+    /// The trees that are not yet read.
     pub left: &'a [TokenTree],
 }
 
 impl<'a> FieldList<'a> {
-    /// The fields with names in this group, as in the braces of a union.
+    /// Returns an iterator over the named fields in this group, such as the braces of a union.
     pub fn named(group: &'a Group) -> FieldList<'a>
         ensures named { result.named ≡ true }
         ensures inside { AreInside result.left.now group.now }
@@ -58,7 +59,7 @@ impl<'a> FieldList<'a> {
 }
 
 impl<'a> Fields<'a> {
-    /// Its fields, one at a time.
+    /// Returns an iterator over the fields.
     pub fn list(&self) -> FieldList<'a>
         ensures { ListsFields self.now result }
     {
@@ -77,7 +78,7 @@ impl<'a> Fields<'a> {
 }
 
 impl<'a> VariantList<'a> {
-    /// The variants in these braces.
+    /// Returns an iterator over the variants in these braces.
     pub fn new(group: &'a Group) -> VariantList<'a>
         ensures { AreInside result.left.now group.now }
     {
@@ -95,7 +96,7 @@ impl<'a> Iterator for FieldList<'a> {
 
     ghost next_gives = { GivesField };
 
-    // No more come than trees are left.
+    // At most as many fields come as trees are left.
     ghost remaining = { λ list. at_most (length list.left.now) };
 
     fn next(&mut self) -> Option<Result<Field<'a>, Fault>> {
@@ -157,7 +158,7 @@ fn first_field(named: bool, trees: &[TokenTree]) -> Result<(Field<'_>, &[TokenTr
     }
 }
 
-/// The field at the front of the trees, with a name or without, and the trees after it.
+/// The field at the start of the trees, with a name or without, and the trees after it.
 fn field_at(named: bool, trees: &[TokenTree]) -> Result<(Field<'_>, &[TokenTree]), Fault>
     ensures ok { IfOk result (λ found. IsFieldOf named trees.now found.0 found.1.now) }
     ensures fault { IfErr result (λ fault. FaultAt (field_form named) trees.now fault.at) }
@@ -185,7 +186,7 @@ fn first_variant(trees: &[TokenTree]) -> Result<(Variant<'_>, &[TokenTree]), Fau
     }
 }
 
-/// The fault before these trees, the last of all.
+/// The error before `rest`, which are the last of the trees.
 pub(crate) fn fault_after(trees: &[TokenTree], rest: &[TokenTree]) -> Fault
     requires { length rest.now ≤ length trees.now }
     ensures at { result.at ≡ length trees.now - length rest.now }
@@ -194,7 +195,7 @@ pub(crate) fn fault_after(trees: &[TokenTree], rest: &[TokenTree]) -> Fault
     Fault::ahead_of(trees.len() - rest.len(), rest)
 }
 
-/// The trees after the comma at the front, or none where none are left.
+/// The trees after the comma that they begin with, or no trees if there are none.
 pub(crate) fn past_comma(trees: &[TokenTree]) -> Option<&[TokenTree]>
     ensures found { IfSome result (λ left. IsPastComma trees.now left.now) }
     ensures none { IfNone result ((left : List Tree) → IsPastComma trees.now left → ⊥) }

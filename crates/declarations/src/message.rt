@@ -1,4 +1,4 @@
-//! How a fault is told to the compiler.
+//! Code that makes the compiler report an error.
 ghost use Rattle.std.specs.Prelude.{◌≡◌, IfOk};
 ghost use Rattle.std.specs.Str.{chars};
 ghost use Rattle.pm_stream.specs.Trees.{forest};
@@ -13,10 +13,10 @@ use pm_token::{Delimiter, Spacing};
 use std::alloc::{AllocError, Global};
 
 impl Fault {
-    /// The code that makes the compiler tell the fault: `::core::compile_error! { "not expected here" }`.
+    /// Returns code that makes the compiler report this error: `::core::compile_error! { "not expected here" }`.
     ///
-    /// The text is that of Display. Each tree has the fault's span, which where more trees are missing is the call
-    /// site. Fails where memory runs out.
+    /// The text is that of `Display`. Each tree of the code has the span of the error, or the call site if trees are
+    /// missing. Fails if it runs out of memory.
     pub fn to_compile_error(&self, alloc: Global) -> Result<TokenStream, AllocError>
         ensures { IfOk result (λ stream.
             stream ≡ forest (compile_error (fault_text self.now.span) (told_at self.now.span))) }
@@ -28,9 +28,10 @@ impl Fault {
     }
 }
 
-/// The code that makes the compiler tell this text: `::core::compile_error! { "text" }`, each tree with this span.
+/// Returns code that makes the compiler report this text: `::core::compile_error! { "text" }`.
 ///
-/// So a macro refuses what it can't use at the token that is wrong. Fails where memory runs out.
+/// Each tree of the code has the given span, so a macro can reject its input at the token that is wrong. Fails if it
+/// runs out of memory.
 pub fn compile_error(alloc: Global, text: &str, span: Span) -> Result<TokenStream, AllocError>
     ensures { IfOk result (λ stream. stream ≡ forest (compile_error (chars text.now) span)) }
 {

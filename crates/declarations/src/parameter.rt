@@ -32,42 +32,42 @@ use crate::types::TypeState;
 use crate::walk::walk_past;
 use pm_stream::{Group, TokenTree};
 
-/// What a parameter of a function is.
+/// The form of a function's parameter.
 #[derive(Clone, Copy, Debug)]
 pub enum ParameterKind<'a> {
-    /// A receiver without a type, as `self`, `mut self`, `&self` or `&'a mut self`.
+    /// A receiver without a type, such as `self`, `mut self`, `&self` or `&'a mut self`.
     Receiver,
-    /// A receiver with this type, as `self: Box<Self>`.
+    /// A receiver with this type, such as `self: Box<Self>`.
     TypedReceiver(&'a [TokenTree]),
-    /// A pattern with this type, as `(a, b): (u8, u8)`.
+    /// A pattern with this type, such as `(a, b): (u8, u8)`.
     Typed(&'a [TokenTree]),
-    /// `...`, or a pattern with it, as `rest: ...`.
+    /// `...` alone, or a pattern with `...` for its type, such as `rest: ...`.
     Variadic,
 }
 
-/// A parameter of a function, as `&self`, `x: u8` or `#[a] (x, y): (u8, u8)`.
+/// A parameter of a function, such as `&self`, `x: u8` or `#[a] (x, y): (u8, u8)`.
 #[derive(Clone, Copy, Debug)]
 pub struct Parameter<'a> {
-    /// The attributes.
+    /// The outer attributes, perhaps none.
     pub attributes: &'a [TokenTree],
-    /// The pattern; the receiver, as `&'a mut self`, up to a `:`. It has no trees if the parameter is `...` alone.
+    /// The pattern or the receiver, without `:` and type. It has no trees if the parameter is `...` alone.
     pub pattern: &'a [TokenTree],
-    /// What the parameter is, with its type.
+    /// The form of the parameter, with its type.
     pub kind: ParameterKind<'a>,
 }
 
-/// What is read of a parameter up to its `:`, or its end.
+/// What a parameter begins with, up to its `:` or its end.
 #[derive(Clone, Copy)]
 pub enum Shape {
     /// A pattern.
     Pattern,
-    /// `self` or `mut self`, which a type may follow.
+    /// `self` or `mut self`. A type may follow.
     Receiver,
-    /// `self` after `&`.
+    /// A receiver that begins with `&`. No type may follow.
     Reference,
 }
 
-/// Whether a pattern may begin with the sign, which is no angle bracket.
+/// Whether a pattern can begin with the sign, apart from angle brackets.
 fn is_pattern(class: Class) -> bool
     ensures { result ≡ is_pattern class }
 {
@@ -81,7 +81,7 @@ fn is_pattern(class: Class) -> bool
     }
 }
 
-/// Whether a pattern may go on with the sign.
+/// Whether the sign can be in a pattern after its first sign.
 fn continues(class: Class) -> bool
     ensures { result ≡ continues class }
 {
@@ -100,14 +100,14 @@ fn opens(class: Class) -> bool
     }
 }
 
-/// Whether a pattern may begin with the sign.
+/// Whether a pattern can begin with the sign.
 fn may_begin(class: Class) -> bool
     ensures { result ≡ (is_pattern class || opens class) }
 {
     is_pattern(class) || opens(class)
 }
 
-/// Past a type.
+/// Skips a type.
 #[tactic(auto, using(crate::proofs::ParameterLemmas::type_reads))]
 fn past_type(trees: &[TokenTree]) -> Result<&[TokenTree], &[TokenTree]>
     ensures { ReadsRule type trees.now result }
@@ -121,7 +121,7 @@ fn past_type(trees: &[TokenTree]) -> Result<&[TokenTree], &[TokenTree]>
     walk_past(trees, start)
 }
 
-/// Past attributes.
+/// Skips attributes.
 #[tactic(auto, using(crate::proofs::ParameterLemmas::attributes_read))]
 fn past_attributes(trees: &[TokenTree]) -> Result<&[TokenTree], &[TokenTree]>
     ensures { ReadsRule attributes trees.now result }
@@ -135,7 +135,7 @@ fn past_attributes(trees: &[TokenTree]) -> Result<&[TokenTree], &[TokenTree]>
     walk_past(trees, start)
 }
 
-/// Past a sign with which a pattern goes on, if one is next.
+/// Skips one more sign of a pattern, if one is next.
 #[tactic(auto, using(crate::proofs::ReaderLemmas::steps))]
 fn pattern_sign(trees: &[TokenTree]) -> Option<&[TokenTree]>
     ensures found { IfSome result (λ rest. Finds pattern_sign trees.now rest.now) }
@@ -148,7 +148,7 @@ fn pattern_sign(trees: &[TokenTree]) -> Option<&[TokenTree]>
     }
 }
 
-/// Past more signs of a pattern.
+/// Skips more signs of a pattern.
 fn pattern_signs(trees: &[TokenTree]) -> &[TokenTree]
     ensures { Finds pattern_signs trees.now result.now }
 {
@@ -159,7 +159,7 @@ fn pattern_signs(trees: &[TokenTree]) -> &[TokenTree]
     left
 }
 
-/// Past braces, or nothing.
+/// Skips braces, if they are next.
 #[tactic(auto, using(crate::proofs::ReaderLemmas::steps))]
 fn braces(trees: &[TokenTree]) -> Result<&[TokenTree], &[TokenTree]>
     ensures { ReadsRule (perhaps (one signs.Braces)) trees.now result }
@@ -182,7 +182,7 @@ fn begins_angle(trees: &[TokenTree]) -> bool
     }
 }
 
-/// Past a path from its angle brackets on, and fields in braces.
+/// Skips the end of a path from its angle brackets on, and fields in braces.
 #[tactic(auto, using(crate::proofs::ParameterLemmas::angles))]
 fn pattern_angle(trees: &[TokenTree]) -> Result<&[TokenTree], &[TokenTree]>
     requires { heads pattern_angle (classes_in trees.now) ≡ true }
@@ -194,7 +194,7 @@ fn pattern_angle(trees: &[TokenTree]) -> Result<&[TokenTree], &[TokenTree]>
     }
 }
 
-/// Past a path from its angle brackets on, or nothing.
+/// Skips the end of a path from its angle brackets on, if they are next.
 #[tactic(auto, using(crate::proofs::ReaderLemmas::steps))]
 fn perhaps_angle(trees: &[TokenTree]) -> Result<&[TokenTree], &[TokenTree]>
     ensures { ReadsRule (perhaps pattern_angle) trees.now result }
@@ -206,7 +206,7 @@ fn perhaps_angle(trees: &[TokenTree]) -> Result<&[TokenTree], &[TokenTree]>
     }
 }
 
-/// Past the rest of a pattern.
+/// Skips the rest of a pattern.
 #[tactic(auto, using(crate::proofs::ReaderLemmas::steps))]
 fn pattern_rest(trees: &[TokenTree]) -> Result<&[TokenTree], &[TokenTree]>
     ensures { ReadsRule pattern_rest trees.now result }
@@ -214,7 +214,7 @@ fn pattern_rest(trees: &[TokenTree]) -> Result<&[TokenTree], &[TokenTree]>
     perhaps_angle(pattern_signs(trees))
 }
 
-/// Whether a pattern begins.
+/// Whether a pattern can begin with the first sign.
 #[tactic(auto, using(crate::proofs::ParameterLemmas::patterns))]
 fn begins_pattern(trees: &[TokenTree]) -> bool
     ensures { result ≡ heads pattern (classes_in trees.now) }
@@ -225,7 +225,7 @@ fn begins_pattern(trees: &[TokenTree]) -> bool
     }
 }
 
-/// Past a pattern.
+/// Skips a pattern.
 #[tactic(auto, using(crate::proofs::ParameterLemmas::patterns))]
 fn past_pattern(trees: &[TokenTree]) -> Result<&[TokenTree], &[TokenTree]>
     ensures { ReadsRule pattern trees.now result }
@@ -237,7 +237,7 @@ fn past_pattern(trees: &[TokenTree]) -> Result<&[TokenTree], &[TokenTree]>
     }
 }
 
-/// Past `self` or `mut self`.
+/// Skips `self` or `mut self`.
 #[tactic(auto, using(crate::proofs::ReaderLemmas::steps))]
 fn may_mutate(trees: &[TokenTree]) -> Result<&[TokenTree], &[TokenTree]>
     ensures { ReadsRule may_mutate trees.now result }
@@ -249,7 +249,7 @@ fn may_mutate(trees: &[TokenTree]) -> Result<&[TokenTree], &[TokenTree]>
     }
 }
 
-/// Past `..`.
+/// Skips `..`.
 #[tactic(auto, using(crate::proofs::ReaderLemmas::steps))]
 fn two_dots(trees: &[TokenTree]) -> Result<&[TokenTree], &[TokenTree]>
     ensures { ReadsRule (two_dots) trees.now result }
@@ -257,7 +257,7 @@ fn two_dots(trees: &[TokenTree]) -> Result<&[TokenTree], &[TokenTree]>
     past(past(trees, Class::Dot)?, Class::Dot)
 }
 
-/// Past `...`.
+/// Skips `...`.
 #[tactic(auto, using(crate::proofs::ReaderLemmas::steps))]
 fn dots(trees: &[TokenTree]) -> Result<&[TokenTree], &[TokenTree]>
     ensures { ReadsRule dots trees.now result }
@@ -265,7 +265,7 @@ fn dots(trees: &[TokenTree]) -> Result<&[TokenTree], &[TokenTree]>
     two_dots(past(trees, Class::Dot)?)
 }
 
-/// What follows `mut`, up to a `:`.
+/// What a parameter begins with after its `mut`, and the trees from the `:` or the end on.
 #[tactic(auto, using(crate::proofs::ParameterLemmas::fronts))]
 fn after_mut(trees: &[TokenTree]) -> Result<(Shape, &[TokenTree]), &[TokenTree]>
     ensures { ReadsFront after_mut (one signs.SelfValue) trees.now result }
@@ -282,7 +282,7 @@ fn after_mut(trees: &[TokenTree]) -> Result<(Shape, &[TokenTree]), &[TokenTree]>
     }
 }
 
-/// A pattern, up to its `:`.
+/// Reads a pattern, up to its `:`.
 fn pattern_shape(trees: &[TokenTree]) -> Result<(Shape, &[TokenTree]), &[TokenTree]>
     ensures { ReadsPattern trees.now result }
 {
@@ -292,7 +292,7 @@ fn pattern_shape(trees: &[TokenTree]) -> Result<(Shape, &[TokenTree]), &[TokenTr
     }
 }
 
-/// What follows `& mut`, up to a `:`.
+/// What a parameter begins with after its `& mut`, and the trees from the `:` or the end on.
 #[tactic(auto, using(crate::proofs::ParameterLemmas::fronts))]
 fn after_and_mut(trees: &[TokenTree]) -> Result<(Shape, &[TokenTree]), &[TokenTree]>
     ensures { ReadsFront after_and_mut (one signs.SelfValue) trees.now result }
@@ -309,7 +309,7 @@ fn after_and_mut(trees: &[TokenTree]) -> Result<(Shape, &[TokenTree]), &[TokenTr
     }
 }
 
-/// What follows `&`, up to a `:`.
+/// What a parameter begins with after its `&`, and the trees from the `:` or the end on.
 #[tactic(auto, using(crate::proofs::ParameterLemmas::fronts))]
 fn after_and(trees: &[TokenTree]) -> Result<(Shape, &[TokenTree]), &[TokenTree]>
     ensures { ReadsFront after_and referred trees.now result }
@@ -334,7 +334,7 @@ fn after_and(trees: &[TokenTree]) -> Result<(Shape, &[TokenTree]), &[TokenTree]>
     }
 }
 
-/// A receiver or a pattern, up to a `:`.
+/// Reads a receiver or a pattern, up to the `:` or the end.
 #[tactic(auto, using(crate::proofs::ParameterLemmas::fronts))]
 fn named_front(trees: &[TokenTree]) -> Result<(Shape, &[TokenTree]), &[TokenTree]>
     ensures { ReadsFront named_parameter receiver trees.now result }
@@ -356,7 +356,7 @@ fn named_front(trees: &[TokenTree]) -> Result<(Shape, &[TokenTree]), &[TokenTree
     }
 }
 
-/// The kind of a receiver with the type that follows it, and the trees after it.
+/// The form of a receiver, with the type that may follow it, and the trees after it.
 #[tactic(auto, using(crate::proofs::ParameterLemmas::self_types))]
 fn self_type(trees: &[TokenTree]) -> Result<(ParameterKind<'_>, &[TokenTree]), &[TokenTree]>
     ensures { ReadsEnd self_type shapes.Receiver trees.now result }
@@ -376,7 +376,7 @@ fn self_type(trees: &[TokenTree]) -> Result<(ParameterKind<'_>, &[TokenTree]), &
     }
 }
 
-/// The kind of a parameter with a pattern, after its `:`, and the trees after it.
+/// The form of a parameter with a pattern, from after its `:` on, and the trees after it.
 #[tactic(auto, using(crate::proofs::ParameterLemmas::typed_ends))]
 fn typed_end(trees: &[TokenTree]) -> Result<(ParameterKind<'_>, &[TokenTree]), &[TokenTree]>
     ensures { ReadsTyped trees.now result }
@@ -394,7 +394,7 @@ fn typed_end(trees: &[TokenTree]) -> Result<(ParameterKind<'_>, &[TokenTree]), &
     }
 }
 
-/// The same, from its `:` on.
+/// The form of a parameter with a pattern, from its `:` on, and the trees after it.
 #[tactic(auto, using(crate::proofs::ParameterLemmas::typeds))]
 fn typed(trees: &[TokenTree]) -> Result<(ParameterKind<'_>, &[TokenTree]), &[TokenTree]>
     ensures { ReadsEnd typed shapes.Pattern trees.now result }
@@ -411,7 +411,7 @@ fn typed(trees: &[TokenTree]) -> Result<(ParameterKind<'_>, &[TokenTree]), &[Tok
     }
 }
 
-/// The kind of a parameter, after what is read up to its `:` or its end, and the trees after it.
+/// The form of a parameter that begins with `shape`, and the trees after it.
 #[tactic(auto, using(crate::proofs::ParameterLemmas::ends))]
 fn end_of(
     shape: Shape,
@@ -431,7 +431,7 @@ fn end_of(
 pub struct Named<'a> {
     /// The pattern or the receiver.
     pub pattern: &'a [TokenTree],
-    /// What the parameter is.
+    /// The form of the parameter.
     pub kind: ParameterKind<'a>,
 }
 
@@ -452,7 +452,7 @@ fn named_of(trees: &[TokenTree]) -> Result<(Named<'_>, &[TokenTree]), &[TokenTre
     }
 }
 
-/// The same, or `...`.
+/// A receiver, a pattern with its type, or `...`, and the trees after it.
 #[tactic(auto, using(crate::proofs::ParameterLemmas::rests))]
 fn rest_of(trees: &[TokenTree]) -> Result<(Named<'_>, &[TokenTree]), &[TokenTree]>
     ensures { ReadsNamed parameter_rest trees.now result }
@@ -473,7 +473,7 @@ fn rest_of(trees: &[TokenTree]) -> Result<(Named<'_>, &[TokenTree]), &[TokenTree
     }
 }
 
-/// The parameter at the front of the trees, and the trees after it; or those from the fault on.
+/// The parameter at the start of the trees, and the trees after it; or the trees from the error on.
 #[tactic(auto, using(crate::proofs::ParameterLemmas::whole))]
 fn parameter_of(trees: &[TokenTree]) -> Result<(Parameter<'_>, &[TokenTree]), &[TokenTree]>
     ensures { ReadsParameter trees.now result }
@@ -497,15 +497,15 @@ fn parameter_of(trees: &[TokenTree]) -> Result<(Parameter<'_>, &[TokenTree]), &[
     }
 }
 
-/// The parameter of a function at the front of the trees, and the trees after it.
+/// Returns the parameter of a function at the start of the trees, and the trees after it.
 ///
-/// The trees are those in the parentheses of a function, or what an earlier call left of them. A parameter has
-/// attributes, and is a receiver, a pattern with its type, or `...`. Of a pattern and a type only the end is found: of
-/// `(a, b): Fn(A, B) -> C, d: D` the pattern is `(a, b)`, the type `Fn(A, B) -> C`, and `, d: D` is left. A receiver is
-/// `self`, `mut self`, `&self` or `&mut self`, perhaps with a lifetime after `&`; without `&` it may have a type.
+/// Pass the trees in the parentheses of a function, or the rest that an earlier call returned. A parameter has
+/// attributes, and then a receiver, a pattern with its type, or `...`. A receiver is `self`, `mut self`, `&self` or
+/// `&mut self`. A lifetime may follow its `&`, and without `&` it may have a type. Patterns and types are not parsed;
+/// only their ends are found. The call does not check that a receiver comes first and `...` last. It allocates nothing.
 ///
-/// Where no parameter stands it answers the fault. The grammar is that of crates/declarations/README.md, with the one
-/// reading that the grammar gives; that a receiver comes first, and `...` last, isn't asked. It takes no memory.
+/// If the trees begin with no parameter, the call returns a `Fault`. The rules are in crates/declarations/README.md.
+/// For `(a, b): Fn(A, B) -> C, d: D` the pattern is `(a, b)`, the type is `Fn(A, B) -> C`, and the rest is `, d: D`.
 pub fn parse_parameter(trees: &[TokenTree]) -> Result<(Parameter<'_>, &[TokenTree]), Fault>
     ensures ok { IfOk result (λ found. IsParameterAt trees.now found.0 found.1.now) }
     ensures only { IfOk result (λ found. IsOnlyRest function_parameter trees.now found.1.now) }
@@ -519,12 +519,12 @@ pub fn parse_parameter(trees: &[TokenTree]) -> Result<(Parameter<'_>, &[TokenTre
     }
 }
 
-/// The pattern at the front of the trees, and the trees after it.
+/// Returns the pattern at the start of the trees, and the trees after it.
 ///
-/// A pattern isn't parsed: its end is found, which is before a `:` or any other sign of which no pattern is made. Of
-/// `(a, b): (A, B)` it is `(a, b)`. It is the pattern of a parameter, so neither `self` nor a `|` outside of groups is
-/// in it, and keywords such as `in` don't end it. It is for trees of a macro's own grammar, as the parameters of a
-/// closure.
+/// A pattern is not parsed; only its end is found, which is before the first sign that can be in no pattern, such as
+/// `:`. The pattern is one of a parameter: it has no `self`, and `|` only in groups. A keyword such as `in` does not
+/// end it. The call is for trees of a macro's own grammar, such as the parameters of a closure. For `(a, b): (A, B)`
+/// the pattern is `(a, b)`.
 #[tactic(auto, using(crate::proofs::ParameterLemmas::splits))]
 pub fn split_pattern(trees: &[TokenTree]) -> Result<(&[TokenTree], &[TokenTree]), Fault>
     ensures ok { IfOk result (λ found. Reads (ByRule pattern) trees.now found.0.now found.1.now) }
@@ -538,11 +538,11 @@ pub fn split_pattern(trees: &[TokenTree]) -> Result<(&[TokenTree], &[TokenTree])
     }
 }
 
-/// The parameters of a function, in order, with `,` between two and perhaps after the last.
+/// The parameters of a function, in order. A `,` is between two parameters, and may be after the last.
 ///
-/// It gives each parameter as [`parse_parameter`] answers it of the trees that are left, or the fault, whose trees are
-/// counted from there on. After a fault it gives nothing. Of `(&self, x: u8)` it gives `&self` and `x: u8`. It takes no
-/// memory.
+/// The iterator gives each parameter as [`parse_parameter`] reads it from the remaining trees. At an error it gives a
+/// `Fault`, whose `at` counts from the start of the remaining trees, and then ends. It allocates nothing. For
+/// `(&self, x: u8)` it gives `&self` and `x: u8`.
 ///
 /// ```text
 /// for parameter in Parameters::new(group) {
@@ -552,12 +552,12 @@ pub fn split_pattern(trees: &[TokenTree]) -> Result<(&[TokenTree], &[TokenTree])
 /// ```
 #[derive(Clone, Copy, Debug)]
 pub struct Parameters<'a> {
-    /// The trees that are left.
+    /// The trees that are not yet read.
     pub left: &'a [TokenTree],
 }
 
 impl<'a> Parameters<'a> {
-    /// The parameters in these parentheses.
+    /// Returns an iterator over the parameters in these parentheses.
     pub fn new(group: &'a Group) -> Parameters<'a>
         ensures { AreInside result.left.now group.now }
     {
@@ -575,7 +575,7 @@ impl<'a> Iterator for Parameters<'a> {
 
     ghost next_gives = { GivesParameter };
 
-    // No more come than trees are left.
+    // At most as many elements come as trees are left.
     ghost remaining = { λ list. at_most (length list.left.now) };
 
     fn next(&mut self) -> Option<Result<Parameter<'a>, Fault>> {

@@ -1,4 +1,4 @@
-//! The parts of declarations, each at the front of trees.
+//! Calls that split a part of a declaration off the start of trees.
 ghost use Rattle.std.specs.Prelude.{◌≡◌, IfErr, IfOk};
 ghost use Rattle.declarations.specs.Fault.{extent_at};
 ghost use Rattle.declarations.specs.Forms.{AreAttributes, AreBounds, AreFields, AreGenerics, AreTupleFields, IsField};
@@ -12,7 +12,7 @@ use crate::types::TypeState;
 use crate::walk::split_from;
 use pm_stream::TokenTree;
 
-/// What is read where no item is declared around it.
+/// Reads a part that is in no item, from a state on.
 fn split_alone<'a>(
     trees: &'a [TokenTree],
     rule: Rule,
@@ -46,10 +46,10 @@ fn split_pair<'a>(
     Ok((split.part, split.rest))
 }
 
-/// The type at the front of the trees, and the trees after it.
+/// Returns the type at the start of the trees, and the trees after it.
 ///
-/// A type isn't parsed: its end is found. It is the first place outside of angle brackets where an operand stands and
-/// the next sign doesn't continue it. Of `Vec<A>, B` it is `Vec<A>`.
+/// A type is not parsed; only its end is found. It ends outside of angle brackets, after an operand, where the next
+/// sign cannot continue it. For `Vec<A>, B` it is `Vec<A>`.
 pub fn split_type(trees: &[TokenTree]) -> Result<(&[TokenTree], &[TokenTree]), Fault>
     ensures ok { IfOk result (λ found. Reads IsType trees.now found.0.now found.1.now) }
     ensures only { IfOk result (λ found. IsOnly IsType trees.now found.0.now found.1.now) }
@@ -59,9 +59,9 @@ pub fn split_type(trees: &[TokenTree]) -> Result<(&[TokenTree], &[TokenTree]), F
     split_alone(trees, Rule::Alone, State::Range(TypeState::Wanted))
 }
 
-/// The bounds at the front of the trees, which may be none, and the trees after them.
+/// Returns the bounds at the start of the trees, perhaps none, and the trees after them.
 ///
-/// Their end is found as that of a type: of `A + 'b = C` they are `A + 'b`.
+/// Bounds end as a type does. For `A + 'b = C` they are `A + 'b`.
 pub fn split_bounds(trees: &[TokenTree]) -> Result<(&[TokenTree], &[TokenTree]), Fault>
     ensures ok { IfOk result (λ found. Reads AreBounds trees.now found.0.now found.1.now) }
     ensures only { IfOk result (λ found. IsOnly AreBounds trees.now found.0.now found.1.now) }
@@ -71,9 +71,9 @@ pub fn split_bounds(trees: &[TokenTree]) -> Result<(&[TokenTree], &[TokenTree]),
     split_alone(trees, Rule::Alone, State::Range(TypeState::Bound))
 }
 
-/// The outer attributes at the front of the trees, which may be none, and the trees after them.
+/// Returns the outer attributes at the start of the trees, perhaps none, and the trees after them.
 ///
-/// Of `#[a] #[b] pub x` they are `#[a] #[b]`. What stands in the brackets isn't read.
+/// The trees in the brackets are not read. For `#[a] #[b] pub x` the attributes are `#[a] #[b]`.
 pub fn split_attributes(trees: &[TokenTree]) -> Result<(&[TokenTree], &[TokenTree]), Fault>
     ensures ok { IfOk result (λ found. Reads AreAttributes trees.now found.0.now found.1.now) }
     ensures only { IfOk result (λ found. IsOnly AreAttributes trees.now found.0.now found.1.now) }
@@ -87,10 +87,10 @@ pub fn split_attributes(trees: &[TokenTree]) -> Result<(&[TokenTree], &[TokenTre
     )
 }
 
-/// The visibility at the front of the trees, which may be left out, and the trees after it.
+/// Returns the visibility at the start of the trees, perhaps no trees, and the trees after it.
 ///
-/// Parentheses after `pub` belong to it where they are `(crate)`, `(self)`, `(super)` or `(in ..)`: of `pub (A, B)` it
-/// is `pub`. The path after `in` isn't read.
+/// Parentheses after `pub` belong to the visibility if they are `(crate)`, `(self)`, `(super)` or `(in ..)`. The path
+/// after `in` is not read. For `pub (A, B)` the visibility is `pub`.
 pub fn split_visibility(trees: &[TokenTree]) -> Result<(&[TokenTree], &[TokenTree]), Fault>
     ensures ok { IfOk result (λ found. Reads IsVisibility trees.now found.0.now found.1.now) }
     ensures only { IfOk result (λ found. IsOnly IsVisibility trees.now found.0.now found.1.now) }
@@ -104,9 +104,9 @@ pub fn split_visibility(trees: &[TokenTree]) -> Result<(&[TokenTree], &[TokenTre
     )
 }
 
-/// The named field at the front of the trees, with its attributes and visibility, and the trees after it.
+/// Returns the named field at the start of the trees, with attributes and visibility, and the trees after it.
 ///
-/// Of `#[a] pub x: Vec<A, B>, y: C` it is `#[a] pub x: Vec<A, B>`.
+/// For `#[a] pub x: Vec<A, B>, y: C` the field is `#[a] pub x: Vec<A, B>`.
 pub fn split_field(trees: &[TokenTree]) -> Result<(&[TokenTree], &[TokenTree]), Fault>
     ensures ok { IfOk result (λ found. Reads IsField trees.now found.0.now found.1.now) }
     ensures only { IfOk result (λ found. IsOnly IsField trees.now found.0.now found.1.now) }
@@ -116,9 +116,9 @@ pub fn split_field(trees: &[TokenTree]) -> Result<(&[TokenTree], &[TokenTree]), 
     split_alone(trees, Rule::Alone, State::At(Spot::Before(Part::Field)))
 }
 
-/// The field without a name at the front of the trees, with its attributes and visibility, and the trees after it.
+/// Returns the field without a name at the start of the trees, with attributes and visibility, and the trees after it.
 ///
-/// Of `pub (A, B), C` it is `pub (A, B)`, whose type is the parentheses.
+/// For `pub (A, B), C` the field is `pub (A, B)`, whose type is `(A, B)`.
 pub fn split_tuple_field(trees: &[TokenTree]) -> Result<(&[TokenTree], &[TokenTree]), Fault>
     ensures ok { IfOk result (λ found. Reads IsTupleField trees.now found.0.now found.1.now) }
     ensures only { IfOk result (λ found. IsOnly IsTupleField trees.now found.0.now found.1.now) }
@@ -132,10 +132,10 @@ pub fn split_tuple_field(trees: &[TokenTree]) -> Result<(&[TokenTree], &[TokenTr
     )
 }
 
-/// The named fields at the front of the trees, with `,` between two and perhaps after the last, and the trees after
-/// them.
+/// Returns the named fields at the start of the trees, perhaps none, and the trees after them.
 ///
-/// Of the trees within the braces of a struct they are all, or else the struct has a fault.
+/// A `,` is between two fields, and may be after the last. If a rest is left of the trees in a struct's braces, the
+/// struct has an error there.
 pub fn split_fields(trees: &[TokenTree]) -> Result<(&[TokenTree], &[TokenTree]), Fault>
     ensures ok { IfOk result (λ found. Reads AreFields trees.now found.0.now found.1.now) }
     ensures only { IfOk result (λ found. IsOnly AreFields trees.now found.0.now found.1.now) }
@@ -145,8 +145,9 @@ pub fn split_fields(trees: &[TokenTree]) -> Result<(&[TokenTree], &[TokenTree]),
     split_alone(trees, Rule::Fields, State::At(Spot::Before(Part::Field)))
 }
 
-/// The fields without names at the front of the trees, with `,` between two and perhaps after the last, and the trees
-/// after them.
+/// Returns the fields without names at the start of the trees, perhaps none, and the trees after them.
+///
+/// A `,` is between two fields, and may be after the last.
 pub fn split_tuple_fields(trees: &[TokenTree]) -> Result<(&[TokenTree], &[TokenTree]), Fault>
     ensures ok { IfOk result (λ found. Reads AreTupleFields trees.now found.0.now found.1.now) }
     ensures only { IfOk result (λ found. IsOnly AreTupleFields trees.now found.0.now found.1.now) }
@@ -160,10 +161,10 @@ pub fn split_tuple_fields(trees: &[TokenTree]) -> Result<(&[TokenTree], &[TokenT
     )
 }
 
-/// The variant at the front of the trees, with its attributes, visibility and discriminant, and the trees after it.
+/// Returns the variant at the start of the trees, and the trees after it.
 ///
-/// Of `#[a] B { c: D } = f::<X, Y>(), C` it is all before the last `,`. What stands within its braces or parentheses
-/// isn't read.
+/// It includes the attributes, the visibility and the discriminant. The trees inside its braces or parentheses are not
+/// read. For `#[a] B { c: D } = f::<X, Y>(), C` it is everything before the last `,`.
 pub fn split_variant(trees: &[TokenTree]) -> Result<(&[TokenTree], &[TokenTree]), Fault>
     ensures ok { IfOk result (λ found. Reads IsVariant trees.now found.0.now found.1.now) }
     ensures only { IfOk result (λ found. IsOnly IsVariant trees.now found.0.now found.1.now) }
@@ -173,9 +174,10 @@ pub fn split_variant(trees: &[TokenTree]) -> Result<(&[TokenTree], &[TokenTree])
     split_alone(trees, Rule::Alone, State::At(Spot::Before(Part::Variant)))
 }
 
-/// The variants at the front of the trees, with `,` between two and perhaps after the last, and the trees after them.
+/// Returns the variants at the start of the trees, perhaps none, and the trees after them.
 ///
-/// Of the trees within the braces of an enum they are all, or else the enum has a fault.
+/// A `,` is between two variants, and may be after the last. If a rest is left of the trees in an enum's braces, the
+/// enum has an error there.
 pub fn split_variants(trees: &[TokenTree]) -> Result<(&[TokenTree], &[TokenTree]), Fault>
     ensures ok { IfOk result (λ found. Reads AreVariants trees.now found.0.now found.1.now) }
     ensures only { IfOk result (λ found. IsOnly AreVariants trees.now found.0.now found.1.now) }
@@ -191,9 +193,10 @@ pub fn split_variants(trees: &[TokenTree]) -> Result<(&[TokenTree], &[TokenTree]
     split_pair(trees, start)
 }
 
-/// The expression of a discriminant at the front of the trees, and the trees after it.
+/// Returns the expression of a discriminant at the start of the trees, and the trees after it.
 ///
-/// It isn't parsed: its end is found. Of `f::<X, Y>() as A<B, C>, D` it is all before the last `,`.
+/// An expression is not parsed; only its end is found. For `f::<X, Y>() as A<B, C>, D` it is everything before the last
+/// `,`.
 pub fn split_expression(trees: &[TokenTree]) -> Result<(&[TokenTree], &[TokenTree]), Fault>
     ensures ok { IfOk result (λ found. Reads IsExpression trees.now found.0.now found.1.now) }
     ensures only { IfOk result (λ found. IsOnly IsExpression trees.now found.0.now found.1.now) }
@@ -203,10 +206,10 @@ pub fn split_expression(trees: &[TokenTree]) -> Result<(&[TokenTree], &[TokenTre
     split_alone(trees, Rule::Alone, State::At(Spot::Expression))
 }
 
-/// The generic parameters at the front of the trees in their angle brackets, which may be left out, and the trees after
-/// them.
+/// Returns the generic parameters at the start of the trees with their angle brackets, and the trees after them.
 ///
-/// Of `<'a, T: A<B> = C, const N: usize = 3> where T: D` they are all before `where`.
+/// The parameters may be left out. For `<'a, T: A<B> = C, const N: usize = 3> where T: D` they are everything before
+/// `where`.
 pub fn split_generics(trees: &[TokenTree]) -> Result<(&[TokenTree], &[TokenTree]), Fault>
     ensures ok { IfOk result (λ found. Reads AreGenerics trees.now found.0.now found.1.now) }
     ensures only { IfOk result (λ found. IsOnly AreGenerics trees.now found.0.now found.1.now) }
@@ -216,9 +219,9 @@ pub fn split_generics(trees: &[TokenTree]) -> Result<(&[TokenTree], &[TokenTree]
     split_alone(trees, Rule::Alone, State::At(Spot::Generics))
 }
 
-/// The where clause at the front of the trees, which may be left out, and the trees after it.
+/// Returns the where clause at the start of the trees, perhaps no trees, and the trees after it.
 ///
-/// Of `where T: A, [U; 2]: B { .. }` it is all before the braces.
+/// For `where T: A, [U; 2]: B { .. }` the clause is everything before the braces.
 pub fn split_where(trees: &[TokenTree]) -> Result<(&[TokenTree], &[TokenTree]), Fault>
     ensures ok { IfOk result (λ found. Reads IsWhere trees.now found.0.now found.1.now) }
     ensures only { IfOk result (λ found. IsOnly IsWhere trees.now found.0.now found.1.now) }
@@ -228,10 +231,10 @@ pub fn split_where(trees: &[TokenTree]) -> Result<(&[TokenTree], &[TokenTree]), 
     split_alone(trees, Rule::Alone, State::At(Spot::Where))
 }
 
-/// The struct, enum or union at the front of the trees, with its attributes and visibility, and the trees after it.
+/// Returns the struct, enum or union at the start of the trees, and the trees after it.
 ///
-/// What stands within the braces or parentheses of its body isn't read: [`split_fields`], [`split_tuple_fields`] and
-/// [`split_variants`] read that.
+/// It includes the attributes and the visibility. The trees inside the braces or parentheses of its body are not read:
+/// [`split_fields`], [`split_tuple_fields`] and [`split_variants`] read them.
 pub fn split_item(trees: &[TokenTree]) -> Result<(&[TokenTree], &[TokenTree]), Fault>
     ensures ok { IfOk result (λ found. Reads IsItem trees.now found.0.now found.1.now) }
     ensures only { IfOk result (λ found. IsOnly IsItem trees.now found.0.now found.1.now) }
@@ -241,9 +244,9 @@ pub fn split_item(trees: &[TokenTree]) -> Result<(&[TokenTree], &[TokenTree]), F
     split_alone(trees, Rule::Alone, State::At(Spot::Before(Part::TypeItem)))
 }
 
-/// The inner attributes at the front of the trees, as of a file, which may be none, and the trees after them.
+/// Returns the inner attributes at the start of the trees, perhaps none, and the trees after them.
 ///
-/// Of `#![a] #[b] fn f() {}` they are `#![a]`.
+/// For `#![a] #[b] fn f() {}` the attributes are `#![a]`.
 pub fn split_inner_attributes(trees: &[TokenTree]) -> Result<(&[TokenTree], &[TokenTree]), Fault>
     ensures ok { IfOk result (λ found. Reads AreInnerAttributes trees.now found.0.now found.1.now) }
     ensures only { IfOk result (λ found. IsOnly AreInnerAttributes trees.now found.0.now found.1.now) }

@@ -1,4 +1,4 @@
-//! Places within a declaration, and moves from one to another.
+//! The states of the walk over a declaration, and the moves from one state to another.
 ghost use Rattle.std.specs.Prelude.{◌≡◌};
 ghost use Rattle.declarations.specs.Moves.{at_spot, close_to, move_to, open_angle, to_bounds, to_front, to_spot};
 ghost use Rattle.declarations.specs.Moves.{to_type, turn_to, type_from};
@@ -6,10 +6,10 @@ ghost use Rattle.declarations.specs.Moves.{to_type, turn_to, type_from};
 use crate::class::Word;
 use crate::types::{Turn, TypeState};
 
-/// What is declared around a place.
+/// The item that the walk is in.
 #[derive(Clone, Copy)]
 pub enum Item {
-    /// Nothing: a part is read alone.
+    /// No item: a part is read on its own.
     Alone,
     /// The list of an enum's variants.
     Variants,
@@ -43,11 +43,11 @@ pub enum Item {
     Module,
     /// An import.
     Use,
-    /// An external crate.
+    /// An `extern crate` item.
     ExternCrate,
-    /// A block of foreign items.
+    /// An `extern` block.
     ExternBlock,
-    /// A `macro`.
+    /// A `macro` item.
     Macro,
     /// A macro call.
     Call,
@@ -55,12 +55,12 @@ pub enum Item {
     Group,
 }
 
-/// What may begin with attributes and a visibility.
+/// A part that can begin with attributes or a visibility.
 #[derive(Clone, Copy)]
 pub enum Part {
-    /// Attributes alone.
+    /// Attributes on their own.
     Attributes,
-    /// A visibility alone.
+    /// A visibility on its own.
     Visibility,
     /// A named field.
     Field,
@@ -76,10 +76,10 @@ pub enum Part {
     AnyItem,
 }
 
-/// What may follow a type or bounds.
+/// What may follow the type or the bounds that the walk is in.
 #[derive(Clone, Copy)]
 pub enum Rule {
-    /// Nothing more.
+    /// Nothing.
     Alone,
     /// `,` and a named field.
     Fields,
@@ -87,27 +87,27 @@ pub enum Rule {
     TupleFields,
     /// `,` and a generic parameter, or `>`.
     Parameter,
-    /// The same, or `=` and a type.
+    /// `,` and a generic parameter, or `>`, or `=` and a type.
     TypeParameter,
-    /// The same, or `=` and a constant.
+    /// `,` and a generic parameter, or `>`, or `=` and a constant.
     ConstParameter,
     /// `:` and bounds.
     Bounded,
     /// `,` and a predicate, or what follows a where clause.
     Predicate,
-    /// A where clause, or the body of an item.
+    /// A where clause, or what ends an item: a body, `;`, or `=` and a value.
     Header,
-    /// `for` and a type, or the same.
+    /// `for` and a type, or a where clause, or the body of an `impl`.
     Target,
-    /// Within angle brackets of an expression, which goes on after them.
+    /// The rest of an expression, after its angle brackets.
     Angle,
-    /// The same, in the type of a cast.
+    /// The rest of a cast, after the angle brackets of its type.
     CastAngle,
-    /// The same, in the parameters of a closure.
+    /// The rest of a closure's parameters, after their angle brackets.
     ClosureAngle,
 }
 
-/// A place in the front of an item, before its name or what it has for one.
+/// A state before the name of an item, or before what it has instead of a name.
 #[derive(Clone, Copy)]
 pub enum Front {
     /// After `auto`.
@@ -134,7 +134,7 @@ pub enum Front {
     ExternAbi,
     /// After the `extern` of what must be a function.
     FunctionExtern,
-    /// The same, and an ABI.
+    /// After the `extern` and the ABI of what must be a function.
     FunctionAbi,
     /// After `unsafe`.
     Unsafe,
@@ -144,7 +144,7 @@ pub enum Front {
     PlainName,
     /// After a word that may be in the path of a macro call, or begin an item.
     CallWord(Word),
-    /// Where the path of a macro call wants a word.
+    /// Before a segment of the path of a macro call.
     CallPath,
     /// After the `!` of a macro call.
     CallName,
@@ -154,7 +154,7 @@ pub enum Front {
     MacroName,
     /// After the name of a `macro`.
     MacroParameters,
-    /// After its parameters.
+    /// After the parameters of a `macro`.
     MacroBody,
     /// After `impl`.
     Impl,
@@ -164,11 +164,11 @@ pub enum Front {
     ImplWord,
     /// After the `const` of an implementation.
     ImplConst,
-    /// After its `!`, which may be a type.
+    /// After the `!` of an implementation, which may itself be its type.
     ImplNot,
     /// After `use`.
     Use,
-    /// Where the path of an import wants a word.
+    /// Before a segment of the path of an import.
     UsePath,
     /// After a word of the path of an import.
     UseSegment,
@@ -186,42 +186,42 @@ pub enum Front {
     Semicolon,
 }
 
-/// A place outside of types and bounds.
+/// A state outside of types and bounds.
 #[derive(Clone, Copy)]
 pub enum Spot {
     /// Before a part.
     Before(Part),
-    /// After the `#` of an attribute of it.
+    /// After the `#` of an attribute of the part.
     Hash(Part),
-    /// After an attribute of it.
+    /// After an attribute of the part.
     Attributed(Part),
-    /// After the `pub` of it.
+    /// After the `pub` of the part.
     Public(Part),
-    /// After a visibility of it that is whole.
+    /// After the whole visibility of the part.
     Visible(Part),
     /// After a field's name.
     FieldName,
-    /// After a variant's name, where it may end.
+    /// After a variant's name, where the variant may end.
     VariantName,
-    /// After its fields.
+    /// After a variant's fields.
     VariantEnd,
-    /// Where an expression wants an operand.
+    /// Where an operand of an expression must come.
     Expression,
-    /// Where one may stand, or the expression may end.
+    /// Where an operand may come, or the expression may end.
     ExpressionOpen,
-    /// After an operand.
+    /// After an operand of an expression.
     ExpressionWhole,
-    /// After `<` that is an operator and Joint.
+    /// After a `Joint` `<` that is an operator.
     ExpressionLess,
     /// After an operand and `.`.
     ExpressionDot,
     /// After the `.` that begins a range.
     ExpressionRange,
-    /// After the `#` of an attribute.
+    /// After the `#` of an attribute in an expression.
     ExpressionHash,
     /// Within the bars of a closure.
     Closure,
-    /// Where the type of a cast is wanted.
+    /// Where the type of a cast must come.
     Cast,
     /// After the type of a cast.
     CastWhole,
@@ -236,13 +236,13 @@ pub enum Spot {
     ConstEnd,
     /// After generic parameters, or after the fields of a tuple struct.
     AfterGenerics,
-    /// Before `where`, which may be left out.
+    /// Before `where`. The where clause may be left out.
     Where,
     /// Before a predicate, or at the end of a where clause.
     Predicate,
     /// Before an item's name, which generics may follow.
     Name,
-    /// In the front of an item.
+    /// Before the name of an item.
     Front(Front),
     /// After an item.
     ItemEnd,
@@ -252,26 +252,26 @@ pub enum Spot {
     InnerHash,
 }
 
-/// What may follow.
+/// What may come next.
 #[derive(Clone, Copy)]
 pub enum State {
-    /// What continues a type or bounds.
+    /// A sign of a type or of bounds.
     Range(TypeState),
-    /// What stands at another place.
+    /// A sign outside of types and bounds.
     At(Spot),
 }
 
-/// A place within a declaration.
+/// A state of the walk over a declaration.
 #[derive(Clone, Copy)]
 pub struct Place {
     pub item: Item,
     pub rule: Rule,
     pub state: State,
-    /// How many angle brackets of a type are open.
+    /// The number of angle brackets of a type that are open.
     pub depth: usize,
 }
 
-/// What a sign leads to, outside of types and bounds.
+/// A move to another state, outside of types and bounds.
 #[derive(Clone, Copy)]
 pub struct Shift {
     pub item: Item,
@@ -280,7 +280,7 @@ pub struct Shift {
     pub turn: Turn,
 }
 
-/// A type that may begin at a place.
+/// A type that can begin in a state.
 #[derive(Clone, Copy)]
 pub struct TypeStart {
     pub rule: Rule,
@@ -322,7 +322,7 @@ pub(crate) fn to_front(item: Item, front: Front) -> Option<Shift>
     to_spot(item, Spot::Front(front))
 }
 
-/// Out of angle brackets that are those of parameters.
+/// The move out of the angle brackets of generic parameters.
 pub(crate) fn close_to(item: Item, spot: Spot) -> Option<Shift>
     ensures { result ≡ close_to item spot }
 {
@@ -341,7 +341,7 @@ pub(crate) fn to_bounds(item: Item, rule: Rule) -> Option<Shift>
     move_to(item, rule, State::Range(TypeState::Bound))
 }
 
-/// Into the angle brackets of an expression.
+/// The move into the angle brackets of an expression.
 pub(crate) fn open_angle(item: Item, rule: Rule) -> Option<Shift>
     ensures { result ≡ open_angle item rule }
 {

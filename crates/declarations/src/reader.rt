@@ -1,5 +1,5 @@
-//! Functions that read by a rule of the grammar: each answers the trees after what its rule finds at the front of the
-//! trees, or those from the fault on.
+//! Functions that read by one rule of the grammar. Each returns the trees after what its rule reads at the start of the
+//! trees, or the trees from the error on.
 ghost use Rattle.std.specs.Prelude.{◌≡◌, ◌++◌};
 ghost use Rattle.grammars.specs.First.{heads};
 ghost use Rattle.declarations.specs.Reader.{Remains, ReadsRule, classes_in};
@@ -10,7 +10,7 @@ use crate::class::{Class, code};
 use crate::signs::first_sign;
 use pm_stream::TokenTree;
 
-/// Whether a sign is of this class.
+/// Whether a sign has this class.
 pub(crate) fn is(class: Class, found: Class) -> bool
     ensures { result ≡ is class found }
 {
@@ -28,7 +28,7 @@ pub(crate) fn begins(trees: &[TokenTree], class: Class) -> bool
     }
 }
 
-/// Past a sign of this class.
+/// Skips a sign of this class.
 #[tactic(auto, using(crate::proofs::ReaderLemmas::steps))]
 pub(crate) fn past(trees: &[TokenTree], class: Class) -> Result<&[TokenTree], &[TokenTree]>
     ensures { ReadsRule (one class) trees.now result }
@@ -45,7 +45,7 @@ pub(crate) fn past(trees: &[TokenTree], class: Class) -> Result<&[TokenTree], &[
     }
 }
 
-/// The trees before the rest.
+/// The trees before `rest`, with which they end.
 #[tactic(auto, using(crate::proofs::ReaderLemmas::remains_whole))]
 pub(crate) fn part<'a>(trees: &'a [TokenTree], rest: &[TokenTree]) -> &'a [TokenTree]
     requires { Remains rest.now trees.now }

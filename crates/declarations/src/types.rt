@@ -1,4 +1,4 @@
-//! Where types end.
+//! The steps of the walk over a type or bounds, up to their end.
 ghost use Rattle.std.specs.Prelude.{◌≡◌};
 ghost use Rattle.declarations.specs.TypeStep.{abi, after_lifetime, argument, binder, bound, close_bracket};
 ghost use Rattle.declarations.specs.TypeStep.{continuation, for_binder, front, macro_group, may_end, minus};
@@ -6,16 +6,16 @@ ghost use Rattle.declarations.specs.TypeStep.{open_bracket, operand, pointer, st
 
 use crate::class::{Class, Keyword};
 
-/// What may follow at a place within a type.
+/// What may come next within a type.
 #[derive(Clone, Copy)]
 pub enum TypeState {
     /// An operand.
     Wanted,
-    /// An operand, or the end of bounds: before the first bound, or after `+`.
+    /// An operand, or the end of bounds. This state is before the first bound and after `+`.
     Bound,
     /// An operand, or what may follow a lifetime.
     Lifetime,
-    /// An argument, or the end of arguments: after `<`, or after `,` within.
+    /// An argument, or the end of the arguments. This state is after `<`, and after `,` within angle brackets.
     Argument,
     /// What continues an operand.
     Whole,
@@ -35,14 +35,14 @@ pub enum TypeState {
     Binder,
 }
 
-/// What a sign does to the depth of angle brackets.
+/// How a sign changes the number of open angle brackets.
 #[derive(Clone, Copy)]
 pub enum Turn {
-    /// Nothing.
+    /// It changes nothing.
     Stay,
-    /// It opens one.
+    /// It opens one bracket.
     Open,
-    /// It closes one.
+    /// It closes one bracket.
     Close,
 }
 
@@ -53,7 +53,7 @@ pub struct TypeStep {
     pub turn: Turn,
 }
 
-/// Whether a type may end there, outside of angle brackets.
+/// Whether a type may end in this state, outside of angle brackets.
 pub(crate) fn may_end(state: TypeState) -> bool
     ensures { result ≡ may_end state }
 {
@@ -81,7 +81,7 @@ fn open_bracket() -> Option<TypeStep>
     })
 }
 
-/// Only within angle brackets.
+/// The step at `>`, which is possible only within angle brackets.
 fn close_bracket(outside: bool) -> Option<TypeStep>
     ensures { result ≡ close_bracket outside }
 {
@@ -95,7 +95,7 @@ fn close_bracket(outside: bool) -> Option<TypeStep>
     }
 }
 
-/// The step at a keyword that stands before an operand.
+/// The step at a keyword that comes before an operand.
 fn front(keyword: Keyword) -> Option<TypeStep>
     ensures { result ≡ front keyword }
 {
@@ -113,7 +113,7 @@ fn front(keyword: Keyword) -> Option<TypeStep>
     }
 }
 
-/// The step where an operand may stand.
+/// The step where an operand may come.
 fn operand(class: Class, outside: bool) -> Option<TypeStep>
     ensures { result ≡ operand class outside }
 {
@@ -263,7 +263,7 @@ fn binder(class: Class) -> Option<TypeStep>
     }
 }
 
-/// The step from a state, outside of angle brackets or not.
+/// The step from a state. `outside` says that no angle bracket is open.
 pub(crate) fn type_step(state: TypeState, class: Class, outside: bool) -> Option<TypeStep>
     ensures { result ≡ step_of state class outside }
 {

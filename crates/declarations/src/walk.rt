@@ -1,4 +1,4 @@
-//! Walks over the signs of trees, by the grammar.
+//! The walk over the signs of trees by the tables of the grammar.
 ghost use Rattle.std.specs.Prelude.{◌≡◌, ◌≢◌, ◌+◌, ◌≤◌, ◌<◌, ◌^◌, IfErr, IfNone, IfOk, IfSome, MatchResult, OnOk, cond};
 ghost use Rattle.std.specs.Prelude.{false, length, true};
 ghost use Rattle.declarations.specs.Fault.{extent_at};
@@ -16,18 +16,18 @@ use crate::place::{Item, Place};
 use crate::signs::first_sign;
 use pm_stream::TokenTree;
 
-/// What is read, and what follows it.
+/// The part that the walk read, and what the walk found out about it.
 #[derive(Clone, Copy)]
 pub(crate) struct Split<'a> {
     pub part: &'a [TokenTree],
     pub rest: &'a [TokenTree],
-    /// What is declared around the place where the walk ended.
+    /// The item that the walk was in at its end.
     pub last: Item,
-    /// The trees from an item's name on; none where it has no name.
+    /// The trees from the item's name on, or no trees if it has no name.
     pub named: &'a [TokenTree],
 }
 
-/// What is read from this place on, and the trees after it.
+/// Reads a part from a state on. Returns the part and the trees after it.
 pub(crate) fn split_from<'a>(trees: &'a [TokenTree], start: Place) -> Result<Split<'a>, Fault>
     requires { start.depth ≡ 0 }
     ensures ok { IfOk result (λ found. Reads (IsFrom start) trees.now found.part.now found.rest.now) }
@@ -52,7 +52,7 @@ pub(crate) fn split_from<'a>(trees: &'a [TokenTree], start: Place) -> Result<Spl
     }
 }
 
-/// Reads all trees from this place on.
+/// Reads all of the trees from a state on.
 pub(crate) fn read_whole(trees: &[TokenTree], start: Place) -> Result<(), Fault>
     requires { start.depth ≡ 0 }
     ensures ok { OnOk result (ReadsAll (IsFrom start) trees.now) }
@@ -67,7 +67,7 @@ pub(crate) fn read_whole(trees: &[TokenTree], start: Place) -> Result<(), Fault>
     }
 }
 
-/// Past what is read from this place on, or past the longest front that can go on.
+/// Skips what can be read from a state on. At an error it returns the trees after the longest prefix that can go on.
 pub(crate) fn walk_past<'a>(
     trees: &'a [TokenTree],
     start: Place,
@@ -84,17 +84,17 @@ pub(crate) fn walk_past<'a>(
     }
 }
 
-/// Where a walk over signs stops.
+/// The state and the trees at which a walk stops.
 #[derive(Clone, Copy)]
 struct Stop<'a> {
     place: Place,
     // The trees that are left.
     left: &'a [TokenTree],
-    // The trees from an item's name on; none where it has no name.
+    // The trees from the item's name on, or no trees if it has no name.
     named: &'a [TokenTree],
 }
 
-/// How far the signs are steps from this place on.
+/// Walks from a state on, as far as the signs are steps.
 fn walk_from<'a>(trees: &'a [TokenTree], start: Place) -> Stop<'a>
     requires { start.depth ≡ 0 }
     ensures walked { Walked start trees.now result.left.now result.place (first_name result.named.now) }
@@ -118,7 +118,7 @@ fn later<'a>(begins: bool, trees: &'a [TokenTree], named: &'a [TokenTree]) -> &'
     if begins { trees } else { named }
 }
 
-/// What the first sign of the trees leads to, if it may stand there, the trees after it, and whether it is a name.
+/// One step: the next state, the trees after the sign, and whether the sign is the item's name.
 fn next_place<'a>(place: Place, trees: &'a [TokenTree]) -> Option<(Place, &'a [TokenTree], bool)>
     requires { place.depth + length trees.now + 1 < 2 ^ 64 }
     ensures found { IfSome result (λ next. (class : ClassValue) × BeginsWith trees.now class next.1.now

@@ -1,4 +1,4 @@
-// Texts, and the items at their front.
+// The item that each text begins with.
 use declarations::{ItemKind, split_any_item};
 use proc_macro2::{Ident, SourceMap, TokenStream};
 use std::process::Abort;
@@ -11,7 +11,8 @@ fn is_named(name: Option<&Ident>, wanted: &str) -> bool {
     }
 }
 
-/// How many trees the item at the front has, its kind, and its name if it has one.
+/// Checks the number of trees, the kind and the name of the item that each text begins with. No name is written as
+/// `""`.
 fn check(
     rt: &(impl Abort + AllocGlobal),
     rows: &[(&str, usize, ItemKind, &str)],

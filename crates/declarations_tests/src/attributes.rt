@@ -1,10 +1,10 @@
-// Attributes, and what stands in their brackets.
+// Attributes, and the trees in their brackets.
 use declarations::{AttributeArgs, Attributes};
 use proc_macro2::{SourceMap, TokenStream};
 use std::process::Abort;
 use std::test::Fail;
 
-/// What follows a path, by how many trees stand in it.
+/// What comes after a path, with its number of trees.
 #[derive(Clone, Copy, Debug, PartialEq, Eq)]
 enum Args {
     Nothing,
@@ -22,7 +22,8 @@ fn shown(args: AttributeArgs<'_>) -> Args {
     }
 }
 
-/// The attributes of each text: how many trees the path has, what follows it, whether it is inner and a doc comment.
+/// Checks the attributes of the text: the trees of the path, what comes after it, and whether it is inner or a doc
+/// comment. `left` is the number of trees after them.
 fn check(
     rt: &(impl Abort + AllocGlobal),
     text: &str,

@@ -1,10 +1,10 @@
-// Faults as code that the compiler stops at.
+// Errors as code that makes the compiler report them.
 use declarations::{compile_error, parse_type_item};
 use proc_macro2::{SourceMap, Span, TokenStream, TokenTree};
 use std::process::Abort;
 use std::test::Fail;
 
-/// Each of the trees has the span, and those in groups too.
+/// Checks that each tree has the span, and each tree in a group too.
 fn check_spans(
     rt: &(impl Abort + AllocGlobal),
     trees: &[TokenTree],
@@ -25,7 +25,7 @@ fn check_spans(
     Ok(())
 }
 
-/// The code for the fault of what is no struct, enum or union: its text, and the span of each of its trees.
+/// Checks the code for the error of a text that is no struct, enum or union: its text, and the span of its trees.
 fn check(
     rt: &(impl Abort + AllocGlobal),
     text: &str,

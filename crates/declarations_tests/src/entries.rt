@@ -1,4 +1,4 @@
-// The entries of attributes' lists. What each text has, syn 2 reads too, but where a row says otherwise.
+// The entries of attributes' lists. The crate syn 2 reads each text in the same way, unless a row says otherwise.
 use declarations::{
     AttributeArgs, Attributes, Entries, Entry, EntryKind, EntryProblem, check_entries, parse_entry,
 };
@@ -6,14 +6,14 @@ use proc_macro2::{SourceMap, TokenStream};
 use std::process::Abort;
 use std::test::Fail;
 
-/// An entry: how many trees its path has, and those after it.
+/// An entry: the number of trees in its path, and of those after it.
 #[derive(Clone, Copy, Debug, PartialEq, Eq)]
 enum Parts {
     Path(usize),
     List(usize, usize),
     Value(usize, usize),
     Literal(usize),
-    /// No more entries: a fault, after so many of the trees that are left.
+    /// An error after so many of the remaining trees. No entry comes after it.
     Fault(usize),
 }
 
@@ -26,7 +26,7 @@ fn shown(entry: &Entry<'_>) -> Parts {
     }
 }
 
-/// The entries of each text, in parentheses.
+/// Checks the entries of each text. A text is what is in the parentheses of an attribute.
 fn check(rt: &(impl Abort + AllocGlobal), rows: &[(&str, &[Parts])]) -> Result<(), Fail> {
     for (text, wanted) in rows {
         let stream = TokenStream::from_str(text, &mut SourceMap::new(rt.alloc()))?;
@@ -98,7 +98,7 @@ fn each_entry_is_given(rt: HostRuntime) -> Result<(), Fail> {
                 "a = .., b = return",
                 &[Parts::Value(1, 2), Parts::Value(1, 1)],
             ),
-            // Paths of keywords, which syn reads by its `parse_nested_meta` alone.
+            // Paths that are keywords. The crate syn reads them only with its `parse_nested_meta`.
             (
                 "type, default = 1, where(T: A)",
                 &[Parts::Path(1), Parts::Value(1, 1), Parts::List(1, 3)],
@@ -178,7 +178,7 @@ fn the_first_entry_leaves_the_rest(rt: HostRuntime) -> Result<(), Fail> {
     Ok(())
 }
 
-/// Checks what `check_entries` answers for a text: nothing, or the problem and how many trees stand before it.
+/// Checks the result of `check_entries` for a text: no error, or its kind and the number of trees before it.
 fn check_list(
     rt: &(impl Abort + AllocGlobal),
     text: &str,
@@ -195,7 +195,7 @@ fn check_list(
     Ok(())
 }
 
-/// Checks so for each text.
+/// Checks the result of `check_entries` for each text.
 fn check_names(
     rt: &(impl Abort + AllocGlobal),
     rows: &[(&str, Option<(EntryProblem, usize)>)],
@@ -227,7 +227,7 @@ fn each_name_is_known_and_comes_once(rt: HostRuntime) -> Result<(), Fail> {
     )
 }
 
-/// What an error of `check_entries` is printed as.
+/// Checks the message of the error that `check_entries` returns for a text.
 fn check_printed(rt: &(impl Abort + AllocGlobal), text: &str, want: &str) -> Result<(), Fail> {
     let stream = TokenStream::from_str(text, &mut SourceMap::new(rt.alloc()))?;
     match check_entries(stream.trees(), &["skip", "rename"]) {
@@ -292,7 +292,7 @@ fn names_are_told_where_none_or_one_is_known(rt: HostRuntime) -> Result<(), Fail
     Ok(())
 }
 
-/// The entries that the attributes of each text are.
+/// Checks the entry that each attribute of a text is.
 fn check_attributes(
     rt: &(impl Abort + AllocGlobal),
     rows: &[(&str, &[Parts])],
@@ -331,7 +331,7 @@ fn an_attribute_is_one_entry(rt: HostRuntime) -> Result<(), Fail> {
             ("#[rustfmt::skip]", &[Parts::Path(4)]),
             ("#[unsafe(no_mangle)]", &[Parts::List(1, 1)]),
             ("/// text", &[Parts::Value(1, 1)]),
-            // The trees of another grammar, which are read within the list alone, if at all.
+            // Trees of other grammars. They are accepted only inside a list.
             ("#[error(\"{0}\" if x => y)]", &[Parts::List(1, 6)]),
             ("#[a[b] c]", &[Parts::Fault(2)]),
             ("#[a = 1, b]", &[Parts::Fault(3)]),

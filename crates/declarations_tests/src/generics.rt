@@ -1,21 +1,21 @@
-// Generic parameters and predicates, by how many trees each part has.
+// Generic parameters and predicates, with the number of trees in each part.
 use declarations::{Fault, ParamKind, after_where, parse_param, parse_predicate, within_generics};
 use proc_macro2::{SourceMap, TokenStream};
 use std::process::Abort;
 use std::test::Fail;
 
-/// An element of a list, or the fault that stands in its place.
+/// An element of a list, or the error that comes instead.
 #[derive(Clone, Copy, Debug, PartialEq, Eq)]
 enum Part {
-    /// Attributes, name, bounds and default.
+    /// The trees of the attributes, the name, the bounds and the default.
     Param(ParamKind, usize, usize, usize, usize),
-    /// What is bounded, and bounds.
+    /// The trees of what is bounded, and of the bounds.
     Predicate(usize, usize),
-    /// So many trees of what is left stand before a sign that doesn't fit.
+    /// An error at a sign that does not fit, after so many of the remaining trees.
     FaultAt(usize),
-    /// More are missing after so many.
+    /// An error at the end: trees are missing after so many.
     EndsAt(usize),
-    /// No more are left.
+    /// No trees are left.
     End,
 }
 
@@ -28,7 +28,7 @@ fn fault_place(fault: &Fault) -> Part {
     }
 }
 
-/// The parts that stand where the first trees are one of these lists.
+/// Checks the parts of the parameters in each text.
 fn check_params(rt: &(impl Abort + AllocGlobal), rows: &[(&str, &[Part])]) -> Result<(), Fail> {
     for (text, wanted) in rows {
         let stream = TokenStream::from_str(text, &mut SourceMap::new(rt.alloc()))?;
@@ -122,7 +122,7 @@ fn parameters_have_their_parts_in_order(rt: HostRuntime) -> Result<(), Fail> {
                     End,
                 ],
             ),
-            // Lifetimes may follow types, and raw names are words.
+            // Lifetimes may come after types, and raw identifiers are words.
             (
                 "<r#fn, 'a>",
                 &[

@@ -1,4 +1,4 @@
-//! Tests of the parts of declarations: texts with the trees that each part takes, or where the fault stands.
+//! Tests of `declarations`: for each text, the number of trees in each part, or where the error is.
 #![tactic(auto)]
 
 #[cfg(test)]

@@ -1,10 +1,10 @@
-// Lists of fields and variants: how many come, and where the fault stands.
+// Lists of fields and variants: how many elements come, and where the error is.
 use declarations::{Body, FieldList, VariantList, parse_type_item};
 use proc_macro2::{SourceMap, TokenStream};
 use std::process::Abort;
 use std::test::Fail;
 
-/// How many parts come before the end, and the fault if there is one, by how many trees stand before it.
+/// The number of parts before the end, and the number of trees before the error, if there is one.
 #[derive(Clone, Copy, Debug, PartialEq, Eq)]
 struct Given {
     parts: usize,

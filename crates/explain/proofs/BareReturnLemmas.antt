@@ -1,4 +1,4 @@
--- A CR in a doc comment that no LF follows.
+-- A CR in a doc comment with no LF after it, which is called bare.
 use Rattle.std.proofs.Common.{◌≡◌, ℕ, ◌+◌, Bool, true, false, not, ◌&&◌, ◌==◌, List, [], ◌∷◌, ◌++◌}
 use Rattle.std.proofs.Common.{codes, drop, take, length, Option, Some, None, refl, sym, ap, ◌∙◌, subst}
 use Rattle.std.proofs.Common.{append_assoc, append-nil, arith, eqb-true}
@@ -37,7 +37,7 @@ none_plain : (p : List ℕ) → list_all other p ≡ true → has_bare_return p 
 none_plain [] all = refl
 none_plain (c ∷ p) all = grind (arith, all, none_plain p)
 
--- what is not bare, a line end, and then no CR
+-- text without a bare CR, then a line end, and then text without a CR
 none_feed : (p q : List ℕ) → has_bare_return p ≡ false → list_all other q ≡ true
     → has_bare_return (p ++ (13 ∷ 10 ∷ q)) ≡ false
 none_feed [] q none all = grind (arith, none_plain q all)
@@ -99,7 +99,7 @@ next_return inside at after to c is split count feed h =
         (subst (λ e. has_bare_return (is.before.part ++ (13 ∷ e ∷ front)) ≡ false) (sym line)
         (none_feed is.before.part front is.none (and_parts _ _ all).1))
 
--- the first that is bare
+-- a CR with no LF after it is the first bare one
 pub first_bare : (inside at after : Cursor) (c : ℕ) → AtReturn inside at → chars at.rest.now ≡ c ∷ chars after.rest.now
     → after.chars_before ≡ at.chars_before + 1 → begins_with (codes "\n") (chars after.rest.now) ≡ false
     → IsFirstBare inside at after
@@ -111,7 +111,7 @@ first_bare inside at after c is split count bare = record {
   first = is.none;
 }
 
--- or none is
+-- at the end of the text, no CR is bare
 pub no_bare : (inside at : Cursor) → AtReturn inside at → chars at.rest.now ≡ []
     → has_bare_return (chars inside.rest.now) ≡ false
 no_bare inside at is done =
@@ -119,7 +119,7 @@ no_bare inside at is done =
 
 -- ---- in the text of a doc comment
 
--- what follows a text makes none of its CRs part of a line end
+-- if the text ends with a CR, the rest doesn't begin with LF
 abbrev Apart : List ℕ → List ℕ → Type 0
 Apart text rest = ends_with 13 text ≡ true → begins_with (codes "\n") rest ≡ false
 
@@ -170,9 +170,9 @@ within (c ∷ (d ∷ text)) rest (b ∷ before) after apart bare none e =
     still [] first same none = grind (arith, bare, first, same, none)
     still (x ∷ before) first same none = grind (arith, bare, first, same, none)
 
--- ---- a doc comment that is none
+-- ---- a doc comment with a bare CR, which is no comment
 
--- what stands after the front of a doc comment: its text, what closes it, and what follows it
+-- a doc comment at a cursor: its text, what closes it, and what follows it
 pub record IsDocAt (at : Cursor) : Type 0 where
   pub comment : List ℕ
   pub after : List ℕ
@@ -209,7 +209,7 @@ doc_at at end h none =
       bare = kind.1;
     }
 
--- the text ends with a CR before LF nowhere
+-- the text of a doc comment never ends with a CR before an LF
 text_apart : (p r : List ℕ) → (h : Comment p r) → is_doc p ≡ true → Apart (doc_text p r) (closing p r ++ r)
 text_apart p r h doc = by_closing (begins_with (codes "/*") p) refl
   where
@@ -322,7 +322,7 @@ front_fits at is =
     (is.whole ∙ (ap (λ t. t ++ is.after) front.whole ∙ append_assoc front.front (drop 3 is.comment) is.after))
     front.bytes
 
--- ---- where no comment stands a block comment begins
+-- ---- where no comment matches, a block comment begins
 
 run_found : (passes : ℕ → Bool) (o : Answer) → and_find (find_run passes) o ≡ None → o ≡ None
 run_found passes None e = refl

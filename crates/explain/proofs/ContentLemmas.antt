@@ -1,4 +1,4 @@
--- The walk over the content of a literal.
+-- The loop over the content of a literal.
 use Rattle.std.proofs.Common.{◌≡◌, ℕ, ◌+◌, ◌-◌, ◌<◌, ◌≤◌, true, false, not, ◌&&◌, ◌==◌, List, [], ◌∷◌, ◌++◌}
 use Rattle.std.proofs.Common.{codes, drop, take, length, Some, None, Result, Ok, Err, inl, inr, refl, sym, ap, ap₂}
 use Rattle.std.proofs.Common.{◌∙◌, subst, append_assoc, arith, eqb-true, length-append}
@@ -58,7 +58,7 @@ module _ (at end : Cursor) (quote : ℕ) (left : List ℕ) (low : quote < 128) (
   pub content_chars : chars (take (length at.rest.now - length end.rest.now - 1) at.rest.now) ≡ left
   content_chars = seam_take at.rest.now left (quote ∷ chars end.rest.now) _ (IsUtf8-had _ at.text) is size_is
 
--- ---- what the escaper reads at the front
+-- ---- the first item that the escaper reads
 
 bytes-append : (p r : List ℕ) → bytes (p ++ r) ≡ bytes p + bytes r
 bytes-append p r = ap length (encodes-append p r) ∙ length-append (encode_utf8_all p) (encode_utf8_all r)
@@ -73,7 +73,7 @@ one_front : {U : Type 0} (kind : Kind U) (end c : ℕ) (text : List ℕ) → beg
 unfolding front
 one_front kind end c text e = cond-false _ _ _ (no_line c text e)
 
--- what stands in a list before others
+-- the first items of equal lists are equal
 head_of : {A : Type 0} (a b : A) (xs ys : List A) → ◌≡◌ {A = List A} (a ∷ xs) (b ∷ ys) → a ≡ b
 head_of a b xs ys e = cc
 
@@ -160,9 +160,9 @@ module _ {U : Type 0} (kind : Kind U) (strings : StringKind) (are : Allows kind 
       })
       (λ e. plain_is c text e)
 
--- ---- a step
+-- ---- one step
 
--- a cursor past what was read
+-- a cursor after what was read, `size` bytes further
 pub record IsAfter (at after : Cursor) (size : ℕ) : Type 0 where
   pub rest : after.rest.now ≡ drop size at.rest.now
   pub count : after.chars_before ≡ at.chars_before + length (chars (take size at.rest.now))
@@ -261,7 +261,7 @@ module _ (at after end : Cursor) (x : Front) (is : IsAfter at after x.size) wher
 
 -- ---- line ends
 
--- none stands where none is read
+-- no line end is at the start of the text if the rule `line_end` finds none
 pub no_line_end : (text : List ℕ) → find line_end text ≡ None → begins_any line_ends text ≡ false
 no_line_end text none =
     let first = or_none _ _ (sym (find_either _ _ text) ∙ none) in
@@ -269,13 +269,13 @@ no_line_end text none =
     or_from _ _ (lacks_text _ _ first.0) (or_from _ _ (lacks_text _ _ others.0)
     (or_from _ _ (lacks_text _ _ others.1) refl))
 
--- nor one in the content alone
+-- no line end is at the start of the content alone
 pub no_line_inside : (left tail : List ℕ) → begins_any line_ends (left ++ tail) ≡ false
     → begins_with (codes "\\\n") left ≡ false
 no_line_inside left tail none = false_from_ne_true _ (λ is.
     both_ways _ (or_parts _ _ (or_parts _ _ none).1).0 (begins_more (codes "\\\n") left tail is))
 
--- what has no quote stands before the first
+-- text without a quote is in the content, which ends at the first quote
 pub inside_of : (front more left tail : List ℕ) → list_all (λ c. not (34 == c)) front ≡ true
     → front ++ more ≡ left ++ (34 ∷ tail) → (rest : List ℕ) × (more ≡ rest ++ (34 ∷ tail))
 inside_of [] more left tail none e = (left, e)

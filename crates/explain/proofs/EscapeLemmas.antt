@@ -33,7 +33,7 @@ above : (c : ℕ) → nat_lt c 128 ≡ false → (k : ℕ) → k ≤ 128 → nat
 above c e k le = false_from_ne_true (nat_lt c k)
     (λ lt. let less = ltb-true c k lt in let more = ltb-false c 128 e in absurd (omega arith))
 
--- a character past ASCII is no digit
+-- a character that isn't ASCII is no digit
 past_value : (c : ℕ) → nat_lt c 128 ≡ false → digit_value c ≡ 36
 past_value c e =
     cond-false _ _ _ (above c e 48 (omega arith))
@@ -86,7 +86,7 @@ pub passes_same : (ds : List ℕ) → list_all is_code_character ds ≡ list_all
 passes_same [] = refl
 passes_same (c ∷ ds) = ap₂ (λ b more. (b || (c == 95)) && more) (hex_same c) (passes_same ds)
 
--- a character of a code is a digit, or nothing is made of it
+-- a character of a code is a hex digit or `_`
 line_is : (c : ℕ) → is_code_character c ≡ true → (c == 95) ≡ not (is_hex c)
 line_is c h = by_test (is_hex c) refl
   where
@@ -113,9 +113,9 @@ number_same n (c ∷ ds) all =
     step true line ih = ih (hex_step n c) ∙ ap (λ m. fold value_step m ds) (sym (cond-false _ _ _ line))
     step false line ih = ih n ∙ ap (λ m. fold value_step m ds) (sym (cond-true _ _ _ line))
 
--- ---- what a kind of string makes a unit of
+-- ---- the characters of which a kind of string makes a unit
 
--- the grammar allows it
+-- the grammar allows each character of which the kind makes a unit
 pub record Allows {U : Type 0} (kind : Kind U) (strings : StringKind) : Type 0 where
   pub by_letter : (c d : ℕ) (u : U) → letter c ≡ Some d → kind.of_char d ≡ Ok u
       → is_one_of (letters strings) c ≡ true
@@ -128,7 +128,7 @@ pub record Allows {U : Type 0} (kind : Kind U) (strings : StringKind) : Type 0 w
 
 -- ---- what was read
 
--- it is a piece of the rule, whatever follows the content
+-- what was read matches the rule, whatever follows the content
 pub record IsRead {U : Type 0} (rule : Rule) (text more : List ℕ) (read : Read U) : Type 0 where
   pub part : List ℕ
   pub whole : text ≡ part ++ read.rest
@@ -163,7 +163,7 @@ module _ {U : Type 0} (kind : Kind U) (strings : StringKind) (are : Allows kind 
       (λ low h. no_unit _ _ u h))
       (λ high h. no_unit _ _ u h)
 
-  -- digits whose number is a character's
+  -- the digits are a code of the grammar if their number is that of a character
   code_is : (ds : List ℕ) → list_all is_code_character ds ≡ true → code_unit kind (filter is_hex ds) ≡ Ok u
       → is_code (allows strings) ds ≡ true
   code_is ds all = cond_both (nat_lt 6 (length (filter is_hex ds))) _ _
@@ -179,7 +179,7 @@ module _ {U : Type 0} (kind : Kind U) (strings : StringKind) (are : Allows kind 
       at_most : (n : ℕ) → nat_lt 6 n ≡ false → nat_le n 6 ≡ true
       at_most n e = grind (arith, e)
 
-  -- after `u{`, the first digit is `x`
+  -- `u{`, digits of which the first is `x`, and `}` are an escape
   closed_is : (c d x : ℕ) (ds tail : List ℕ) → (c == 117) ≡ true → (d == 123) ≡ true → is_hex x ≡ true
       → list_all is_code_character (x ∷ ds) ≡ true
       → Is (c ∷ d ∷ x ∷ (ds ++ tail)) (closed kind (filter is_hex (x ∷ ds)) tail)
@@ -263,7 +263,7 @@ module _ {U : Type 0} (kind : Kind U) (strings : StringKind) (are : Allows kind 
 
 -- ---- the kinds
 
--- a character past ASCII is no letter
+-- a character that isn't ASCII is no letter of an escape
 letter_past : (c : ℕ) → nat_lt c 128 ≡ false → letter c ≡ None
 letter_past c e =
     let far : 128 ≤ c = ltb-false c 128 e in
@@ -277,22 +277,22 @@ letter_past c e =
     ∙ cond-false _ _ _ (or_from _ _ (or_from _ _ (other 92 (omega arith)) (other 39 (omega arith)))
     (other 34 (omega arith))))))
 
--- whether it is a letter, given whether it is ASCII
+-- a letter of an escape is one of these, given whether it is ASCII
 known_of : (b : Bool) (c d : ℕ) → nat_lt c 128 ≡ b → letter c ≡ Some d → is_one_of (codes "nrt\\0'\"") c ≡ true
 known_of true c d low e =
     sym (agree_below_at (λ x. is_some (letter x)) (is_one_of (codes "nrt\\0'\"")) 128 c refl (ltb-true c 128 low))
     ∙ ap is_some e
 known_of false c d past e = let clash : ◌≡◌ {A = Option ℕ} None (Some d) = sym (letter_past c past) ∙ e in absurd (cc)
 
--- a letter that stands for a character
+-- a letter that is an escape for a character is one of these
 known : (c d : ℕ) → letter c ≡ Some d → is_one_of (codes "nrt\\0'\"") c ≡ true
 known c d e = known_of (nat_lt c 128) c d refl e
 
--- and not for zero
+-- a letter that is an escape for a character other than NUL is one of these
 known_some : (c d : ℕ) → letter c ≡ Some d → (d == 0) ≡ false → is_one_of (codes "nrt\\'\"") c ≡ true
 known_some c d e some = grind (arith, e, some, known c d e)
 
--- the code of a character
+-- a number that is a character is a scalar value
 scalar_of : (n m : ℕ) → character n ≡ Ok m → (is_scalar n ≡ true) × (m ≡ n)
 scalar_of n m = cond_both (nat_lt 0x10_FFFF n) _ _ (λ o. o ≡ Ok m → (is_scalar n ≡ true) × (m ≡ n))
     (λ e h. no_unit _ _ m h)

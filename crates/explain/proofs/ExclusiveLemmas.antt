@@ -1,4 +1,4 @@
--- At most one reason holds where a text begins.
+-- At most one reason holds of a text.
 use Rattle.std.proofs.Common.{◌≡◌, ℕ, List, ◌++◌, ap, sym, ◌∙◌, inl, inr, subst}
 use Rattle.literal_escaper.specs.declared.errors.EscapeError.{EscapeError}
 use Rattle.explain.specs.Reason.{Holds}
@@ -14,7 +14,7 @@ use Rattle.explain.proofs.ToldTextLemmas.{too_many_told, unclosed_comment_told, 
 use Rattle.explain.proofs.ToldTextLemmas.{without_quote_told}
 use Rattle.explain.proofs.OneContentLemmas.{one_content}
 
--- a reason that holds is the one that is left
+-- a reason that holds is of the sort that `told` gives for the text
 pub told_is : (x : Reason) (f p r : List ℕ) → Holds x f p r → told (f ++ (p ++ r)) ≡ sort x
 told_is reasons.UnclosedComment f p r is = unclosed_comment_told f p r is.0 is.1
 told_is reasons.BareReturnInDoc f p r is = bare_return_told f p r is
@@ -38,7 +38,7 @@ told_is reasons.StrayCloser f p r is = absurd is
 told_is reasons.MismatchedCloser f p r is = absurd is
 told_is reasons.UnclosedOpener f p r is = absurd is
 
--- two that hold are of one sort
+-- two reasons that hold of the same text are of one sort
 pub same_sort : (x y : Reason) (f p r g q s : List ℕ) → Holds x f p r → Holds y g q s → f ++ (p ++ r) ≡ g ++ (q ++ s)
     → sort x ≡ sort y
 same_sort x y f p r g q s is other e = sym (told_is x f p r is) ∙ (ap told e ∙ told_is y g q s other)
@@ -50,7 +50,7 @@ one_of_contents x y e o f p r g q s here there is other same =
     let also : Holds (reasons.Content o) g q s = subst (λ z. Holds z g q s) there other in
     here ∙ (ap reasons.Content (one_content e o f p r g q s bad also same) ∙ sym there)
 
--- at most one reason holds
+-- at most one reason holds of a text
 pub one_reason : (x y : Reason) (f p r g q s : List ℕ) → Holds x f p r → Holds y g q s
     → f ++ (p ++ r) ≡ g ++ (q ++ s) → x ≡ y
 one_reason x y f p r g q s is other e = elim (one_sort x y (same_sort x y f p r g q s is other e)) [

@@ -1,4 +1,4 @@
--- What was read, and how the reading ends.
+-- What was read, and how reading ends.
 use Rattle.std.proofs.Common.{◌≡◌, ◌≢◌, ℕ, ◌+◌, Bool, true, List, [], ◌∷◌, ◌++◌, length, Option, Some, None}
 use Rattle.std.proofs.Common.{inl, inr}
 use Rattle.std.proofs.Common.{MatchOption, refl, sym, ap, ◌∙◌, subst, arith, append_assoc, length-append}
@@ -37,7 +37,7 @@ use Rattle.explain.specs.declared.explaining.Openers.{Openers}
 use Rattle.explain.proofs.OpenLemmas.{leaves_open}
 use Rattle.explain.proofs.StandLemmas.{AllStand, all_lost}
 
--- the texts of the pieces, as far as they go
+-- the texts of the pieces, and then the rest
 onto_behind : (pieces : List Piece) (rest : List ℕ) → onto pieces rest ≡ onto pieces [] ++ rest
 onto_behind [] rest = refl
 onto_behind (x ∷ pieces) rest =
@@ -91,7 +91,7 @@ module _ (base : ℕ) (source rest : List ℕ) (at : ℕ) (first : Bool) (opener
     because = inl (subst (λ b. IsStuck base read b rest x) (sym h.reads.begins) (stuck base read read_whole read_at));
   }
 
-  -- no opener is left open
+  -- if no opener is left open, the source parses
   pub parsed : rest ≡ [] → waiting openers ≡ [] → Parses base source
   parsed done none = by_groups h.groups h.reads (sym h.around ∙ none)
     where
@@ -100,7 +100,7 @@ module _ (base : ℕ) (source rest : List ℕ) (at : ℕ) (first : Bool) (opener
       by_groups [] reads e = (h.trees, reads_all base source rest at first h.trees reads done)
       by_groups (g ∷ groups) reads e = absurd (cc)
 
-  -- the innermost is
+  -- if an opener is left open, the innermost one explains the fault
   pub left_explained : (x : Explained) → rest ≡ [] → SaysLeftOpen x
       → WaitsAs (waiting openers) x.innermost x.outer.items → AllStand base source x → IsExplained base source x
   left_explained x done says told stand = record {
@@ -129,7 +129,7 @@ module _ (base : ℕ) (source rest : List ℕ) (at : ℕ) (first : Bool) (opener
           subst (FaultAt base source) (ap (λ w. w.1) head)
           (reads_open base source rest at first g groups h.trees reads done)
 
-  -- a closer can't stand there
+  -- a closer that matches no opener, or not the innermost one, explains the fault
   pub refused_explained : (x : Explained) (piece : Found) (found : IsPieceAt first rest piece)
       → IsStray piece.kind h.groups → x.reason ≡ refusal x.innermost
       → WaitsAs (waiting openers) x.innermost x.outer.items → AllStand base source x
@@ -197,7 +197,7 @@ pub opened_by : {S : Type 0} (took : S → Taken Opener → Type 0) (base : ℕ)
 opened_by took base source rest at first sink openers h =
     record { groups = h.groups; trees = h.trees; reads = h.reads; around = h.takes.around }
 
--- an opener is one character, of its delimiter
+-- an opener is one character, which has this delimiter
 pub one_opener : (d : Delimiter) (front : List ℕ) → front ≡ opening d → length front ≡ 1
     → (c : ℕ) × (front ≡ c ∷ []) × (is_opener c ≡ true) × (d ≡ delimiter_of c)
 one_opener Parenthesis front is one = (40, is, refl, refl)
@@ -205,13 +205,13 @@ one_opener Brace front is one = (123, is, refl, refl)
 one_opener Bracket front is one = (91, is, refl, refl)
 one_opener delimiters.None front is one = absurd (omega (arith, one, ap length is))
 
--- how many bytes there are before the piece
+-- the number of bytes before the piece
 pub rest_bytes : (openers : Openers) (lexed : Lexed) (to : IsTakenTo Remembers openers lexed)
     → length (encode_utf8_all to.before.passed) + length lexed.text.now ≡ length openers.text.now
 rest_bytes openers lexed to =
     front_len openers.text.now lexed.text.now to.before.passed to.takes.utf8 to.is.utf8 (sym to.takes.text ∙ to.source)
 
--- an opener has the piece's bytes and its span
+-- an opener has the bytes and the span of its piece
 pub opener_is : (openers : Openers) (lexed : Lexed) (d : Delimiter) (can : CanOpen Remembers openers lexed d)
     (at : Stretch) → at.start ≡ length (encode_utf8_all can.to.before.passed) → at.end ≡ at.start + lexed.piece.bytes
     → at.span ≡ record { lo = lexed.at; hi = lexed.at + length can.to.is.found.front }
@@ -244,7 +244,7 @@ opener_is openers lexed d can at starts ends spans =
       });
     }
 
--- why reading stopped
+-- the reason why reading stopped
 module _ (first : Bool) (rest : List ℕ) (openers : List Opener) (stray : Option Found)
     (stops : MatchOption stray (HasNoPiece first rest) (λ piece. IsPieceAt first rest piece × ((groups : List Opened)
     → waiting openers ≡ openers_of groups → IsStray piece.kind groups))) where
@@ -257,13 +257,13 @@ module _ (first : Bool) (rest : List ℕ) (openers : List Opener) (stray : Optio
   stops_there is = subst (λ s. MatchOption s (HasNoPiece first rest) (λ piece. IsPieceAt first rest piece
       × ((groups : List Opened) → waiting openers ≡ openers_of groups → IsStray piece.kind groups))) is stops
 
--- a text past two parts
+-- a text after two parts
 pub whole_past : (text mid rest front part : List ℕ) → text ≡ front ++ mid → mid ≡ part ++ rest
     → text ≡ (front ++ part) ++ rest
 whole_past text mid rest front part whole more =
     whole ∙ (ap (λ t. front ++ t) more ∙ sym (append_assoc front part rest))
 
--- the end of the text
+-- the answer at the end of the text
 pub left_answer : (base : ℕ) (source rest : List ℕ) (at : ℕ) (first : Bool) (openers : List Opener)
     → ReadsOpen base source rest at first openers → AllByRecursion (IsOpenerOf base source) openers → rest ≡ []
     → (answer : Option Explained)
@@ -277,7 +277,7 @@ left_answer base source rest at first openers h stand done (Some x) told =
     left_explained base source rest at first openers h x done told.0 told.1
     (all_lost (IsOpenerOf base source) openers x.innermost x.outer.items told.2 stand)
 
--- from another position
+-- the answer for a text that begins at an equal position
 pub answer_at : (base begin : ℕ) (source : List ℕ) (answer : Option Explained) → base ≡ begin
     → MatchOption answer (Parses base source) (IsExplained base source)
     → MatchOption answer (Parses begin source) (IsExplained begin source)

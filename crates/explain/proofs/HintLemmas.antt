@@ -1,4 +1,4 @@
--- What helps to mend a fault.
+-- The hints are right.
 use Rattle.std.proofs.Common.{◌≡◌, ℕ, List, [], ◌∷◌, ◌++◌, codes, length, Option, Some, None, inl, inr, refl, sym}
 use Rattle.std.proofs.Common.{ap, ◌∙◌, subst, append_assoc, append-nil}
 use Rattle.std.specs.Prelude.{IfSome}
@@ -23,7 +23,7 @@ use Rattle.explain.specs.declared.reason.Reason.{Reason}
 use Rattle.explain.specs.declared.reason.Reason.TheVariants as reasons
 use Rattle.explain.specs.declared.reason.Reason.TheVariants.{UnclosedComment, UnclosedOpener, UnclosedRawString}
 
--- ---- where no piece stands
+-- ---- where no piece begins
 
 never_refused : (d : Delimiter) (reason : Reason) (innermost : Option Opener) → RefusesFor d reason innermost
     → (reason ≡ UnclosedComment → ⊥) × (reason ≡ UnclosedRawString → ⊥)
@@ -48,7 +48,7 @@ module _ (base : ℕ) (source : List ℕ) (x : Explained) (h : IsExplained base 
     | inr (inr s) ↦ let clash : UnclosedRawString ≡ UnclosedOpener = sym is ∙ s.says.reason in absurd (cc)
   ]
 
-  -- a block comment that doesn't end
+  -- a fault because of a block comment that doesn't end
   pub record CommentFault : Type 0 where
     pub behind : List ℕ
     pub more : List ℕ
@@ -76,7 +76,7 @@ module _ (base : ℕ) (source : List ℕ) (x : Explained) (h : IsExplained base 
         fault = s.before.start;
       }
 
-  -- a raw string that doesn't end
+  -- a fault because of a raw string that doesn't end
   pub record RawFault : Type 0 where
     pub kind : StringKind
     pub behind : List ℕ
@@ -104,7 +104,7 @@ module _ (base : ℕ) (source : List ℕ) (x : Explained) (h : IsExplained base 
         fault = s.before.start;
       }
 
-  -- where the fault is
+  -- the position of the fault in the text
   record Fault : Type 0 where
     behind : List ℕ
     rest : List ℕ
@@ -146,7 +146,7 @@ module _ (base : ℕ) (source : List ℕ) (x : Explained) (h : IsExplained base 
         helps = helps_none f.behind f.rest x.reason comment raw;
       }
 
--- ---- what the walks found
+-- ---- what the loops found
 
 module _ (base : ℕ) (behind rest : List ℕ) (start : Cursor) (same : chars start.rest.now ≡ rest) where
   pub comments_told : (depth : ℕ) → LeftComments start depth None → TellsComments base behind rest depth None
@@ -204,7 +204,7 @@ module _ (base : ℕ) (behind opening body : List ℕ) (kind : StringKind) (open
         at = at;
       }
 
--- after what opens a raw string
+-- the text after what opens a raw string
 pub past_opening : (text behind opening body : List ℕ) → text ≡ behind ++ (opening ++ body)
     → text ≡ (behind ++ opening) ++ body
 past_opening text behind opening body e = e ∙ sym (append_assoc behind opening body)

@@ -1,4 +1,4 @@
--- Where a letter stands and neither an identifier nor a literal does.
+-- Where a letter is, but neither an identifier nor a literal begins.
 use Rattle.std.proofs.Common.{◌≡◌, ℕ, Bool, true, false, not, ◌&&◌, ◌==◌, cond, List, [], ◌∷◌, ◌++◌, codes}
 use Rattle.std.proofs.Common.{Some, None, refl, sym, ap, ◌∙◌, subst, arith, eqb-true}
 use Rattle.std.specs.Str.{chars}
@@ -20,7 +20,7 @@ use Rattle.lexical.proofs.RuleSteps.{lacks_text, past_text}
 use Rattle.explain.specs.Shapes.{is_hash, no_double_quote}
 use Rattle.explain.proofs.StuckLemmas.{identifier_stands, untagged_by}
 
--- ---- how literals begin
+-- ---- the prefixes of literals
 
 longer : (p q text : List ℕ) → begins_with p text ≡ false → begins_with (p ++ q) text ≡ false
 longer [] q text e = absurd (both_ways _ e refl)

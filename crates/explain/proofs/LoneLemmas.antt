@@ -1,4 +1,4 @@
--- Where no lone quote stands.
+-- Where no lone quote begins, which is the `'` of a lifetime.
 use Rattle.std.proofs.Common.{◌≡◌, ℕ, ◌+◌, Bool, true, false, not, ◌&&◌, ◌==◌, cond, List, [], ◌∷◌, ◌++◌, codes}
 use Rattle.std.proofs.Common.{length, Some, None, inl, inr, refl, sym, ap, ◌∙◌, subst, append_assoc, arith}
 use Rattle.std.proofs.Common.{length-append}
@@ -75,7 +75,7 @@ raw_reserved at inside inner end quote front named closed lone = true_from_ne_fa
 
 -- ---- lifetimes
 
--- after `r` and `#` a name is `r`
+-- in `r#`, the name is `r`
 name_r : (rest : List ℕ) → find name (codes "r#" ++ rest) ≡ Some (codes "r", 35 ∷ rest)
 unfolding find
 name_r rest =
@@ -113,7 +113,7 @@ hash_follows at inside end quote named closed hash lone = by_raw (begins_with (c
         ∙ ap not (no_bar (chars end.rest.now) (no_first 39 (chars end.rest.now) closed)
         (no_first 35 (chars end.rest.now) hash)))
 
--- where a raw lifetime would begin stands a name
+-- after the `'` of `'r#` a name begins
 pub name_here : (at inside inner : Cursor) → Passes (Exactly (codes "'")) at inside
     → Passes (Exactly (codes "'r#")) at inner → find name (chars inside.rest.now) ≡ None → ⊥
 name_here at inside inner quote front none =
@@ -122,7 +122,7 @@ name_here at inside inner quote front none =
     sym (name_r (chars inner.rest.now)) ∙ (sym (ap (find name) split) ∙ none) in
     absurd (cc)
 
--- ---- characters that end
+-- ---- characters that are closed
 
 abbrev pub EndsAt : Cursor → Cursor → Type 0
 EndsAt at end = (past : IsPast at end) × Stands closed_character past.part (chars end.rest.now)
@@ -153,7 +153,7 @@ module _ (at inside mid end : Cursor) (quote : Passes (Exactly (codes "'")) at i
   closing : (chars mid.rest.now ≡ codes "'" ++ chars end.rest.now) × (end.chars_before ≡ mid.chars_before + 1)
   closing = past_text (codes "'") mid end close
 
-  -- what stands between the quotes
+  -- the text between the quotes
   module _ (part : List ℕ) (whole : chars inside.rest.now ≡ part ++ chars mid.rest.now)
       (count : mid.chars_before ≡ inside.chars_before + length part) where
     pub quoted_inside : IsInside single_quote inside end

@@ -19,7 +19,7 @@ use Rattle.explain.specs.Walk.{IsPast}
 use Rattle.explain.proofs.PlaceLemmas.{further}
 use Rattle.explain.proofs.ScanLemmas.{no_quote}
 
--- the text begins nowhere in this, before the rest
+-- `close` begins at no position of this text, which is before the rest
 abbrev Bare : List ℕ → List ℕ → List ℕ → Type 0
 Bare close [] rest = Unit {0}
 Bare close (c ∷ part) rest = (begins_with close (c ∷ (part ++ rest)) ≡ false) × Bare close part rest
@@ -42,7 +42,7 @@ hashes_plain (c ∷ p) all =
     let is : c ≡ 35 = eqb-true c 35 parts.0 in
     rw is (hashes_plain p parts.1)
 
--- where fewer hash signs stand than are wanted
+-- fewer hash signs than `need` do not begin with `need`
 fewer : (need signs rest : List ℕ) → list_all is_hash need ≡ true → first_passes is_hash rest ≡ false
     → length signs < length need → begins_with need (signs ++ rest) ≡ false
 fewer [] signs rest all stops short = absurd (omega arith)
@@ -56,7 +56,7 @@ fewer (c ∷ need) (d ∷ signs) rest all stops short =
     let more = fewer need signs rest parts.1 stops (omega (arith, short)) in
     grind (arith, more)
 
--- what doesn't begin with some hash signs doesn't begin with more
+-- text that doesn't begin with some hash signs doesn't begin with more
 more_signs : (a b text : List ℕ) → list_all is_hash a ≡ true → list_all is_hash b ≡ true → length a ≤ length b
     → begins_with a text ≡ false → begins_with b text ≡ false
 more_signs [] b text all also long none = absurd (both_ways _ none refl)
@@ -75,13 +75,13 @@ bare_more a b [] r all also long h = tt
 bare_more a b (c ∷ p) r all also long h =
     (grind (arith, h.0, more_signs a b (p ++ r) all also long), bare_more a b p r all also long h.1)
 
--- a quote with fewer hash signs after it
+-- a quote with fewer hash signs after it doesn't close
 bare_quote : (need signs r : List ℕ) → list_all is_hash need ≡ true → Stands (Run is_hash) signs r
     → length signs < length need → Bare (34 ∷ need) (34 ∷ signs) r
 bare_quote need signs r all run short =
     (fewer need signs r all run.stops short, bare_plain need signs r (hashes_plain signs run.each))
 
--- ---- in the words of rules
+-- ---- in terms of rules
 
 singles : List ℕ → List (List ℕ)
 singles [] = []
@@ -130,9 +130,9 @@ none_of signs text h = λ p r e is.
     e ∙ (ap (λ t. t ++ r) (is.whole ∙ ap (λ t. is.front ++ t) is.second) ∙ append_assoc is.front (34 ∷ signs) r) in
     bare_lacks (34 ∷ signs) is.front r (omega arith) (subst (λ t. Bare (34 ∷ signs) t []) whole h)
 
--- ---- the walk
+-- ---- the loop
 
--- a quote and its hash signs, the first with so many
+-- a quote and its hash signs, and no quote before it has so many
 pub record Found (inside from to : Cursor) : Type 0 where
   pub before : IsPast inside from
   pub signs : List ℕ
@@ -141,7 +141,7 @@ pub record Found (inside from to : Cursor) : Type 0 where
   pub run : Stands (Run is_hash) signs (chars to.rest.now)
   pub first : Bare (34 ∷ signs) before.part (chars from.rest.now)
 
--- none of those that were read has more
+-- no quote that was read has more hash signs
 abbrev pub Best : Cursor → List ℕ → List ℕ → Option (Cursor × Cursor) → Type 0
 Best inside part rest None = Bare (34 ∷ []) part rest
 Best inside part rest (Some x) = (found : Found inside x.0 x.1) × Bare (34 ∷ (35 ∷ found.signs)) part rest
@@ -167,7 +167,7 @@ sought_first inside at h =
       stops = is.1.stops;
     }
 
--- one quote more, with these hash signs
+-- one more quote, with these hash signs
 module _ (inside at to : Cursor) (signs : List ℕ) (past : IsPast inside at)
     (quote : chars at.rest.now ≡ (34 ∷ signs) ++ chars to.rest.now)
     (count : to.chars_before ≡ at.chars_before + length (34 ∷ signs))
@@ -232,7 +232,7 @@ sought_shorter at after to next opens run more =
       run_goes_on no_quote to next more,
     )
 
--- what was found stands between its cursors
+-- the quote that was found is between its two cursors
 pub best_ordered : (inside at : Cursor) (best : Option (Cursor × Cursor)) → Sought inside at best
     → IfSome best (λ x. x.0.chars_before ≤ x.1.chars_before)
 best_ordered inside at None h = tt

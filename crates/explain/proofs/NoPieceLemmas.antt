@@ -1,4 +1,4 @@
--- Where a reason holds no piece stands.
+-- Where a reason holds, no piece begins.
 use Rattle.std.proofs.Common.{◌≡◌, ℕ, Bool, true, false, ◌==◌, List, [], ◌∷◌, ◌++◌, Some, None, inl, inr, refl}
 use Rattle.std.proofs.Common.{sym, ap, ◌∙◌, eqb-true}
 use Rattle.std.proofs.lemmas.Bool.{both_ways, cond-false, false_from_ne_true, not-true, or_parts}
@@ -57,12 +57,12 @@ no_token_unfound first f p r is =
 
 -- ---- the law
 
--- a piece stands only where a front mark is called misplaced, which it isn't at the front of a text
+-- a piece begins only where a front mark is called misplaced, which it isn't at the start of a text
 abbrev Only : Reason → Kind → Type 0
 Only x kind = (kind ≡ FrontMark) × (x ≡ reasons.MisplacedMark)
 
 module _ (first : Bool) (kind : Kind) (q s : List ℕ) (piece : IsPiece first kind q s) where
-  -- what is found stands there
+  -- if no piece is found, none begins there
   not_found : (x : Reason) (text : List ℕ) → text ≡ q ++ s → found first text ≡ None → Only x kind
   not_found x text e none =
       let clash : ◌≡◌ {A = Found} None (Some (kind, q, s)) =

@@ -1,4 +1,4 @@
--- Where no number stands.
+-- Where no number begins.
 use Rattle.std.proofs.Common.{◌≡◌, ℕ, Bool, true, false, not, ◌+◌, cond, List, [], ◌∷◌, ◌++◌, codes, Some, None}
 use Rattle.std.proofs.Common.{arith}
 use Rattle.std.proofs.Common.{refl, sym, ap, ◌∙◌, subst}
@@ -30,7 +30,7 @@ use Rattle.explain.specs.Trouble.{IsTrouble}
 use Rattle.explain.specs.declared.reason.Reason.TheVariants.{BadDigit, BadNumberEnd, NoDigits}
 use Rattle.explain.proofs.TroubleLemmas.{trouble, trouble_here}
 
--- ---- what can't end a number
+-- ---- what can't follow a number
 
 stops : (passes : ℕ → Bool) (text : List ℕ) → first_passes passes (while_rest passes text) ≡ false
 stops passes [] = refl
@@ -68,7 +68,7 @@ pub end_at_end : find number_end [] ≡ None → (P : Type 0) → P
 unfolding find
 end_at_end none P = let clash : ◌≡◌ {A = Answer} (Some ([], [])) None = none in absurd (cc)
 
--- ---- the parts of a number, none of which is wanting but the last
+-- ---- the parts of a number, all of which match but the last
 
 behind_none : (p q : List ℕ) (o : Answer) → behind p o ≡ None → behind q o ≡ None
 behind_none p q None e = refl
@@ -130,7 +130,7 @@ past_bad end after c split count none plain =
     (bad_end c (chars after.rest.now) (subst (λ t. find number_end t ≡ None) split none)
     (subst (λ t. first_passes is_ascii_digit t ≡ false) split plain))
 
--- a number of a base is an integer
+-- a number with the prefix of a base is no number of another base
 apart_from : (at inside : Cursor) (prefix other : List ℕ) (rule : Rule) → Passes (Exactly prefix) at inside
     → ((rest : List ℕ) → begins_with other (prefix ++ rest) ≡ false)
     → find (Then (Exactly other) rule) (chars at.rest.now) ≡ None
@@ -226,7 +226,7 @@ module _ (base : Base) (at inside start : Cursor) (prefix : Passes (Exactly (bas
         (integer_passes base at inside end prefix (digits_pass none)) j
         (λ front part whole is. is)
 
--- ---- a decimal one
+-- ---- a decimal number
 
 pub no_prefix : (text : List ℕ) → find (Exactly (codes "0x")) text ≡ None → find (Exactly (codes "0o")) text ≡ None
     → find (Exactly (codes "0b")) text ≡ None → begins_any base_prefixes text ≡ false

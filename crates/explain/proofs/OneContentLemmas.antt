@@ -1,4 +1,4 @@
--- At most one thing is wrong first with a content.
+-- A content has at most one first error.
 use Rattle.std.proofs.Common.{◌≡◌, ℕ, true, false, not, ◌&&◌, ◌==◌, List, [], ◌∷◌, ◌++◌, codes}
 use Rattle.std.proofs.Common.{Result, Ok, Err, inl, inr, ◌⊎◌, refl, sym, ap, ap₂, ◌∙◌, subst, append_assoc}
 use Rattle.std.proofs.Common.{append-nil}
@@ -36,7 +36,7 @@ use Rattle.explain.proofs.Told.{quotes_front, raw_named}
 use Rattle.explain.proofs.ToldQuoteLemmas.{name_first, named_bars, named_is, no_both, no_opening, stops_at_hash}
 use Rattle.explain.proofs.ToldTextLemmas.{IsSigned, closed_whole, one_signed}
 
--- ---- units up to where none stands
+-- ---- units up to where there is none
 
 pub many_stop : (rule : Rule) → Clear rule → (us vs : List (List ℕ)) (x y : List ℕ) → Each (Stands rule) us x
     → Each (Stands rule) vs y → concat us ++ x ≡ concat vs ++ y → HasNone (Stands rule) x → HasNone (Stands rule) y
@@ -53,7 +53,7 @@ many_stop rule clear (u ∷ us) (v ∷ vs) x y each other e none last =
 
 -- ---- strings
 
--- up to the first fault stand units
+-- the text before the first error consists of units
 pub record IsPlace (kind : StringKind) (e : EscapeError) (text : List ℕ) : Type 0 where
   pub units : List (List ℕ)
   pub content : List ℕ
@@ -126,7 +126,7 @@ place_of kind e f p r is =
       all = closed_whole kind e f p r is;
     }
 
--- a fault is one
+-- the error that was read is determined
 pub one_fault : {U : Type 0} (read : Read U) (e o : EscapeError) (left rest : List ℕ) → read ≡ fault e left
     → read ≡ fault o rest → e ≡ o
 one_fault {U = U} read e o left rest is other =
@@ -143,7 +143,7 @@ one_string_fault kinds.Plain = one_given string_kind
 one_string_fault kinds.Byte = one_given byte_kind
 one_string_fault kinds.C = one_given c_kind
 
--- the content and what follows it are one
+-- the content and the text after it are determined
 pub one_rest : (kind : StringKind) (e o : EscapeError) (text : List ℕ) (is : IsPlace kind e text)
     (other : IsPlace kind o text) → (is.content ≡ other.content) × (is.tail ≡ other.tail)
 one_rest kind e o text is other =
@@ -221,7 +221,7 @@ raw_place_of kind e f p r is =
       gives = is.gives;
     }
 
--- a character that may stand there is one for the escaper
+-- for a character that may be in a raw string, the escaper reads a unit
 pub raw_taken : (kind : StringKind) (c : ℕ) → may_stand_raw kind c ≡ true → (c == 13) ≡ false
     → (u : ℕ) × (raw_character kind c ≡ Ok u)
 raw_taken kinds.Plain c may plain = (c, cond-false _ _ _ plain)
@@ -284,7 +284,7 @@ one_raw a b e o text is other =
 
 -- ---- characters and bytes
 
--- what stands between the quotes of a named character, by its own rule
+-- the text between the quotes of a character with a name in it matches one of these rules
 pub named_of : (p r : List ℕ) → Stands closed_named p r
     → Stands raw_named p r ⊎ (Stands plain_named p r ⊎ Stands digit_named p r)
 named_of p r (inl is) = inl is
@@ -321,7 +321,7 @@ module _ (text p r : List ℕ) (e : text ≡ p ++ r) where
   pub raw_text : Stands raw_named p r → (rest : List ℕ) × (text ≡ 39 ∷ 114 ∷ 35 ∷ rest)
   raw_text is = (_, e ∙ ap (λ t. t ++ r) (is.whole ∙ ap (λ t. t ++ is.back) is.first))
 
-  -- after the quote, what stands up to the other
+  -- the text after the first quote, up to the second
   quoted_text : (front back rest : List ℕ) → p ≡ front ++ back → front ≡ codes "'" → back ≡ rest ++ codes "'"
       → text ≡ 39 ∷ (rest ++ (39 ∷ r))
   quoted_text front back rest whole first last =
@@ -400,7 +400,7 @@ one_named text p q r s e o (inr (inr is)) (inr (inl other)) = absurd (not_plain_
 one_named text p q r s e o (inr (inr is)) (inr (inr other)) =
     (one_split digit_named (assumption) p q r s is other (sym e ∙ o)).0
 
--- what opens a character between quotes opens none that is named
+-- a text has no character of both rules `closed_single` and `closed_named`
 not_single_named : (text rest p q r s : List ℕ) → text ≡ 39 ∷ rest → text ≡ p ++ r → text ≡ q ++ s
     → Stands closed_single p r → Stands closed_named q s → ⊥
 not_single_named text rest p q r s lone e o is other =
@@ -418,13 +418,13 @@ one_character text rest p q r s lone e o (inr is) (inl other) =
 one_character text rest p q r s lone e o (inr is) (inr other) =
     one_named text p q r s e o (named_of p r is) (named_of q s other)
 
--- a byte is never named
+-- a byte literal never has a name in it by the rule `closed_named`
 pub byte_single : (text rest p r : List ℕ) → text ≡ codes "b'" ++ rest → text ≡ p ++ r → Stands closed_character p r
     → Stands closed_single p r
 byte_single text rest p r byte e (inl is) = is
 byte_single text rest p r byte e (inr is) = absurd (barred (codes "b'") closed_named refl rest p r is (sym e ∙ byte))
 
--- a character that ends begins the text, with a fault in its content
+-- the text begins with a character literal that is closed, with an error in its content
 pub record IsSinglePlace (kind : SingleKind) (e : EscapeError) (text : List ℕ) : Type 0 where
   pub content : List ℕ
   pub left : List ℕ
@@ -501,9 +501,9 @@ one_single singles.Byte singles.Character e o text is other =
     sym (single_place_front singles.Byte e text is) ∙ single_place_front singles.Character o text other in
     absurd (cc)
 
--- ---- all of them
+-- ---- all literals
 
--- the same, by the text alone
+-- the text begins with a literal that is closed, whose content has this error
 abbrev IsContentPlace : EscapeError → List ℕ → Type 0
 IsContentPlace e text =
     ((kind : StringKind) × IsPlace kind e text)

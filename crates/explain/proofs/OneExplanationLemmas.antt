@@ -1,4 +1,4 @@
--- At most one reason explains a source.
+-- A source has at most one explanation.
 use Rattle.std.proofs.Common.{◌≡◌, ◌⊎◌, ℕ, ◌+◌, Bool, true, false, not, codes, List, [], ◌∷◌, ◌++◌, length, Option}
 use Rattle.std.proofs.Common.{Some, None, IfSome}
 use Rattle.std.proofs.Common.{inl, inr, refl, sym, ap, ap₂, ◌∙◌, subst, arith, length-append}
@@ -33,9 +33,9 @@ use Rattle.explain.proofs.OnePlaceLemmas.{one_place, same_size}
 use Rattle.explain.proofs.Told.{content, sort, sort_is, told}
 use Rattle.explain.proofs.ToldTextLemmas.{at_front}
 
--- ---- one place
+-- ---- one position
 
--- fronts of one length are the same
+-- after beginnings of the same length, the rests are equal
 one_front : (a b r s : List ℕ) → a ++ r ≡ b ++ s → length a ≡ length b → r ≡ s
 one_front [] [] r s e size = e
 one_front [] (y ∷ b) r s e size = absurd (omega (arith, size))
@@ -58,7 +58,7 @@ longer first v vs r h e =
     let size : length v.1 ≡ 1 + length some.1 = omega (arith, ap length some.2) in
     omega (arith, ap length e, length-append v.1 (onto vs r), long.1, size)
 
--- the same pieces stand before the same rest
+-- only one list of pieces covers the text before the rest
 one_cover : (first : Bool) (us vs : List Piece) (r : List ℕ) → StandBefore first us r → StandBefore first vs r
     → onto us r ≡ onto vs r → us ≡ vs
 one_cover first [] [] r g h e = refl
@@ -68,9 +68,9 @@ one_cover first (u ∷ us) (v ∷ vs) r g h e =
     let same = one_piece first u.0 v.0 u.1 v.1 (onto us r) (onto vs r) g.0 h.0 e in
     ap₂ (λ y ys. y ∷ ys) (ap₂ (λ k p. (k, p)) same.0 same.1) (one_cover false us vs r g.1 h.1 same.2)
 
--- ---- what stands there
+-- ---- what begins at the fault
 
--- no reason holds where an opener is
+-- `NoToken` is the only reason of its sort
 no_token : (x : Reason) → sort x ≡ reasons.NoToken → x ≡ reasons.NoToken
 no_token x e = elim (sort_is x) [
   | inl here ↦ here ∙ e
@@ -78,6 +78,7 @@ no_token x e = elim (sort_is x) [
       let clash : ◌≡◌ {A = Reason} content reasons.NoToken = sym (ap sort there.1) ∙ e in absurd (cc)
 ]
 
+-- no reason holds where an opener is
 no_opener : (c : ℕ) (after : List ℕ) → is_opener c ≡ true → (x : Reason) (f p r : List ℕ) → Holds x f p r
     → f ++ (p ++ r) ≡ c ∷ after → ⊥
 no_opener c after opens x f p r holds e =
@@ -91,14 +92,14 @@ no_opener c after opens x f p r holds e =
     both_ways _ (ap not (or_left _ _ (or_left _ _ (or_left _ _ (or_left _ _ (or_right _ _ opens))))))
     (ap begins_nothing (sym first) ∙ one.2)
 
--- no closer is an opener
+-- no character is both an opener and a closer
 no_both : (c : ℕ) → is_opener c ≡ true → is_closer c ≡ true → ⊥
 no_both c opens closes =
     let clash : starts.Opener ≡ starts.Closer = sym (start_opener c opens) ∙ start_closer c closes in cc
 
--- ---- why a closer can't stand
+-- ---- why a closer is wrong
 
--- no opener waits, or one does
+-- either no opener is open and the closer is stray, or one is open and the closer is mismatched
 refused_for : (d : Delimiter) (reason : Reason) (innermost : Option Opener) → RefusesFor d reason innermost
     → ((reason ≡ reasons.StrayCloser) × (innermost ≡ None))
     ⊎ ((reason ≡ reasons.MismatchedCloser) × ((opener : Opener) × (innermost ≡ Some opener)))
@@ -108,7 +109,7 @@ refused_for d reasons.MismatchedCloser None is = absurd is
 refused_for d reasons.MismatchedCloser (Some opener) is = inr (refl, (opener, refl))
 refused_for d _ innermost is = absurd is
 
--- events leave openers open or none
+-- events can't leave an opener open and also leave none
 not_both_open : (events : List Event) (none some : List Waiting) (x : Option Opener) (a b : List Opener)
     → LeavesOpen events none → LeavesOpen events some → WaitsAs none None a → WaitsAs some x b → (opener : Opener)
     → x ≡ Some opener
@@ -129,7 +130,7 @@ module _ (base : ℕ) (source : List ℕ) (x y : Explained) (g : IsExplained bas
     rests : x.before.span.lo ≡ base + length g.behind → y.before.span.lo ≡ base + length h.behind → g.rest ≡ h.rest
     rests a b = one_front g.behind h.behind g.rest h.rest (sym g.whole ∙ h.whole) (omega (arith, a, b, place))
 
-    -- where an opener is left open it stands at the fault
+    -- if an opener is left open, the fault is where it begins
     record IsOpened (rest : List ℕ) : Type 0 where
       character : ℕ
       after : List ℕ
@@ -203,12 +204,12 @@ module _ (base : ℕ) (source : List ℕ) (x y : Explained) (g : IsExplained bas
           ]
         ]
 
--- ---- and what they tell of the place
+-- ---- the parts of the text in two explanations
 
 abbrev made : ℕ → ℕ → Extent → Stretch
 made start end span = record { start = start; end = end; span = span }
 
--- the stretch of a part is one
+-- the `Stretch` of a part of the text is determined
 one_stretch : (base : ℕ) (behind part : List ℕ) (s t : Stretch) → IsStretch base behind part s
     → IsStretch base behind part t
     → s ≡ t
@@ -293,7 +294,7 @@ module _ (base : ℕ) (source : List ℕ) (x y : Explained) (g : IsExplained bas
           mine.at ∙ (same ∙ sym said.at),
         )
 
--- what is told of the place is one
+-- two explanations have the same reason and the same parts of the text
 pub one_explanation : (base : ℕ) (source : List ℕ) (x y : Explained) → IsExplained base source x
     → IsExplained base source y → SameTold x y
 one_explanation base source x y g h = elim g.because [

@@ -1,4 +1,4 @@
--- A reason holds at one place of a text.
+-- A reason holds with one wrong part of a text only.
 use Rattle.std.proofs.Common.{◌≡◌, ℕ, Bool, true, false, not, List, [], ◌∷◌, ◌++◌, codes, length}
 use Rattle.std.proofs.Common.{inl, inr, refl, sym, ap, ap₂, ◌∙◌, subst, arith, length-append}
 use Rattle.std.specs.Char.{is_ascii_digit}
@@ -38,9 +38,9 @@ use Rattle.explain.proofs.Told.{Letters, Quotes, front_of, letters_front, quotes
 use Rattle.explain.proofs.ToldNumberLemmas.{bad_digit_whole, no_digits_whole, same_base}
 use Rattle.explain.proofs.ToldTextLemmas.{at_front, hashed_signed, long_opens, opening_signed}
 
--- ---- what begins the text
+-- ---- wrong parts at the start of the text
 
--- the place is the same
+-- the wrong part and the text before it are the same
 abbrev pub Same : List ℕ → List ℕ → List ℕ → List ℕ → Type 0
 Same f p g q = (f ≡ g) × (p ≡ q)
 
@@ -119,7 +119,7 @@ same_size (x ∷ a) (y ∷ b) r s e size =
     let first : x ≡ y = cc in
     (ap₂ (λ z t. z ∷ t) first more.0, more.1)
 
--- what follows a CR begins with LF where the text before another does
+-- if a text begins with a bare CR, the text before a later CR has a bare one
 not_first : (c : ℕ) (b r s : List ℕ) → 13 ∷ r ≡ c ∷ (b ++ (13 ∷ s)) → begins_with (codes "\n") r ≡ false
     → has_bare_return (c ∷ b) ≡ false → ⊥
 not_first c [] r s e plain none =
@@ -133,7 +133,7 @@ not_first c (d ∷ b) r s e plain none =
     let bare : begins_with (codes "\n") (d ∷ b) ≡ false = here in
     both_ways _ (ap (λ x. has_bare_return (x ∷ d ∷ b)) (sym first) ∙ none) (or_left _ _ (ap not bare))
 
--- a CR that no LF follows is the first only once
+-- only one CR is the first with no LF after it
 first_bare : (a b r s : List ℕ) → a ++ (13 ∷ r) ≡ b ++ (13 ∷ s) → begins_with (codes "\n") r ≡ false
     → begins_with (codes "\n") s ≡ false → has_bare_return a ≡ false → has_bare_return b ≡ false → a ≡ b
 first_bare [] [] r s e plain also none other = refl
@@ -165,7 +165,7 @@ bare_place f p r g q s is other e =
 
 -- ---- contents
 
--- of what was read, the part at fault is one
+-- the wrong part of what was read is determined
 one_part : (e : EscapeError) (a p b q : List ℕ) → IsAtFault e a p → IsAtFault e b q → a ++ p ≡ b ++ q → Same a p b q
 one_part e = by_last (is_of_last e)
   where
@@ -176,7 +176,7 @@ one_part e = by_last (is_of_last e)
         same_size a b p q same size
     by_last false a p b q is other same = (is ∙ sym other, ap (λ t. t ++ p) (sym is) ∙ (same ∙ ap (λ t. t ++ q) other))
 
--- and so is what is left
+-- the text that is left after an error is determined
 one_left : {U : Type 0} (read : Read U) (e : EscapeError) (left rest : List ℕ) → read ≡ fault e left
     → read ≡ fault e rest → left ≡ rest
 one_left read e left rest is other = ap (λ r. r.rest) (sym is ∙ other)
@@ -197,7 +197,7 @@ single_left : (kind : SingleKind) (e : EscapeError) (content left rest : List �
 single_left singles.Character e content left rest = one_left (single string_kind content) e left rest
 single_left singles.Byte e content left rest = one_left (single byte_kind content) e left rest
 
--- the same of two texts that are one
+-- equal texts have the same content, and the same text after it
 string_rests : (kind : StringKind) (e : EscapeError) (a b : List ℕ) → a ≡ b → (x : IsPlace kind e a)
     → (y : IsPlace kind e b) → (x.content ≡ y.content) × (x.tail ≡ y.tail)
 string_rests kind e a b same x =
@@ -243,7 +243,7 @@ bad_raw_place kind e f p r g q s is other same =
     let part : p ≡ q = is.one ∙ (ap (λ c. c ∷ []) first ∙ sym other.one) in
     (append_cancel_right f g (q ++ s) (ap₂ (λ a b. f ++ (a ++ b)) (sym part) (sym after) ∙ same), part)
 
--- the whole literal, or a part of its content
+-- the whole literal is wrong, or a part of its content
 single_place : (e : EscapeError) (whole : Bool) (front content left f p rest g q : List ℕ)
     → contents.IsSinglePlace whole e front content left f p → contents.IsSinglePlace whole e front content rest g q
     → left ≡ rest

@@ -1,4 +1,4 @@
--- Which block comments a walk over a text leaves open.
+-- Which block comments the loop over a text leaves open.
 use Rattle.std.proofs.Common.{◌≡◌, ℕ, ◌+◌, List, [], ◌∷◌, ◌++◌, codes, false, length, Option, Some, None, MatchOption}
 use Rattle.std.proofs.Common.{inl, inr, refl, sym, ap, ◌∙◌, subst, append_assoc, append-nil, arith, length-append}
 use Rattle.std.proofs.Common.{reverse}
@@ -35,7 +35,7 @@ join_at a b after rest same (Single c more e plain is) h =
 body_join : (a b after : List ℕ) → BlockBody a (b ++ after) → BlockBody b after → BlockBody (a ++ b) after
 body_join a b after is h = join_at a b after (b ++ after) refl is h
 
--- a comment begins at the first cursor, and isn't ended at the second
+-- a comment begins at the first cursor, and hasn't ended at the second
 pub record Inside (x at : Cursor) : Type 0 where
   pub body : List ℕ
   pub whole : chars x.rest.now ≡ (codes "/*" ++ body) ++ chars at.rest.now
@@ -47,14 +47,14 @@ abbrev pub Chain : Cursor → List Cursor → Cursor → Type 0
 Chain start [] at = at ≡ start
 Chain start (x ∷ outer) at = Inside x at × Chain start outer x
 
--- ---- what ended last
+-- ---- the comment that ended last
 
--- no comment ends from one cursor to the other
+-- no comment ends between the two cursors
 pub record Plain (from at : Cursor) : Type 0 where
   pub past : IsPast from at
   pub many : Many (Stands open_unit) past.part (chars at.rest.now)
 
--- this comment ended
+-- a comment ended, which is between the cursors `from` and `to`
 pub record Ended (start from to : Cursor) : Type 0 where
   pub outer : List Cursor
   pub chain : Chain start outer from
@@ -85,7 +85,7 @@ told_more : (start at to : Cursor) (closed : Option (Cursor × Cursor)) → Told
 told_more start at to None h past is = plain_more start at to h past is
 told_more start at to (Some x) h past is = (h.0, plain_more x.1 at to h.1 past is)
 
--- ---- all of it
+-- ---- the whole loop
 
 pub record Walked (start at : Cursor) (opened : List Cursor) (closed : Option (Cursor × Cursor)) : Type 0 where
   pub chain : Chain start (reverse opened) at
@@ -134,7 +134,7 @@ module _ (start : Cursor) (more : List ℕ) (begins : chars start.rest.now ≡ c
         (inr ((sign.0, refl, refl), ap (begins_any block_signs) (sym sign.1) ∙ sign.3));
   }
 
-  -- what ends a comment has one to end
+  -- if a comment ends, one was open
   pub walk_has_open : (at to : Cursor) (opened : List Cursor) (closed : Option (Cursor × Cursor))
       → Walked start at opened closed → IsSign Closes at to → opened ≡ [] → ⊥
   walk_has_open at to opened closed h sign e =
@@ -209,7 +209,7 @@ module _ (start : Cursor) (more : List ℕ) (begins : chars start.rest.now ≡ c
           );
         }
 
--- ---- where the text ends
+-- ---- the end of the text
 
 record Open (start at : Cursor) (depth : ℕ) : Type 0 where
   past : IsPast start at

@@ -1,4 +1,4 @@
--- The openers that wait for a closer.
+-- The openers that no closer matches.
 use Rattle.pm_stream.specs.Events.{Opens}
 use Rattle.pm_stream.specs.Forest.{Forest, flattening}
 use Rattle.std.proofs.Common.{List, [], ◌∷◌}
@@ -7,7 +7,7 @@ use Rattle.pm_stream.specs.Reading.{openers_of}
 use Rattle.pm_stream.proofs.EventLemmas.{unclosed-append, flattening_balanced}
 use Rattle.explain.specs.Open.{LeavesOpen}
 
--- the openers that are left open of what was written
+-- the events of open groups leave the openers of these groups open
 pub leaves_open : (groups : List Opened) (trees : Forest)
     → LeavesOpen (unclosed_onto groups trees []) (openers_of groups)
 leaves_open [] trees = flattening_balanced trees

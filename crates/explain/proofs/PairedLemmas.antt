@@ -17,7 +17,7 @@ use Rattle.explain.proofs.EscapeLemmas.{hex_same}
 abbrev pub is_alone : ℕ → Bool
 is_alone c = not (is_one_of (codes "\"\\") c)
 
--- the text is pairs
+-- the text consists of pairs
 abbrev pub Paired : List ℕ → Type 0
 Paired [] = Unit {0}
 Paired (c ∷ []) = is_alone c ≡ true
@@ -41,7 +41,7 @@ pub paired_of : (us : List (List ℕ)) (r : List ℕ) → Each (Stands pair) us 
 paired_of [] r each = tt
 paired_of (u ∷ us) r each = pair_more u (concat us ++ r) (concat us) each.0 (paired_of us r each.1)
 
--- ---- what follows pairs
+-- ---- the text after pairs
 
 pub past_alone : (c : ℕ) (text : List ℕ) → is_alone c ≡ true → Paired (c ∷ text) → Paired text
 past_alone c [] alone is = tt
@@ -255,9 +255,9 @@ pairs_of (c ∷ (d ∷ text)) r (inr is) =
       );
     }
 
--- ---- what stands before the quote
+-- ---- the text before the quote
 
--- text without `"` and backslash stands before the first `"`
+-- text without `"` and backslash comes before the first `"`
 pub before_quote : (front more left tail : List ℕ) → list_all is_alone front ≡ true
     → front ++ more ≡ left ++ (34 ∷ tail)
     → (rest : List ℕ) × (left ≡ front ++ rest) × (more ≡ rest ++ (34 ∷ tail))

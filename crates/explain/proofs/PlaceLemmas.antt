@@ -1,4 +1,4 @@
--- What is at fault, between two cursors.
+-- The wrong part of the text, between two cursors.
 use Rattle.std.proofs.Common.{◌≡◌, ℕ, ◌+◌, ◌<◌, ◌≤◌, true, false, List, [], ◌∷◌, ◌++◌, length, refl, sym, ap, ◌∙◌}
 use Rattle.std.proofs.Common.{subst, append_assoc, arith, length-append}
 use Rattle.std.specs.Str.{chars}
@@ -62,7 +62,7 @@ last_is at last end is near =
       count = omega (arith, is.some, is.after.count);
     }
 
--- ---- what is at fault
+-- ---- the wrong part
 
 pub faulty_last : (at after last : Cursor) (e : EscapeError) → is_of_last e ≡ true → IsLast at after last
     → IsFaulty e at after (record { reason = Content e; at = last; after = after })

@@ -1,4 +1,4 @@
--- What is wrong with the content of a raw string that ends.
+-- The error in the content of a raw string that is closed.
 use Rattle.std.proofs.Common.{◌≡◌, ℕ, ◌+◌, ◌<◌, ◌≤◌, true, false, not, ◌&&◌, ◌==◌, List, [], ◌∷◌, ◌++◌}
 use Rattle.std.proofs.Common.{codes, length, Some, None, Err, inl, inr, refl, sym, ap, ◌∙◌, subst, append_assoc}
 use Rattle.std.proofs.Common.{append-nil, arith, length-append}
@@ -35,7 +35,7 @@ use Rattle.explain.proofs.QuoteLemmas.{clear_closed, raw_some}
 use Rattle.explain.proofs.ScanLemmas.{clear_raw, leads_self}
 use Rattle.explain.proofs.StringLemmas.{behind_none, many_more}
 
--- what closes a literal is found where it stands
+-- the end of a literal is found where it is
 pub closes_text : (front text rest : List ℕ) → text ≡ front ++ rest → find (close front) text ≡ None → ⊥
 unfolding find
 closes_text front text rest e none =
@@ -58,7 +58,7 @@ module _ (kind : StringKind) (signs : List ℕ) where
 
   -- ---- what is left of the content
 
-  -- what closes it begins nowhere in this, before the tail
+  -- what closes the string begins nowhere in this text, before the tail
   abbrev Clean : List ℕ → List ℕ → Type 0
   Clean [] tail = Unit {0}
   Clean (c ∷ left) tail = (begins_with ends (c ∷ (left ++ tail)) ≡ false) × Clean left tail
@@ -73,7 +73,7 @@ module _ (kind : StringKind) (signs : List ℕ) where
         clean_of units tail each.1,
       )
 
-  -- up to what closes it stands this content
+  -- this content is left up to what closes the string
   pub record RawLeft (place end : Cursor) : Type 0 where
     pub left : List ℕ
     pub whole : chars place.rest.now ≡ left ++ (ends ++ chars end.rest.now)
@@ -148,7 +148,7 @@ module _ (kind : StringKind) (signs : List ℕ) where
       → length (chars after.rest.now) < length (chars place.rest.now)
   raw_shorter = unit_shortens unit (close ends) (clear_raw_body kind ends)
 
-  -- ---- where no unit stands
+  -- ---- where there is no unit
 
   no_unit_closes : (start place end : Cursor) → ReadRaw start place → find body (chars start.rest.now) ≡ None
       → find unit (chars place.rest.now) ≡ None → chars place.rest.now ≡ ends ++ chars end.rest.now → ⊥
@@ -161,7 +161,7 @@ module _ (kind : StringKind) (signs : List ℕ) where
       (sym (ap (and_find (find (close ends))) ended)
       ∙ behind_none h.leads.front (find body (chars place.rest.now)) (sym h.leads.found ∙ none)))
 
-  -- the character there
+  -- a character that is no unit
   pub record RawStop (c : ℕ) (text : List ℕ) : Type 0 where
     pub bars : (may_stand_raw kind c && not (c == 13)) ≡ false
     pub apart : begins_with (codes "\r\n") (c ∷ text) ≡ false
@@ -196,7 +196,7 @@ module _ (kind : StringKind) (signs : List ℕ) where
       by_left [] e = absurd (cc)
       by_left (d ∷ left) e = absurd (cc)
 
--- ---- what is wrong with it
+-- ---- the error
 
 module _ (kind : StringKind) (at inside quote start : Cursor) (letters : Passes (Exactly (raw_front kind)) at inside)
     (run : Passes (Run is_hash) inside quote) (opens : Passes (Exactly (codes "\"")) quote start)

@@ -1,4 +1,4 @@
--- Steps up to what closes a literal.
+-- Steps up to the end of a literal.
 use Rattle.std.proofs.Common.{◌≡◌, ℕ, ◌+◌, Bool, true, false, not, ◌==◌, ◌||◌, List, [], ◌∷◌, ◌++◌}
 use Rattle.std.proofs.Common.{Option, Some}
 use Rattle.std.proofs.Common.{None, refl, sym, ap, ◌∙◌, subst, arith, eqb-true}
@@ -27,13 +27,13 @@ pub reads_last : (rule rest : Rule) (at mid : Cursor) (result : Option Cursor) �
 reads_last rule rest at mid None h none = leads_fails rule rest at mid None refl h none
 reads_last rule rest at mid (Some to) h j = leads_passes rule rest at mid to h j
 
--- where none is read none stands
+-- if the rule finds no match, it has none
 pub none_stands : (rule : Rule) → Clear rule → (text front part r : List ℕ) → find rule text ≡ None
     → text ≡ front ++ (part ++ r) → HasNone (Stands rule) (front ++ (part ++ r))
 none_stands rule clear text front part r none e =
     none_is (find rule) (Stands rule) (exact rule clear) (front ++ (part ++ r)) (subst (λ t. find rule t ≡ None) e none)
 
--- ---- what stands for itself
+-- ---- characters that are their own units
 
 abbrev pub other_than : ℕ → ℕ → ℕ → Bool
 other_than a b c = not (c == a || c == b)

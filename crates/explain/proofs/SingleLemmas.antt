@@ -1,4 +1,4 @@
--- What is wrong with the content of a character or a byte that ends.
+-- The error in the content of a character or byte literal that is closed.
 use Rattle.std.proofs.Common.{◌≡◌, ℕ, ◌+◌, ◌≤◌, Bool, true, false, ◌||◌, ◌==◌, List, [], ◌∷◌, ◌++◌}
 use Rattle.std.proofs.Common.{codes, drop, take, length, Some, None, Result, Ok, Err, inl, inr, refl, sym, ap}
 use Rattle.std.proofs.Common.{◌∙◌}
@@ -45,7 +45,7 @@ use Rattle.explain.proofs.EscapeLemmas.{Allows, byte_allows, escape_is, string_a
 use Rattle.explain.proofs.NumberLemmas.{none_after, none_behind}
 use Rattle.explain.proofs.RawLemmas.{closes_text}
 
--- ---- what the escaper answers
+-- ---- what the escaper returns
 
 module _ {U : Type 0} (range : Range ℕ) where
   by_none : (o : Result U EscapeError) → at_most_one (error_at range o) ≡ [] → (u : U) × (o ≡ Ok u)
@@ -77,7 +77,7 @@ some_fault singles.Byte text r e more is =
     is in
     (ap (λ x. x.end) both.0, both.1)
 
--- ---- what nothing is wrong with stands
+-- ---- a literal whose content has no error matches its rule
 
 only_ok : {U : Type 0} (o : Result U EscapeError) (rest : List ℕ) (u : U) → (only o rest).unit ≡ Ok u
     → (o ≡ Ok u) × (rest ≡ [])
@@ -131,7 +131,7 @@ module _ {U : Type 0} (kind : Kind U) (strings : StringKind) (are : Allows kind 
     single_is [] h = absurd (cc)
     single_is (c ∷ text) h = (cond_both (c == 92) _ _ (Is c text) (escaped_is c text) (plain_is c text)) h
 
--- so the literal is found
+-- a closed literal whose content is one unit is found
 module _ (front : List ℕ) (plain : ℕ → Bool) (escapes : Rule) (clear : Clear (unit_of plain escapes)) where
   found_single : (at inside : Cursor) (text more : List ℕ) → Passes (Exactly front) at inside
       → chars inside.rest.now ≡ text ++ (39 ∷ more) → Stands (unit_of plain escapes) text (39 ∷ more)
@@ -176,7 +176,7 @@ front_ends : {U : Type 0} (kind : Kind U) (c : ℕ) (text : List ℕ) → IsEnd 
 front_ends {U = U} kind c text =
     cond_both (c == 92) _ _ (λ (read : Read U). IsEnd text read.rest) (λ e. escape_end kind text) (λ e. end_whole text)
 
--- what was read of the content, and what is left of it
+-- what was read of the content, and what is left
 record IsSingleRead {U : Type 0} (kind : Kind U) (e : EscapeError) (text : List ℕ) (size : ℕ) : Type 0 where
   part : List ℕ
   whole : text ≡ part ++ (single kind text).rest
@@ -208,7 +208,7 @@ single_read kind e (c ∷ text) size given =
       gives = given.1;
     }
 
--- the same, by the kind
+-- for this kind of literal, what was read of the content, and what is left
 pub record IsReadFor (kind : SingleKind) (e : EscapeError) (text : List ℕ) (size : ℕ) : Type 0 where
   pub part : List ℕ
   pub rest : List ℕ
@@ -238,7 +238,7 @@ read_for singles.Byte e text size given =
       gives = ap (λ u. record { unit = u; rest = (single byte_kind text).rest }) is.gives;
     }
 
--- ---- where it stands
+-- ---- the wrong part
 
 module _ (kind : SingleKind) (e : EscapeError) (at inside end : Cursor) (text : List ℕ) (size : ℕ)
     (opens : Passes (Exactly (single_front kind)) at inside) (past : IsPast at end)

@@ -1,4 +1,4 @@
--- Where the openers stand that wait for a closer.
+-- Where the openers are that no closer matches.
 use Rattle.std.proofs.Common.{◌≡◌, ℕ, List, [], ◌∷◌, ◌++◌, Option, Some, None, IfSome, reverse, sym, subst}
 use Rattle.std.specs.List.{AllByRecursion}
 use Rattle.std.proofs.lemmas.List.{reverse-append, reverse-reverse}
@@ -7,7 +7,7 @@ use Rattle.explain.specs.Open.{Loses}
 use Rattle.explain.specs.declared.explained.Explained.{Explained}
 use Rattle.explain.specs.declared.explained.Opener.{Opener}
 
--- each opener in the answer is in the text, at the bytes and the span that the answer gives for it
+-- each opener in the explanation is in the text, with its own delimiter, bytes and span
 abbrev pub AllStand : ℕ → List ℕ → Explained → Type 0
 AllStand base source x =
     IfSome x.innermost (IsOpenerOf base source) × AllByRecursion (IsOpenerOf base source) x.outer.items
@@ -26,7 +26,7 @@ module _ (P : Opener → Type 0) where
   all_less [] x all = (all.0, tt)
   all_less (o ∷ openers) x all = let more = all_less openers x all.1 in (more.0, (all.0, more.1))
 
-  -- where the innermost is taken out
+  -- a property of all openers holds of the innermost one and of the others
   pub all_lost : (all : List Opener) (innermost : Option Opener) (outer : List Opener) → Loses all innermost outer
       → AllByRecursion P all → IfSome innermost P × AllByRecursion P outer
   all_lost all None outer lost is = (tt, all_none outer lost.1)

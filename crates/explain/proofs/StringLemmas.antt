@@ -1,4 +1,4 @@
--- What is wrong with the content of a string that ends.
+-- The error in the content of a string that is closed.
 use Rattle.std.proofs.Common.{◌≡◌, ℕ, ◌<◌, List, [], ◌∷◌, ◌++◌, codes, false, length, Some, None, inl, refl, sym, ap}
 use Rattle.std.proofs.Common.{◌∙◌, subst, append_assoc, append-nil, arith, length-append}
 use Rattle.std.specs.List.{concat}
@@ -118,7 +118,7 @@ pub unit_shorter : (kind : StringKind) (place after : Cursor) → Passes (unit k
     → length (chars after.rest.now) < length (chars place.rest.now)
 unit_shorter kind = unit_shortens (unit kind) (close (codes "\"")) (clear_body kind)
 
--- ---- a string of units only is one
+-- ---- a closed body that has only units is a string's
 
 closes : (text : List ℕ) → find (close (codes "\"")) (34 ∷ text) ≡ None → ⊥
 unfolding find
@@ -155,7 +155,7 @@ not_whole kind at place end h whole none =
     (behind_none h.leads.front (find (body (unit kind) (codes "\"")) (chars place.rest.now))
     (sym h.leads.found ∙ none)))
 
--- ---- what is wrong with it
+-- ---- the error
 
 pub bad_string : (kind : StringKind) (e : EscapeError) (at inside place after end : Cursor) (x : Trouble)
     → Passes (Exactly (string_front kind)) at inside → Passes closed_body inside end → ReadUnits kind at place

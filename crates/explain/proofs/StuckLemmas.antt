@@ -1,4 +1,4 @@
--- What the first character tells where no piece stands.
+-- What the first character says where no piece begins.
 use Rattle.std.proofs.Common.{◌≡◌, ℕ, ◌+◌, Bool, true, false, not, ◌&&◌, ◌==◌, cond, List, [], ◌∷◌, ◌++◌, codes}
 use Rattle.std.proofs.Common.{Some}
 use Rattle.std.proofs.Common.{None, IfSome, inl, inr, refl, sym, ap, ◌∙◌, subst, arith, eqb-true}
@@ -44,7 +44,7 @@ use Rattle.explain.proofs.QuoteLemmas.{name_none}
 use Rattle.explain.proofs.ScanLemmas.{none_stands}
 use Rattle.explain.proofs.TroubleLemmas.{trouble_here}
 
--- where no piece stands none is found
+-- where no piece begins, none is found
 pub none_found : (first : Bool) (text : List ℕ) → HasNoPiece first text → found first text ≡ None
 none_found first text none =
     (elim (found first text) as (λ o. IfSome o (λ x. (text ≡ x.1 ++ x.2) × IsPiece first x.0 x.1 x.2) → o ≡ None) [
@@ -64,7 +64,7 @@ pub no_number : (first : Bool) (c : ℕ) (text rest : List ℕ) → text ≡ c �
     → found first text ≡ None → find number text ≡ None
 no_number first c text rest e s none = untagged (find number text) (sym (at_start first starts.Digit e s) ∙ none)
 
--- ---- what is not found
+-- ---- pieces that are not found
 
 or_found_none : (o u : Found) → or_found o u ≡ None → (o ≡ None) × (u ≡ None)
 or_found_none None u e = (refl, e)
@@ -109,7 +109,7 @@ comment_none first c text rest e s none = by_front (begins_any comment_fronts te
         sym some ∙ untagged_by mark_kind (find mark text) h in
         absurd (cc)
 
--- the literals that a literal between quotes may be
+-- no literal with quotes is found
 pub record HasNoLiteral (text : List ℕ) : Type 0 where
   pub strings : (kind : StringKind) → find (cooked kind) text ≡ None
   pub raw_strings : (kind : StringKind) → find (raw_string kind) text ≡ None
@@ -132,7 +132,7 @@ no_literal text none =
       bytes = last.0;
     }
 
--- one character that is this one
+-- the cursor is past this one character
 pub past_one : (d c : ℕ) (at after : Cursor) → chars at.rest.now ≡ c ∷ chars after.rest.now
     → after.chars_before ≡ at.chars_before + 1 → (c == d) ≡ true → Passes (Exactly (d ∷ [])) at after
 past_one d c at after split count is =
@@ -145,7 +145,7 @@ misplaced c at after split count s =
     trouble_here (Exactly (0xFEFF ∷ [])) tt at after MisplacedMark
     (past_one 0xFEFF c at after split count (of_start starts.FrontMark c s)) (λ front part whole is. is)
 
--- a character that starts otherwise is of none of the classes
+-- a character that begins no piece is in none of the classes
 none_of : (s : PieceStart) (c : ℕ) (b : Bool) → starts.Other ≡ piece_start c → (b ≡ true → piece_start c ≡ s)
     → (starts.Other ≡ s → ⊥)
     → b ≡ false
@@ -197,7 +197,7 @@ unclosed_comment at after h none =
           (or_none _ _ (sym (find_either line_comment block_comment (chars at.rest.now)) ∙ none)).1 whole,
     ))
 
--- ---- where a piece always stands
+-- ---- where a piece always begins
 
 some_of : (A B : Type 0) (x : List ℕ × List ℕ) (o : Answer) → o ≡ Some x → o ≡ None → ⊥
 some_of A B x o some none = let clash : ◌≡◌ {A = Answer} (Some x) None = sym some ∙ none in absurd (cc)
@@ -251,7 +251,7 @@ mark_stands first c text rest e s none =
     no_comment : (c : ℕ) (rest : List ℕ) → (c == 47) ≡ false → begins_any comment_fronts (c ∷ rest) ≡ false
     no_comment c rest other = grind (arith, other)
 
--- where a letter does, and no literal begins so, an identifier stands
+-- where a letter is that begins no prefix of a literal, an identifier begins
 pub identifier_stands : (text : List ℕ) → begins_any literal_prefixes text ≡ false
     → begins_with (codes "r#") text ≡ false → first_passes is_ident_start text ≡ true
     → found_identifier text ≡ None → ⊥

@@ -1,4 +1,4 @@
--- An escape or a unit of the grammar is one for the escaper.
+-- An escape or a unit of the grammar is also one for the escaper.
 use Rattle.std.proofs.Common.{◌≡◌, ℕ, ◌*◌, ◌+◌, ◌<◌, Bool, true, false, not, ◌&&◌, ◌||◌, ◌==◌, nat_lt, nat_le}
 use Rattle.std.proofs.Common.{List, [], ◌∷◌, ◌++◌, codes, length, Result, Ok, Err, inl, inr, refl, sym, ap, ap₂, ◌∙◌}
 use Rattle.std.proofs.Common.{subst}
@@ -27,20 +27,20 @@ use Rattle.explain.specs.Content.{GivesFault, StringFault, line_ends}
 use Rattle.explain.proofs.EscapeLemmas.{digits_same, hex_same, number_same, passes_same, past_hexdigit}
 use Rattle.explain.proofs.PairedLemmas.{IsPairOf, Paired, before_quote, code_alone, hex_alone, pair_of}
 
--- ---- what is taken
+-- ---- what the escaper takes
 
--- the escaper makes a unit of it, and leaves this
+-- the escaper reads a unit, and this text is left
 abbrev pub Takes : {U : Type 0} → Read U → List ℕ → Type 0
 Takes {U = U} read rest = (u : U) × (read ≡ record { unit = Ok u; rest = rest })
 
--- and no fault
+-- where the escaper reads a unit, it reads no error
 pub no_fault : {U : Type 0} (read : Read U) (e : EscapeError) (rest left : List ℕ) → Takes read rest
     → read ≡ fault e left → ⊥
 no_fault {U = U} read e rest left takes is =
     let clash : ◌≡◌ {A = Result U EscapeError} (Ok takes.0) (Err e) = ap (λ r. r.unit) (sym takes.1 ∙ is) in
     cc
 
--- what each kind of string makes of what the grammar allows in it
+-- the kind of string makes units of everything that the grammar allows in it
 pub record TakesAll {U : Type 0} (kind : Kind U) (strings : StringKind) : Type 0 where
   pub by_letter : (c : ℕ) (text : List ℕ) → is_one_of (letters strings) c ≡ true → Takes (escape kind (c ∷ text)) text
   pub by_pair : (ds r : List ℕ) (is : IsPairOf ds) → Stands (rule.pair strings) ds r
@@ -294,7 +294,7 @@ c_takes = record {
     not_zero false e = refl
     not_zero true e = absurd (both_ways _ refl e)
 
--- ---- no unit stands where the escaper reads a fault
+-- ---- where the escaper reads an error, there is no unit
 
 no_unit_by : {U : Type 0} (kind : Kind U) (strings : StringKind) → TakesAll kind strings → (e : EscapeError)
     (content left tail : List ℕ) → GivesFault kind e content left → Paired content

@@ -1,4 +1,4 @@
--- The one reason that can hold where a text begins, whatever is wrong with a content.
+-- The one sort of reason that can hold of a text. All errors of contents are of one sort.
 use Rattle.std.proofs.Common.{◌≡◌, ℕ, Bool, true, false, ◌==◌, ◌||◌, cond, List, [], ◌∷◌, ◌++◌, codes, Some, None}
 use Rattle.std.proofs.Common.{inl, inr, refl, sym, ap, ◌∙◌, ◌⊎◌}
 use Rattle.std.specs.Prelude.{is_some}
@@ -25,10 +25,10 @@ use Rattle.explain.specs.Shapes.{long_opening, raw_lifetime_start, raw_name_star
 use Rattle.explain.specs.declared.reason.Reason.{Reason}
 use Rattle.explain.specs.declared.reason.Reason.TheVariants as reasons
 
--- ---- how a text begins
+-- ---- the beginning of a text
 
--- what stands before what is at fault: a comment, a string or a raw string of a kind, a byte, a quote, a number,
--- U+FEFF, or what begins nothing
+-- how a text begins: with a comment, a string or a raw string of some kind, a byte, a quote, a number, U+FEFF, or with
+-- none of these
 pub data Front : Type 0 where
   Slash : Front
   Quotes : StringKind → Front
@@ -39,13 +39,13 @@ pub data Front : Type 0 where
   Misplaced : Front
   Other : Front
 
--- after `b`
+-- how a text begins, by what follows its `b`
 abbrev pub after_b : List ℕ → Front
 after_b [] = Other
 after_b (d ∷ text) =
     cond (d == 34) (Quotes Byte) (cond (d == 39) Bytes (cond (d == 114) (Letters Byte) Other))
 
--- after `c`
+-- how a text begins, by what follows its `c`
 abbrev pub after_c : List ℕ → Front
 after_c [] = Other
 after_c (d ∷ text) = cond (d == 34) (Quotes C) (cond (d == 114) (Letters C) Other)
@@ -62,9 +62,9 @@ front_of (c ∷ text) =
     (cond (c == 114) (Letters Plain)
     (cond (c == 0xFEFF) Misplaced Other)))))))
 
--- ---- the reason that is left
+-- ---- the sort of reason that is left
 
--- whether a piece of the rule stands there
+-- whether the rule has a match at the start of the text
 abbrev pub has : Rule → List ℕ → Bool
 has rule text = is_some (find rule text)
 
@@ -72,7 +72,7 @@ has rule text = is_some (find rule text)
 abbrev pub bare : Rule
 bare = Either (bare_prefix Binary) (Either (bare_prefix Octal) (bare_prefix Hexadecimal))
 
--- a character that ends, by what stands between its quotes: a raw name, a name, or what begins with a digit
+-- a character literal that is closed, with a raw name between its quotes, a name, or a word that begins with a digit
 abbrev pub raw_named : Rule
 raw_named = Then (Exactly (codes "'r#")) (Then name (Exactly (codes "'")))
 
@@ -83,11 +83,11 @@ abbrev pub digit_named : Rule
 digit_named =
     Then (Exactly (codes "'")) (Then (Then (One is_ascii_digit) (Run is_ident_continue)) (Exactly (codes "'")))
 
--- whether one of them stands there
+-- whether a character literal with a name or a digit between its quotes begins the text
 abbrev pub has_named : List ℕ → Bool
 has_named text = has raw_named text || (has plain_named text || has digit_named text)
 
--- that of a content, whatever is wrong with it
+-- the sort of all errors of contents
 abbrev pub content : Reason
 content = reasons.Content ZeroChars
 
@@ -113,17 +113,17 @@ told_from Other text = reasons.NoToken
 abbrev pub told : List ℕ → Reason
 told text = told_from (front_of text) text
 
--- whatever is wrong with a content
+-- the sort of a reason, which forgets the error of a content
 abbrev pub sort : Reason → Reason
 sort (reasons.Content e) = content
 sort reason = reason
 
--- a reason is that of a content, or its own sort
+-- a reason is its own sort, or an error of a content
 pub sort_is : (x : Reason) → (x ≡ sort x) ⊎ ((e : EscapeError) × (x ≡ reasons.Content e))
 sort_is (reasons.Content e) = inr (e, refl)
 sort_is x = inl refl
 
--- two reasons of one sort are the same, or those of contents
+-- two reasons of one sort are equal, or both are errors of contents
 pub one_sort : (x y : Reason) → sort x ≡ sort y
     → (x ≡ y) ⊎ ((e : EscapeError) × (o : EscapeError) × (x ≡ reasons.Content e) × (y ≡ reasons.Content o))
 one_sort x y same = elim (sort_is x) [
@@ -137,7 +137,7 @@ one_sort x y same = elim (sort_is x) [
   ]
 ]
 
--- ---- whether a piece stands
+-- ---- whether a rule has a match
 
 pub stands_has : (rule : Rule) → Clear rule → (text p r : List ℕ) → text ≡ p ++ r → Stands rule p r
     → has rule text ≡ true
@@ -155,7 +155,7 @@ pub not_lacks_has : (rule : Rule) → Clear rule → (text : List ℕ) → (HasN
 not_lacks_has rule clear text some = true_from_ne_false _ (λ e.
     some (none_is (find rule) (Stands rule) (exact rule clear) text (none_of (find rule text) e)))
 
--- ---- what each front tells
+-- ---- the sort of reason for each beginning
 
 module _ (text : List ℕ) (s : Front) (from : front_of text ≡ s) where
   pub by_front : told text ≡ told_from s text

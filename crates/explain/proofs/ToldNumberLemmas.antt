@@ -19,7 +19,7 @@ use Rattle.explain.proofs.ToldTextLemmas.{at_front}
 
 -- ---- bases
 
--- one base begins a text
+-- a text begins with the prefix of one base only
 one_base : (P : Base → Base → Type 0) (a b : Base) (x y : List ℕ) → base_prefix a ++ x ≡ base_prefix b ++ y
     → P Binary Binary → P Octal Octal → P Hexadecimal Hexadecimal → P a b
 one_base P Binary Binary x y e two eight sixteen = two
@@ -77,9 +77,9 @@ base_front_of base text rest e =
     let digit = base_digit base rest in
     digits_front 48 text digit.0 (e ∙ digit.1) refl
 
--- ---- what stands after a prefix
+-- ---- the text after a prefix
 
--- an integer of the base
+-- if no digits of the base follow its prefix, there is no integer
 no_integer : (base : Base) (text rest : List ℕ) → text ≡ base_prefix base ++ rest
     → HasNone (Stands (digits_in (radix base))) rest → HasNone (Stands integer) text
 no_integer base text rest e none p r split (inl is) =
@@ -96,7 +96,7 @@ no_integer base text rest e none p r split (inr is) =
     (sym e ∙ (split ∙ (after ∙ ap (λ b. base_prefix b ++ (inner.back ++ r)) same))) in
     none inner.back r cut (subst (λ b. Stands (digits_in (radix b)) inner.back r) same inner.second)
 
--- `_`s, and then no digit that goes on
+-- the prefix of a base is not bare if a digit follows it and its `_`
 no_bare : (base : Base) (text rest : List ℕ) → text ≡ base_prefix base ++ rest
     → ((z r : List ℕ) → rest ≡ z ++ r → Stands (Run is_underscore) z r → first_passes (goes_on_base base) r ≡ false → ⊥)
     → HasNone (Stands bare) text
@@ -112,7 +112,7 @@ no_bare base text rest e none p r split is =
     (sym e ∙ (split ∙ (after ∙ ap (λ b. base_prefix b ++ (inner.back ++ r)) same))) in
     none inner.back r cut inner.second (subst (λ b. first_passes (goes_on_base b) r ≡ false) same at.1.1)
 
--- digits of the base go on
+-- the digits of a base begin with a character that `goes_on_base` allows
 digits_go_on : (base : Base) (p r : List ℕ) → Stands (base_digits (radix base)) p r
     → first_passes (goes_on_base base) (p ++ r) ≡ true
 digits_go_on base p r is =

@@ -1,4 +1,4 @@
--- The reasons of what begins with a quote.
+-- The reasons of texts that begin with a quote.
 use Rattle.std.proofs.Common.{◌≡◌, ℕ, true, false, ◌||◌, List, [], ◌∷◌, ◌++◌, codes}
 use Rattle.std.proofs.Common.{inl, inr, refl, sym, ap, ◌∙◌, subst, arith, append_assoc}
 use Rattle.std.specs.Char.{is_ascii_digit}
@@ -30,7 +30,7 @@ pub no_both : (c : ℕ) → is_ident_start c ≡ true → is_ascii_digit c ≡ t
 no_both c start digit =
     let clash : starts.Letter ≡ starts.Digit = sym (start_letter c start) ∙ start_digit c digit in cc
 
--- before a name or a digit no lone quote opens a character
+-- a lone quote before a name or a digit opens no character
 pub no_opening : (text rest : List ℕ) → text ≡ 39 ∷ rest → first_passes bars_character rest ≡ true
     → HasNone (Stands single_opening) text
 no_opening text rest e barring p r split (inl quote) =
@@ -42,7 +42,7 @@ no_opening text rest e barring p r split (inr byte) =
     let clash : ◌≡◌ {A = ℕ} 98 39 = cc in
     omega (arith, clash)
 
--- what stands between the quotes of a character that is named so
+-- the text is a character literal with a name, a raw name, or a word that begins with a digit
 pub data IsNamed (text : List ℕ) : Type 0 where
   Raw : (named back : List ℕ) → text ≡ codes "'r#" ++ (named ++ (39 ∷ back)) → Stands name named (39 ∷ back)
       → IsNamed text
@@ -151,7 +151,7 @@ module _ (text : List ℕ) where
         };
       })))))
 
--- a name begins with a start of one
+-- a name begins with a character that can begin one
 pub name_first : (named back : List ℕ) → Stands name named back
     → (c : ℕ) × (more : List ℕ) × (named ≡ c ∷ more) × (is_ident_start c ≡ true)
     × Stands (Run is_ident_continue) more back
@@ -159,7 +159,7 @@ name_first named back is =
     let one = is.first in
     (one.0, is.back, is.whole ∙ ap (λ t. t ++ is.back) one.1, one.2, is.second)
 
--- the character that bars a lone quote
+-- in a literal with a name, the character after the quote is one of `bars_character`
 pub named_bars : (text rest : List ℕ) → text ≡ 39 ∷ rest → IsNamed text → first_passes bars_character rest ≡ true
 named_bars text rest e (Raw named back whole is) =
     let same : 39 ∷ rest ≡ 39 ∷ (114 ∷ 35 ∷ (named ++ (39 ∷ back))) = sym e ∙ whole in
@@ -220,16 +220,16 @@ bad_single_told Character e f p r is =
 
 -- ---- lifetimes
 
--- all the continues up to a character
+-- a run of name characters ends at one position only
 one_run : (a b r s : List ℕ) → Stands (Run is_ident_continue) a r → Stands (Run is_ident_continue) b s
     → a ++ r ≡ b ++ s → r ≡ s
 one_run a b r s is other e = (one_split (Run is_ident_continue) tt a b r s is other e).1
 
--- a quote ends no lifetime that none follows
+-- the text after a lifetime doesn't begin with a quote
 ended : (r back : List ℕ) → r ≡ 39 ∷ back → first_passes is_quote r ≡ false → ⊥
 ended r back e none = both_ways _ none (ap (first_passes is_quote) e)
 
--- a lifetime that begins with a digit is no character
+-- a lifetime that begins with a digit is no character literal
 pub digit_unnamed : (text r : List ℕ) (c : ℕ) (more : List ℕ) → text ≡ 39 ∷ c ∷ (more ++ r) → is_ascii_digit c ≡ true
     → Stands (Run is_ident_continue) more r → first_passes is_quote r ≡ false → IsNamed text → ⊥
 digit_unnamed text r c more e digit run none (Raw named back whole is) =
@@ -263,7 +263,7 @@ digit_lifetime_told f p r is =
     ∙ (cond-false _ _ _ (lacks_named text (digit_unnamed text r one.0 digits.back whole one.2 digits.second is.1.1))
     ∙ cond-true _ _ _ (stands_has digit_lifetime (assumption) text p r begin is.1)))
 
--- a text that begins with a quote and a start of a name has no lifetime that begins with a digit
+-- a text that begins with a quote and a name has no lifetime that begins with a digit
 no_digit : (text rest : List ℕ) (c : ℕ) → text ≡ 39 ∷ c ∷ rest → is_ident_start c ≡ true
     → HasNone (Stands digit_lifetime) text
 no_digit text rest c e start p r split is =
@@ -276,7 +276,7 @@ no_digit text rest c e start p r split is =
     let first : c ≡ one.0 = cc in
     no_both c start (ap is_ascii_digit first ∙ one.2)
 
--- a lifetime with a hash sign after it is no character
+-- a lifetime with a hash sign after it is no character literal
 pub hash_unnamed : (text r : List ℕ) (c : ℕ) (more : List ℕ) → text ≡ 39 ∷ c ∷ (more ++ (35 ∷ r))
     → is_ident_start c ≡ true → Stands (Run is_ident_continue) more (35 ∷ r)
     → HasNone (Stands raw_lifetime_start) text → IsNamed text → ⊥
@@ -331,7 +331,7 @@ stops_at_hash (c ∷ more) rest back is e =
     both_ways (is_ident_continue 35) (ident_continue_ascii 35 (omega arith))
     (ap is_ident_continue (sym first) ∙ (and_parts _ _ is.each).0)
 
--- a reserved lifetime is no character
+-- a reserved lifetime is no character literal
 pub reserved_unnamed : (text named r : List ℕ) → text ≡ codes "'r#" ++ (named ++ r) → Stands name named r
     → first_passes is_quote r ≡ false → IsNamed text → ⊥
 reserved_unnamed text named r e is none (Raw other back whole also) =

@@ -28,13 +28,13 @@ use Rattle.explain.proofs.QuoteLemmas.{clear_closed}
 use Rattle.explain.proofs.Told.{Slash, Quotes, Letters, Misplaced, Other, by_front, content, front_of}
 use Rattle.explain.proofs.Told.{lacks_has, letters_front, not_lacks_has, quotes_front, stands_has, told}
 
--- a piece right at the fault begins the text
+-- a wrong part right at the fault begins the text
 pub at_front : (f p r : List ℕ) → f ≡ [] → f ++ (p ++ r) ≡ p ++ r
 at_front f p r e = ap (λ t. t ++ (p ++ r)) e
 
 -- ---- comments
 
--- no comment stands there
+-- no comment begins there
 pub unclosed_comment_none : (f p r : List ℕ) → Begins (Exactly (codes "/*")) f p r → Lacks block_comment f p r
     → HasNone (Stands comment) (f ++ (p ++ r))
 unclosed_comment_none f p r is none q s split (inl line) =
@@ -69,7 +69,7 @@ unclosed_string_told kind f p r is none =
     by_front text (Quotes kind) (quotes_front kind text r (at_front f p r is.0 ∙ ap (λ t. t ++ r) is.1))
     ∙ cond-false _ _ _ (lacks_has (closed_string kind) (assumption) text none)
 
--- a string that ends begins the text
+-- the text begins with a string that is closed
 pub closed_whole : (kind : StringKind) (e : EscapeError) (f p r : List ℕ) (is : IsBadString kind e f p r)
     → f ++ (p ++ r) ≡ (f ++ (p ++ (is.left ++ codes "\""))) ++ is.tail
 closed_whole kind e f p r is =
@@ -90,7 +90,7 @@ bad_string_told kind e f p r is =
 
 -- ---- raw strings
 
--- the text begins with the letters of a kind and these hash signs, and no more of them
+-- the text begins with the letters of this kind and then exactly these hash signs
 pub record IsSigned (kind : StringKind) (text : List ℕ) : Type 0 where
   pub signs : List ℕ
   pub rest : List ℕ
@@ -108,7 +108,7 @@ one_signed kind text is other =
     one_split (Run is_hash) tt is.signs other.signs is.rest other.rest is.run other.run
     (letters_cancel kind _ _ (sym is.whole ∙ other.whole))
 
--- a quote follows them
+-- a quote follows the hash signs
 unfoldable pub opening_signed : (kind : StringKind) (text p r : List ℕ) → text ≡ p ++ r → Stands (raw_opening kind) p r
     → (is : IsSigned kind text) × (is.rest ≡ 34 ∷ r)
 opening_signed kind text p r e is =
@@ -124,7 +124,7 @@ opening_signed kind text p r e is =
       ap (λ t. t ++ r) inner.second,
     )
 
--- another character follows them, or nothing
+-- another character follows the hash signs, or nothing
 pub no_opening : (kind : StringKind) (text : List ℕ) (is : IsSigned kind text)
     → first_passes (λ c. c == 34) is.rest ≡ false → HasNone (Stands (raw_opening kind)) text
 no_opening kind text is other p r e opening =
@@ -142,7 +142,7 @@ unclosed_raw_told kind f p r is none =
     ∙ (cond-true _ _ _ (stands_has (raw_opening kind) (assumption) text p r whole is.1)
     ∙ cond-false _ _ _ (lacks_has (closed_raw kind) (clear_closed kind) text none))
 
--- an opening with too many hash signs is one
+-- an opening with too many hash signs opens a raw string
 unfoldable pub long_opens : (kind : StringKind) (p r : List ℕ) → Stands (long_opening kind) p r
     → Stands (raw_opening kind) p r
 long_opens kind p r is = record {
@@ -218,7 +218,7 @@ bad_raw_told kind e f p r is =
     let many : 255 < length long.second.front = ltb-true 255 (length long.second.front) long.second.first.1 in
     omega (arith, few, many, ap length same)))))
 
--- hash signs that no quote follows
+-- hash signs with no quote after them
 pub hashed_signed : (kind : StringKind) (f p r : List ℕ) → Follow (hashed_front kind) no_double_quote f p r
     → (is : IsSigned kind (f ++ (p ++ r))) × (first_passes (λ c. c == 34) is.rest ≡ false) × (is.signs ≡ [] → ⊥)
 hashed_signed kind f p r is =
@@ -273,7 +273,7 @@ module _ (f p r : List ℕ) (start : f ≡ []) (is : Stands (Then (Exactly (code
     other_first k out = false_from_ne_true _ (λ same.
         both_ways _ out (ap is_ident_start (sym (eqb-true is.second.0.first.0 k same)) ∙ is.second.0.first.2))
 
-    -- one hash sign, and the name
+    -- one hash sign, and then the name
     pub reserved_signed : (signed : IsSigned Plain (f ++ (p ++ r))) × (first_passes (λ c. c == 34) signed.rest ≡ false)
     reserved_signed = (
       record {

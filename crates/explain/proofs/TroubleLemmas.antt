@@ -1,4 +1,4 @@
--- A reason that was read holds.
+-- The reason of a `Trouble` holds.
 use Rattle.std.proofs.Common.{◌≡◌, ℕ, List, [], ◌++◌, ap, ◌∙◌, subst, arith}
 use Rattle.std.specs.Str.{chars}
 use Rattle.lexical.specs.Rule.{Rule, Stands, nothing}
@@ -10,7 +10,7 @@ use Rattle.explain.specs.Reason.{Holds, Follow, Begins}
 use Rattle.explain.specs.Trouble.{IsTrouble}
 use Rattle.explain.specs.declared.reason.Reason.{Reason}
 
--- what was passed up to what is at fault, and past it
+-- the first rule passes the text up to the wrong part, and the second rule passes the wrong part
 pub trouble : (a b : Rule) → Clear a → Clear b → (at here after : Cursor) (reason : Reason) → Passes a at here
     → Passes b here after
     → ((front part : List ℕ) → chars at.rest.now ≡ front ++ (part ++ chars after.rest.now)
@@ -33,7 +33,7 @@ trouble a b clear clear' at here after reason h j says =
 stays : (at : Cursor) → Passes nothing at at
 stays at = record { front = []; found = find_nothing (chars at.rest.now); count = omega arith }
 
--- where it stands right at the fault
+-- the wrong part begins right at the fault
 pub trouble_here : (b : Rule) → Clear b → (at after : Cursor) (reason : Reason) → Passes b at after
     → ((front part : List ℕ) → chars at.rest.now ≡ front ++ (part ++ chars after.rest.now)
     → Begins b front part (chars after.rest.now) → Holds reason front part (chars after.rest.now))

@@ -1,4 +1,4 @@
--- Where a reason of a comment or a number holds no piece stands.
+-- Where a reason of a comment or a number holds, no piece begins.
 use Rattle.std.proofs.Common.{◌≡◌, ℕ, Bool, true, false, not, List, [], ◌∷◌, ◌++◌, codes}
 use Rattle.std.proofs.Common.{drop, Some, None, inl, inr, refl, sym, ap, ◌∙◌, arith, append_assoc, eqb-true}
 use Rattle.std.specs.Char.{is_ascii_digit}
@@ -43,7 +43,7 @@ unclosed_comment_unfound first f p r is none =
     slash_found first text (42 ∷ r) e (ap (begins_any (codes "//" ∷ codes "/*" ∷ [])) e)
     (ap comment_found (none_found comment (assumption) text (unclosed_comment_none f p r is none)))
 
--- a CR that no LF follows stands in what follows it
+-- a bare CR in a text is also one in a longer text that ends with it
 bare_more : (before text : List ℕ) → has_bare_return text ≡ true → has_bare_return (before ++ text) ≡ true
 bare_more [] text is = is
 bare_more (c ∷ before) text is = or_right _ _ (bare_more before text is)
@@ -77,7 +77,7 @@ digit_found : (first : Bool) (c : ℕ) (text rest : List ℕ) → text ≡ c ∷
 digit_found first c text rest e digit none =
     at_start first starts.Digit e (sym (start_digit c digit)) ∙ ap (tagged literal_kind) none
 
--- after the prefix of a base
+-- a text with the prefix of a base, and no number of that base, begins with no piece
 based_found : (first : Bool) (base : Base) (text rest : List ℕ) → text ≡ base_prefix base ++ rest
     → HasNone (Stands (Then based number_end)) text → found first text ≡ None
 based_found first base text rest e none =
@@ -86,7 +86,7 @@ based_found first base text rest e none =
     (number_based text (ap (begins_any base_prefixes) e ∙ based_begins base rest)
     ∙ none_found (Then based number_end) (assumption) text none)
 
--- no integer stands there
+-- no number of a base begins there if no integer does
 no_based : (text : List ℕ) → HasNone (Stands integer) text → HasNone (Stands (Then based number_end)) text
 no_based text none p r split is =
     none is.front (is.back ++ r) (split ∙ (ap (λ t. t ++ r) is.whole ∙ append_assoc is.front is.back r)) (inr is.first)
@@ -103,7 +103,7 @@ bad_digit_unfound first base f p r is =
     based_found first base (f ++ (p ++ r)) _ (bad_digit_whole base f p r is)
     (no_based (f ++ (p ++ r)) (bad_digit_integer base f p r is))
 
--- ---- what can't end a number
+-- ---- what can't follow a number
 
 module _ (c : ℕ) (bad : ends_badly c ≡ true) where
   bad_parts : (is_ident_continue c ≡ true) × (is_ident_start c ≡ false)

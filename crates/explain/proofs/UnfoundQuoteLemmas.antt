@@ -1,4 +1,4 @@
--- Where a reason of a character or a lifetime holds no piece stands.
+-- Where a reason of a character or a lifetime holds, no piece begins.
 use Rattle.std.proofs.Common.{◌≡◌, ℕ, Bool, true, false, not, ◌&&◌, ◌==◌, List, [], ◌∷◌, ◌++◌, codes}
 use Rattle.std.proofs.Common.{Result, Ok, Err, None, inl, inr, refl, sym, ap, ap₂, ◌∙◌, subst, arith, append_assoc}
 use Rattle.std.proofs.Common.{eqb-true, append-nil, ◌⊎◌}
@@ -49,9 +49,9 @@ use Rattle.explain.proofs.ToldTextLemmas.{at_front}
 use Rattle.explain.proofs.UnfoundStringLemmas.{Unquoted, barred_here, letter_found, prefixed, reserved_name_unfound}
 use Rattle.explain.proofs.UnfoundStringLemmas.{reserved_no_name, unquoted_none}
 
--- ---- pairs of a character
+-- ---- pairs of a character literal
 
--- a character that is one by itself, and begins no comment
+-- a character that is a pair by itself, and begins no comment
 abbrev is_single : ℕ → Bool
 is_single c = not (is_one_of (codes "'\\\n/") c)
 
@@ -64,7 +64,7 @@ single_by class quote backslash feed slash c is =
     no : (k : ℕ) → class k ≡ false → (k == c) ≡ false
     no k out = false_from_ne_true _ (λ same. both_ways (class k) out (ap class (eqb-true k c same) ∙ is))
 
--- before what begins no comment
+-- a character is a pair by itself where no comment begins
 one_pair : (c : ℕ) (r : List ℕ) → not (is_one_of (codes "'\\\n") c) ≡ true
     → begins_any comment_fronts (c ∷ r) ≡ false → Stands single_pair (c ∷ []) r
 one_pair c r is apart = (inl (c, refl, is), apart)
@@ -89,7 +89,7 @@ alone_many (c ∷ cs) r all =
       each = (subst (λ t. Stands single_pair (c ∷ []) (t ++ r)) more.whole (alone_pair c (cs ++ r) parts.0), more.each);
     }
 
--- a backslash and a character before it
+-- a backslash and a character are a pair before such characters
 two_many : (d : ℕ) (cs r : List ℕ) → (d == 10) ≡ false → list_all is_single cs ≡ true
     → Many (Stands single_pair) (92 ∷ d ∷ cs) r
 two_many d cs r feed all =
@@ -165,9 +165,9 @@ escape_many kind v r s (inr (inr code)) =
         let parts = and_parts (is_single c) (list_all is_single t) h in
         ap₂ (λ a b. a && b) parts.0 (closing t parts.1)
 
--- ---- a character or a byte that stands
+-- ---- a character or byte literal that matches its rule
 
--- before other text
+-- an escape also matches its rule before other text
 escape_before : (kind : StringKind) (v r s : List ℕ) → (kind ≡ kinds.C → ⊥) → Stands (escape_rule kind) v r
     → Stands (escape_rule kind) v s
 escape_before kind v r s other (inl letter) = inl letter
@@ -227,7 +227,7 @@ not_one_unit singles.Character e content left is other =
 not_one_unit singles.Byte e content left is other =
     let clash : ◌≡◌ {A = Result ℕ EscapeError} (Ok is.0) (Err e) = sym is.1 ∙ ap (λ r. r.unit) other in cc
 
--- an escape alone
+-- an escape alone is one unit
 escape_alone : (kind : Kind ℕ) (strings : StringKind) → TakesAll kind strings → (strings ≡ kinds.C → ⊥)
     → (v r : List ℕ)
     → Stands (escape_rule strings) v r → (u : ℕ) × ((single kind (92 ∷ v)).unit ≡ Ok u)
@@ -255,17 +255,17 @@ plain_alone kind c u plain of =
     ap (λ (read : Read ℕ). (only read.unit read.rest).unit)
     (cond-false (c == 92) _ _ (no 92 refl) ∙ ap (λ o. record { unit = o; rest = [] }) read)
 
--- a character or a byte begins the text, with this between its quotes
+-- the text begins with a character or byte literal with this content
 record IsWhole (kind : SingleKind) (text : List ℕ) : Type 0 where
   content : List ℕ
   tail : List ℕ
   whole : text ≡ (single_front kind ++ (content ++ codes "'")) ++ tail
   closes : Stands closed_single_body (content ++ codes "'") tail
   unit : OneUnit kind content
-  -- a character that stands for itself, or not one that bars a quote
+  -- the content is one character, or an escape
   first : ((c : ℕ) × (content ≡ c ∷ [])) ⊎ ((more : List ℕ) × (content ≡ 92 ∷ more))
 
--- what closes it
+-- the content is pairs up to the quote that closes the literal
 closes_pairs : (content tail : List ℕ) → Many (Stands single_pair) content (39 ∷ tail)
     → ((c : ℕ) (more : List ℕ) → content ++ (39 ∷ tail) ≡ c ∷ more → is_one_of (codes "'\n") c ≡ false)
     → Stands closed_single_body (content ++ codes "'") tail
@@ -306,7 +306,7 @@ escape_closes kind v r tail is =
     closes_pairs (92 ∷ v) tail (escape_many kind v r (39 ∷ tail) is)
     (λ d more e. let same : 92 ≡ d = cc in ap (is_one_of (codes "'\n")) (sym same))
 
--- the text of one, by its content
+-- the text of a literal, by its content
 whole_text : (front content close suffix p r text mid back : List ℕ) → text ≡ p ++ r → p ≡ front ++ mid
     → mid ≡ content ++ back
     → back ≡ close ++ suffix → text ≡ (front ++ (content ++ close)) ++ (suffix ++ r)
@@ -383,9 +383,9 @@ byte_whole text p r e is = by_unit is.second.first
       first = inr (escaped.back, refl);
     }
 
--- ---- where no lone quote stands
+-- ---- where no lone quote begins
 
--- what follows a lone quote begins a name
+-- the text after a lone quote begins a name
 follows_start : (rest : List ℕ) → FollowsQuote rest → first_passes is_ident_start rest ≡ true
 follows_start rest h = ap (first_passes is_ident_start) h.whole ∙ named_start h.raw h.name h.rest h.named
 
@@ -430,7 +430,7 @@ byte_found first text rest e none =
     letter_found first 98 text (39 ∷ rest) e (ident_start_ascii 98 (omega arith))
     (prefixed text _ (ap (begins_any literal_prefixes) e)) (unquoted_none text (byte_unquoted text rest e none))
 
--- ---- what a whole one closes
+-- ---- a whole literal is closed
 
 byte_single_of : (text : List ℕ) (is : IsWhole singles.Byte text)
     → Stands closed_single (codes "b'" ++ (is.content ++ codes "'")) is.tail
@@ -453,7 +453,7 @@ lone_single_of text is barred = record {
   second = is.closes;
 }
 
--- a character that a name or a digit is, between quotes
+-- a character literal with one name character or digit between its quotes
 named_single : (c : ℕ) (tail : List ℕ) → bars_character c ≡ true
     → Stands closed_named (codes "'" ++ ((c ∷ []) ++ codes "'")) tail
 named_single c tail is = inr (record {
@@ -485,7 +485,7 @@ named_single c tail is = inr (record {
   };
 })
 
--- a whole character is one that ends
+-- a whole character literal is closed
 character_closed : (text : List ℕ) (is : IsWhole singles.Character text)
     → Stands closed_character (codes "'" ++ (is.content ++ codes "'")) is.tail
 character_closed text is = by_bars (first_passes bars_character ((is.content ++ codes "'") ++ is.tail)) refl
@@ -508,7 +508,7 @@ character_closed text is = by_bars (first_passes bars_character ((is.content ++ 
     by_bars false plain = inl (lone_single_of text is plain)
     by_bars true barring = by_content is.content is.first barring
 
--- where one stands that a name or a digit begins, the text is named so
+-- a character literal with a name or a digit between its quotes is a named one
 character_named : (text rest : List ℕ) → text ≡ 39 ∷ rest → first_passes bars_character rest ≡ true
     → (p r : List ℕ) → text ≡ p ++ r → Stands character p r → IsNamed text
 character_named text rest e barring p r split stands =
@@ -540,7 +540,7 @@ unclosed_character_unfound first f p r (start, inr is) none =
     let whole = byte_whole text q s split stands in
     none (codes "b'" ++ (whole.content ++ codes "'")) whole.tail whole.whole (byte_single_of text whole))
 
--- no name follows a lone quote that ends at a quote
+-- if a literal with a name is closed, its first quote is no lone quote
 named_no_follow : (text rest : List ℕ) → text ≡ 39 ∷ rest → IsNamed text → FollowsQuote rest → ⊥
 named_no_follow text rest e (Digit c more back whole digit run) h =
     let same : 39 ∷ rest ≡ 39 ∷ (c ∷ (more ++ (39 ∷ back))) = sym e ∙ whole in

@@ -1,4 +1,4 @@
--- Where a reason of a string or a raw string holds no piece stands.
+-- Where a reason of a string or a raw string holds, no piece begins.
 use Rattle.std.proofs.Common.{◌≡◌, ℕ, ◌<◌, ◌≤◌, Bool, true, false, not, ◌==◌, List, [], ◌∷◌, ◌++◌, codes}
 use Rattle.std.proofs.Common.{◌⊎◌, length, Result, Ok, Err, None, inl, inr, refl, sym, ap, ap₂, ◌∙◌, subst, arith}
 use Rattle.std.proofs.Common.{append_assoc}
@@ -39,7 +39,7 @@ use Rattle.explain.proofs.StringLemmas.{no_unit}
 use Rattle.explain.proofs.ToldTextLemmas.{IsSigned, at_front, hashed_signed, long_opens, one_signed}
 use Rattle.explain.proofs.ToldTextLemmas.{opening_signed, reserved_signed}
 
--- ---- where no literal between quotes stands
+-- ---- where no literal with quotes begins
 
 pub record Unquoted (text : List ℕ) : Type 0 where
   pub strings : (kind : StringKind) → HasNone (Stands (cooked kind)) text
@@ -158,7 +158,7 @@ string_found first kinds.C text rest e none =
 
 -- ---- strings
 
--- a string is one that ends
+-- a string is closed
 cooked_closes : (kind : StringKind) (p r : List ℕ) → Stands (cooked kind) p r
     → (q : List ℕ) × (s : List ℕ) × (p ++ r ≡ q ++ s) × Stands (closed_string kind) q s
 cooked_closes kind p r is =
@@ -201,7 +201,7 @@ unclosed_string_unfound first kind f p r is none =
     let closed = cooked_closes kind q s stands in
     none closed.0 closed.1 (split ∙ closed.2) closed.3)))
 
--- no string has a fault
+-- a string with an error in its content doesn't match the rule `cooked`
 not_cooked : (kind : StringKind) (e : EscapeError) (text : List ℕ) → IsPlace kind e text
     → HasNone (Stands (cooked kind)) text
 not_cooked kind e text is p r split stands =
@@ -250,7 +250,7 @@ bad_string_unfound first kind e f p r is =
 
 -- ---- raw strings
 
--- what begins a raw string begins no identifier
+-- the opening of a raw string begins no identifier
 raw_prefix : (kind : StringKind) (signs rest : List ℕ) → list_all is_hash signs ≡ true
     → begins_any literal_prefixes (raw_front kind ++ (signs ++ (34 ∷ rest))) ≡ true
 raw_prefix kinds.Plain [] rest all = refl
@@ -267,7 +267,7 @@ raw_prefix kinds.Byte (c ∷ signs) rest all =
 raw_prefix kinds.C (c ∷ signs) rest all =
     ap (λ d. begins_any literal_prefixes (99 ∷ 114 ∷ d ∷ (signs ++ (34 ∷ rest)))) (eqb-true c 35 (and_parts _ _ all).0)
 
--- its letters begin one
+-- the letters of a raw string begin a piece only if an identifier or a literal does
 letters_found : (first : Bool) (kind : StringKind) (text rest : List ℕ) → text ≡ raw_front kind ++ rest
     → find (identifier (begins_with (codes "r#") text)) text ≡ None → find quoted_literal text ≡ None
     → found first text ≡ None
@@ -278,7 +278,7 @@ letters_found first kinds.Byte text rest e none last =
 letters_found first kinds.C text rest e none last =
     letter_found first 99 text (114 ∷ rest) e (ident_start_ascii 99 (omega arith)) none last
 
--- after hash signs and a quote
+-- a text with hash signs and a quote, but no raw string, begins with no piece
 signed_found : (first : Bool) (kind : StringKind) (text rest : List ℕ) (is : IsSigned kind text) → is.rest ≡ 34 ∷ rest
     → HasNone (Stands (raw_string kind)) text → found first text ≡ None
 signed_found first kind text rest is quote none =
@@ -287,7 +287,7 @@ signed_found first kind text rest is quote none =
     ∙ ap (λ t. raw_front kind ++ (is.signs ++ t)) quote) ∙ raw_prefix kind is.signs rest is.run.each))
     (unquoted_none text (raw_unquoted kind text _ is.whole none))
 
--- a raw string, as far as its second quote
+-- a raw string, up to its second quote
 pub record IsRawWhole (kind : StringKind) (text : List ℕ) : Type 0 where
   pub signed : IsSigned kind text
   pub few : length signed.signs ≤ 255
@@ -331,7 +331,7 @@ raw_whole kind text p r e is =
           many.each;
     }
 
--- such units are characters at which the end doesn't begin
+-- the units of a raw string are characters at which its end doesn't begin
 raw_ones : (kind : StringKind) (signs : List ℕ) (us : List (List ℕ)) (r : List ℕ)
     → Each (Stands (raw_strings.raw_unit (may_stand_raw kind) (34 ∷ signs))) us r
     → Many (Stands (shapes.raw_unit signs)) (concat us) r
@@ -357,7 +357,7 @@ raw_ones kind signs (u ∷ us) r each = one_more u each.0 (raw_ones kind signs u
       each = (((13, refl, refl), refl), (((10, refl, refl), refl), more.each));
     }
 
--- a raw string is one that ends
+-- a raw string is closed
 raw_closes : (kind : StringKind) (text : List ℕ) → IsRawWhole kind text → Lacks (closed_raw kind) [] [] text → ⊥
 raw_closes kind text is none =
     let signs = is.signed.signs in
@@ -449,14 +449,14 @@ bad_raw_unfound first kind e f p r is =
 
 -- ---- hash signs without a quote, and reserved names
 
--- a raw string opens one
+-- where hash signs have no quote after them, no raw string begins
 no_raw_string : (kind : StringKind) (text : List ℕ) (is : IsSigned kind text)
     → first_passes (λ c. c == 34) is.rest ≡ false → HasNone (Stands (raw_string kind)) text
 no_raw_string kind text is other q s split stands =
     let whole = raw_whole kind text q s split stands in
     both_ways _ other (ap (first_passes (λ c. c == 34)) ((one_signed kind text is whole.signed).1 ∙ whole.whole))
 
--- a raw identifier after `r#`
+-- if no raw name follows `r#`, no identifier begins there
 no_raw_name : (text rest : List ℕ) → text ≡ 114 ∷ 35 ∷ rest → HasNone (Stands raw_name) rest
     → find (identifier (begins_with (codes "r#") text)) text ≡ None
 no_raw_name text rest e none =

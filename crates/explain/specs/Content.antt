@@ -1,4 +1,5 @@
--- What is wrong in a doc comment or a literal that ends, at the first place where something is.
+-- The first error in a doc comment or a literal that is closed. `f`, `p` and `r` are as in `Reason.antt`: the text
+-- before the wrong part, the wrong part, and the text after it.
 use Rattle.std.specs.Prelude.{ℕ, Bool, true, false, ◌≡◌, ◌⊎◌, List, [], ◌∷◌, ◌++◌, codes, length, IsFalse, Result, Err}
 use Rattle.lexical.specs.Character.{carriage_return, double_quote}
 use Rattle.lexical.specs.Comment.{Comment, closing, has_bare_return, is_doc}
@@ -23,13 +24,13 @@ use Rattle.explain.specs.declared.quotes.SingleKind.TheVariants.{Character, Byte
 
 -- ---- doc comments
 
--- a doc comment stands at the fault, and in its text this is the first CR that no LF follows there
+-- a doc comment begins at the fault, and the wrong part is the first CR in its text that no LF follows
 pub record IsBareReturn (f p r : List ℕ) : Type 0 where
   pub comment : List ℕ
   pub after : List ℕ
   pub whole : f ++ (p ++ r) ≡ comment ++ after
   pub stands : Where is_doc Comment comment after
-  -- the three characters that open it, what it says before the CR, and what it says after it
+  -- the three characters that open the comment, its text before the CR, and its text after the CR
   pub opening : List ℕ
   pub before : List ℕ
   pub more : List ℕ
@@ -42,7 +43,7 @@ pub record IsBareReturn (f p r : List ℕ) : Type 0 where
 
 -- ---- what the escaper reads
 
--- whether the last character that is read is at fault, and not all of the escape
+-- whether the error is about the last character that the escaper read, and not about the whole escape
 abbrev pub is_of_last : EscapeError → Bool
 is_of_last errors.InvalidEscape = true
 is_of_last errors.InvalidCharInHexEscape = true
@@ -50,37 +51,39 @@ is_of_last errors.InvalidCharInUnicodeEscape = true
 is_of_last errors.LeadingUnderscoreUnicodeEscape = true
 is_of_last _ = false
 
--- of what is read this part is at fault, and this stands before it: all of it, or its last character
+-- `part` is the wrong part of what the escaper read, and `start` comes before it. If true, the last character is wrong,
+-- and otherwise all
 abbrev pub IsPart : Bool → List ℕ → List ℕ → Type 0
 IsPart true start part = (c : ℕ) × (part ≡ c ∷ [])
 IsPart false start part = start ≡ []
 
--- the same, by the error
+-- for this error, `part` is the wrong part of what the escaper read, and `start` comes before it
 abbrev pub IsAtFault : EscapeError → List ℕ → List ℕ → Type 0
 IsAtFault e start part = IsPart (is_of_last e) start part
 
 -- ---- strings with escapes
 
--- what opens a string, and its units as far as they go, or fewer
+-- what opens a string, and then any number of its units
 abbrev pub string_units : StringKind → Rule
 string_units kind = Then (Exactly (string_front kind)) (UpTo (unit kind) nothing)
 
--- units that the escaper reads otherwise
+-- units that the escaper reads in another way than the grammar: CR LF, and a backslash with a line end
 abbrev pub line_ends : List (List ℕ)
 line_ends = codes "\r\n" ∷ codes "\\\n" ∷ codes "\\\r\n" ∷ []
 
--- the escaper reads this error at the front of the content that is left, and then this is left
+-- the escaper reads this error at the start of the content, and `left` is the content after that
 abbrev pub GivesFault : {U : Type 0} → Kind U → EscapeError → List ℕ → List ℕ → Type 0
 GivesFault kind e [] left = ⊥
 GivesFault kind e (c ∷ text) left = unit_front kind c text ≡ fault e left
 
--- the same, by the kind of string
+-- in a string of this kind, the escaper reads this error at the start of the content, and `left` is the content after
+-- that
 abbrev pub StringFault : StringKind → EscapeError → List ℕ → List ℕ → Type 0
 StringFault Plain = GivesFault string_kind
 StringFault Byte = GivesFault byte_kind
 StringFault C = GivesFault c_kind
 
--- a string that ends stands at the fault, whose content has this error after its units
+-- a string that is closed begins at the fault, and its content has this error after some units
 pub record IsBadString (kind : StringKind) (e : EscapeError) (f p r : List ℕ) : Type 0 where
   pub units : List ℕ
   pub start : List ℕ
@@ -96,19 +99,19 @@ pub record IsBadString (kind : StringKind) (e : EscapeError) (f p r : List ℕ) 
 
 -- ---- raw strings
 
--- what opens a raw string, its hash signs, a quote, and its units as far as they go, or fewer
+-- the letters, hash signs and quote that open a raw string, and then any number of its units
 abbrev pub raw_units : StringKind → Rule
 raw_units kind =
     Then (Exactly (raw_front kind)) (Next hashes (λ signs. Then (Exactly (codes "\""))
     (UpTo (raw_strings.raw_unit (may_stand_raw kind) (double_quote ∷ signs)) nothing)))
 
--- what the escaper reads of a character in it
+-- what the escaper reads for a character of a raw string
 abbrev pub raw_character : StringKind → ℕ → Result ℕ EscapeError
 raw_character Plain = raw_unit any_char
 raw_character Byte = raw_unit ascii_byte
 raw_character C = raw_unit raw_c_char
 
--- a raw string that ends stands at the fault, whose content has this error after its units
+-- a raw string that is closed begins at the fault, and its content has this error after some units
 pub record IsBadRaw (kind : StringKind) (e : EscapeError) (f p r : List ℕ) : Type 0 where
   pub character : ℕ
   pub stands : Stands (raw_units kind) f (p ++ r)
@@ -119,24 +122,25 @@ pub record IsBadRaw (kind : StringKind) (e : EscapeError) (f p r : List ℕ) : T
 
 -- ---- characters and bytes
 
--- the escaper reads this error of the content, and then this is left
+-- the escaper reads this error in the content, and `left` is the content after that
 abbrev pub SingleFault : SingleKind → EscapeError → List ℕ → List ℕ → Type 0
 SingleFault Character e content left = single string_kind content ≡ fault e left
 SingleFault SingleByte e content left = single byte_kind content ≡ fault e left
 
--- whether all of the literal is at fault
+-- whether the whole literal is wrong
 abbrev pub is_of_literal : EscapeError → Bool
 is_of_literal errors.ZeroChars = true
 is_of_literal errors.MoreThanOneChar = true
 is_of_literal _ = false
 
--- where it stands in a literal of this front and content
+-- `p` is the wrong part of a literal with this front and content, and `f` comes before it. If true, the whole literal
+-- is wrong
 abbrev pub IsSinglePlace : Bool → EscapeError → List ℕ → List ℕ → List ℕ → List ℕ → List ℕ → Type 0
 IsSinglePlace true e front content left f p = (f ≡ []) × (p ≡ front ++ (content ++ codes "'"))
 IsSinglePlace false e front content left f p =
     (start : List ℕ) × (f ≡ front ++ start) × (content ≡ (start ++ p) ++ left) × IsAtFault e start p
 
--- a character or a byte that ends stands at the fault, whose content has this error
+-- a character or byte literal that is closed begins at the fault, and its content has this error
 pub record IsBadSingle (kind : SingleKind) (e : EscapeError) (f p r : List ℕ) : Type 0 where
   pub content : List ℕ
   pub left : List ℕ
@@ -148,7 +152,7 @@ pub record IsBadSingle (kind : SingleKind) (e : EscapeError) (f p r : List ℕ) 
 
 -- ---- all of them
 
--- a literal that ends stands at the fault, whose content has this error first
+-- a literal that is closed begins at the fault, and the first error in its content is this
 abbrev pub IsBadContent : EscapeError → List ℕ → List ℕ → List ℕ → Type 0
 IsBadContent e f p r =
     ((kind : StringKind) × IsBadString kind e f p r)

@@ -1,4 +1,4 @@
--- What an explanation says.
+-- When an explanation of why a text doesn't parse is right.
 use Rattle.std.specs.Prelude.{ℕ, Bool, ◌≡◌, ◌+◌, ◌⊎◌, true, List, [], ◌∷◌, ◌++◌, length, Some, IfSome}
 use Rattle.std.specs.List.{AllByRecursion}
 use Rattle.std.specs.Str.{encode_utf8_all}
@@ -17,17 +17,17 @@ use Rattle.explain.specs.declared.explained.Opener.{Opener}
 use Rattle.explain.specs.declared.explained.Stretch.{Stretch}
 use Rattle.explain.specs.declared.reason.Reason.TheVariants.{UnclosedOpener}
 
--- some stream is what the source parses to
+-- the source parses to some stream
 abbrev pub Parses : ℕ → List ℕ → Type 0
 Parses base source = (stream : Forest) × ParsesTo base source stream
 
--- the stretch is this part, after what stands before it in the text
+-- the `Stretch` has the bytes and the span of this part of a text, which follows the text `behind`
 pub record IsStretch (base : ℕ) (behind part : List ℕ) (stretch : Stretch) : Type 0 where
   pub start : stretch.start ≡ length (encode_utf8_all behind)
   pub end : stretch.end ≡ length (encode_utf8_all (behind ++ part))
   pub span : stretch.span ≡ record { lo = base + length behind; hi = base + length (behind ++ part) }
 
--- the opener stands in the source, of which the stretch is this one character
+-- the opener is one character of the source, with the delimiter, bytes and span of that character
 pub record IsOpenerOf (base : ℕ) (source : List ℕ) (x : Opener) : Type 0 where
   pub behind : List ℕ
   pub character : ℕ
@@ -37,7 +37,7 @@ pub record IsOpenerOf (base : ℕ) (source : List ℕ) (x : Opener) : Type 0 whe
   pub delimiter : x.delimiter ≡ delimiter_of character
   pub at : IsStretch base behind (character ∷ []) x.at
 
--- no piece stands at the rest of the text, for the reason
+-- no piece begins at the rest of the text, for this reason
 pub record IsStuck (base : ℕ) (behind : List ℕ) (first : Bool) (rest : List ℕ) (x : Explained) : Type 0 where
   pub none : HasNoPiece first rest
   pub front : List ℕ
@@ -48,7 +48,7 @@ pub record IsStuck (base : ℕ) (behind : List ℕ) (first : Bool) (rest : List 
   pub before : IsStretch base behind front x.before
   pub at : IsStretch base (behind ++ front) part x.at
 
--- a closer stands there, which the innermost opener doesn't wait for
+-- the rest of the text begins with a closer that the innermost opener doesn't match
 pub record IsRefused (base : ℕ) (behind : List ℕ) (first : Bool) (rest : List ℕ) (x : Explained) : Type 0 where
   pub closer : ℕ
   pub part : List ℕ
@@ -59,7 +59,7 @@ pub record IsRefused (base : ℕ) (behind : List ℕ) (first : Bool) (rest : Lis
   pub before : IsStretch base behind [] x.before
   pub at : IsStretch base behind part x.at
 
--- nothing, right before the stretch
+-- the empty part of the text where this part begins
 abbrev pub front_of : Stretch → Stretch
 front_of stretch = record {
   start = stretch.start;
@@ -67,7 +67,7 @@ front_of stretch = record {
   span = record { lo = stretch.span.lo; hi = stretch.span.lo };
 }
 
--- an opener is said to be left open, and is the innermost
+-- the explanation is that its innermost opener is left open
 pub record SaysLeftOpen (x : Explained) : Type 0 where
   pub opener : Opener
   pub reason : x.reason ≡ UnclosedOpener
@@ -80,7 +80,8 @@ pub record IsLeftOpen (rest : List ℕ) (x : Explained) : Type 0 where
   pub done : rest ≡ []
   pub says : SaysLeftOpen x
 
--- pieces cover the source up to its fault, these openers are left open, and there the reason holds
+-- pieces cover the source up to where reading stops, the explanation has the openers that are open there, and its
+-- reason holds at the fault
 pub record IsExplained (base : ℕ) (source : List ℕ) (x : Explained) : Type 0 where
   pub pieces : List Piece
   pub behind : List ℕ
@@ -90,7 +91,7 @@ pub record IsExplained (base : ℕ) (source : List ℕ) (x : Explained) : Type 0
   pub waits : List Waiting
   pub leaves : LeavesOpen (expansion base pieces) waits
   pub told : WaitsAs waits x.innermost x.outer.items
-  -- and each is told where it stands
+  -- each of these openers has its own delimiter, bytes and span
   pub inmost : IfSome x.innermost (IsOpenerOf base source)
   pub others : AllByRecursion (IsOpenerOf base source) x.outer.items
   pub fault : FaultAt base source x.before.span.lo

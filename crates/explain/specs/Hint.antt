@@ -1,4 +1,4 @@
--- What helps to mend a fault, by definitions of its own: advice, and no part of a reason.
+-- Advice that helps to fix an error. It has its own definitions, and is no part of a reason.
 use Rattle.std.specs.Prelude.{ℕ, zero, suc, ◌≡◌, List, [], ◌∷◌, ◌++◌, codes, length, Option, Some, None, MatchOption}
 use Rattle.std.specs.Str.{encode_utf8_all}
 use Rattle.lexical.specs.Block.{BlockBody, block_signs}
@@ -18,12 +18,12 @@ use Rattle.explain.specs.declared.reason.Reason.TheVariants.{UnclosedComment, Un
 
 -- ---- block comments
 
--- so many block comments begin, each inside the one before, and none of them ends
+-- `depth` block comments begin, each inside the one before, and none of them ends
 abbrev pub AreOpen : ℕ → Form
 AreOpen zero = Nothing
 AreOpen (suc depth) = Then (AreOpen depth) (Then (These (codes "/*")) BlockBody)
 
--- what begins a comment, or a character at which none begins or ends
+-- `/*`, or a character at which no comment begins or ends
 abbrev pub open_unit : Rule
 open_unit = Either (Exactly (codes "/*")) (NotAt block_signs (One any))
 
@@ -31,27 +31,29 @@ open_unit = Either (Exactly (codes "/*")) (NotAt block_signs (One any))
 abbrev pub no_end : Rule
 no_end = UpTo open_unit nothing
 
--- of the rest of the source, before which this stands, the stretch is the comment after whose end no other ends
+-- the `Stretch` is a comment in the rest of the source, and no other comment ends after it. The rest follows the text
+-- `behind`
 pub record IsLastClosed (base : ℕ) (behind rest : List ℕ) (x : Stretch) : Type 0 where
   pub before : List ℕ
   pub comment : List ℕ
   pub after : List ℕ
   pub whole : rest ≡ before ++ (comment ++ after)
-  -- it begins where comments do, and not in the midst of a sign
+  -- the comment begins where a comment can, and not in the middle of a `/*` or `*/`
   pub depth : ℕ
   pub inside : AreOpen depth before (comment ++ after)
   pub stands : BlockComment comment after
   pub last : Stands no_end after []
   pub at : IsStretch base (behind ++ before) comment x
 
--- so many comments are open at the end of the text, and this one ended last, if one did
+-- `depth` comments are open at the end of the text, and `closed` is the comment that ended last, if one did
 abbrev pub TellsComments : ℕ → List ℕ → List ℕ → ℕ → Option Stretch → Type 0
 TellsComments base behind rest depth closed =
     AreOpen depth rest [] × MatchOption closed (Stands no_end rest []) (IsLastClosed base behind rest)
 
 -- ---- raw strings
 
--- a quote and its hash signs, with which a raw string would end there, and with one more nowhere
+-- a quote and the hash signs after it: a raw string with so many hash signs would end there, and one with more would
+-- end nowhere
 pub record IsNearest (base : ℕ) (behind rest : List ℕ) (x : Stretch) : Type 0 where
   pub kind : StringKind
   pub opening : List ℕ
@@ -65,7 +67,7 @@ pub record IsNearest (base : ℕ) (behind rest : List ℕ) (x : Stretch) : Type 
   pub most : HasNone (Stands (closed_raw_body (hash_sign ∷ signs))) (before ++ ((double_quote ∷ signs) ++ after))
   pub at : IsStretch base (behind ++ (opening ++ before)) (double_quote ∷ signs) x
 
--- no quote stands after what opens a raw string
+-- no quote is in the text after what opens a raw string
 pub record HasNoQuote (rest : List ℕ) : Type 0 where
   pub kind : StringKind
   pub opening : List ℕ
@@ -76,7 +78,7 @@ pub record HasNoQuote (rest : List ℕ) : Type 0 where
 
 -- ---- all of them
 
--- the hint for a reason: `rest` is the source from the fault on, and `behind` what stands before that
+-- the hint fits the reason. `rest` is the source from the fault on, and `behind` is the source before the fault
 abbrev pub Helps : ℕ → List ℕ → List ℕ → Reason → Option Hint → Type 0
 Helps base behind rest UnclosedComment None = ⊥
 Helps base behind rest UnclosedComment (Some (Comments depth closed)) = TellsComments base behind rest depth closed
@@ -87,7 +89,7 @@ Helps base behind rest UnclosedRawString (Some (Quote x)) = IsNearest base behin
 Helps base behind rest _ None = Unit {0}
 Helps base behind rest _ (Some hint) = ⊥
 
--- the hint for what explains the source
+-- the hint fits the explanation of the source
 pub record IsHint (base : ℕ) (source : List ℕ) (x : Explained) (hint : Option Hint) : Type 0 where
   pub behind : List ℕ
   pub rest : List ℕ

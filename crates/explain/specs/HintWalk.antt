@@ -1,4 +1,4 @@
--- What the walks for a hint find, by cursors.
+-- What the loops that search for a hint find, in terms of cursors.
 use Rattle.std.specs.Prelude.{ℕ, ◌≡◌, ◌+◌, ◌-◌, List, [], ◌∷◌, ◌++◌, codes, false, length, Option, Some, None}
 use Rattle.std.specs.Prelude.{MatchOption}
 use Rattle.std.specs.Prelude.{if◌then◌else◌, nat_le}
@@ -16,7 +16,7 @@ use Rattle.explain.specs.Walk.{IsPast}
 use Rattle.explain.specs.declared.comment_hints.Sign.{Sign}
 use Rattle.explain.specs.declared.comment_hints.Sign.TheVariants.{Opens, Closes, Other}
 
--- from one cursor to the other stands what begins a comment, what ends one, or a character at which none of them begins
+-- the text between the cursors is `/*`, `*/`, or a character at which neither begins
 abbrev pub IsSign : Sign → Cursor → Cursor → Type 0
 IsSign Opens at to = (chars at.rest.now ≡ codes "/*" ++ chars to.rest.now) × (to.chars_before ≡ at.chars_before + 2)
 IsSign Closes at to = (chars at.rest.now ≡ codes "*/" ++ chars to.rest.now) × (to.chars_before ≡ at.chars_before + 2)
@@ -24,7 +24,7 @@ IsSign Other at to =
     (c : ℕ) × (chars at.rest.now ≡ c ∷ chars to.rest.now) × (to.chars_before ≡ at.chars_before + 1)
     × (begins_any block_signs (chars at.rest.now) ≡ false)
 
--- the comment from one cursor to the other ended last
+-- the comment between the cursors `from` and `to` ended last
 pub record EndedLast (start from to : Cursor) : Type 0 where
   pub before : IsPast start from
   pub comment : IsPast from to
@@ -33,13 +33,13 @@ pub record EndedLast (start from to : Cursor) : Type 0 where
   pub stands : BlockComment comment.part (chars to.rest.now)
   pub last : Stands no_end (chars to.rest.now) []
 
--- so many comments are open at the end of the text, and the last that ended stands between the two cursors
+-- `depth` comments are open at the end of the text, and the comment that ended last, if any, is between the two cursors
 abbrev pub LeftComments : Cursor → ℕ → Option (Cursor × Cursor) → Type 0
 LeftComments start depth closed =
     AreOpen depth (chars start.rest.now) []
     × MatchOption closed (Stands no_end (chars start.rest.now) []) (λ x. EndedLast start x.0 x.1)
 
--- a quote with as many hash signs after it as any in the content stands from one cursor to the other
+-- between the cursors `from` and `to` is a quote and its hash signs, and no quote in the content has more
 pub record CameNearest (inside from to : Cursor) : Type 0 where
   pub before : IsPast inside from
   pub signs : List ℕ
@@ -49,7 +49,7 @@ pub record CameNearest (inside from to : Cursor) : Type 0 where
   pub closes : Stands (closed_raw_body signs) (before.part ++ (double_quote ∷ signs)) (chars to.rest.now)
   pub most : HasNone (Stands (closed_raw_body (hash_sign ∷ signs))) (chars inside.rest.now)
 
--- what stands from one pair of cursors to the other, the longer, and of two that are alike the first
+-- the pair of cursors with more characters between them, and of two pairs with the same number the first
 abbrev pub longer : Option (Cursor × Cursor) → Cursor → Cursor → Option (Cursor × Cursor)
 longer None from to = Some (from, to)
 longer (Some x) from to =

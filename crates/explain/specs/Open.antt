@@ -14,25 +14,26 @@ LeavesOpen events (x ∷ outer) =
     (front : List Event) × (back : List Event) × (events ≡ front ++ (Opens x.0 x.1 ∷ back)) × Balanced back
     × LeavesOpen front outer
 
--- how it waits
+-- the delimiter of an opener, and its position
 abbrev pub opener_of : Opener → Waiting
 opener_of x = (x.delimiter, x.at.span.lo)
 
--- the open groups of a list of openers, whose last is the innermost
+-- the delimiter and position of each opener in the list, whose last is the innermost. The result has the innermost
+-- first
 abbrev pub waiting : List Opener → List Waiting
 waiting openers = map opener_of (reverse openers)
 
--- the open groups are those of the list and then the innermost, if there is one; else none is open
+-- the open groups are those of `outer` and of the innermost opener. Without an innermost opener none is open
 abbrev pub WaitsAs : List Waiting → Option Opener → List Opener → Type 0
 WaitsAs all None outer = (all ≡ []) × (outer ≡ [])
 WaitsAs all (Some x) outer = all ≡ (x.delimiter, x.at.span.lo) ∷ waiting outer
 
--- the first list is the second and then the innermost opener, if there is one; else both are empty
+-- the first list is `outer` and then the innermost opener. Without an innermost opener both lists are empty
 abbrev pub Loses : List Opener → Option Opener → List Opener → Type 0
 Loses all None outer = (all ≡ []) × (outer ≡ [])
 Loses all (Some x) outer = all ≡ outer ++ x ∷ []
 
--- a closer of this delimiter can't stand where this is the innermost opener, for this reason
+-- this is the reason why a closer of this delimiter is wrong after this innermost opener
 abbrev pub RefusesFor : Delimiter → Reason → Option Opener → Type 0
 RefusesFor d StrayCloser None = Unit {0}
 RefusesFor d StrayCloser (Some opener) = ⊥
@@ -40,7 +41,7 @@ RefusesFor d MismatchedCloser None = ⊥
 RefusesFor d MismatchedCloser (Some opener) = opener.delimiter ≡ d → ⊥
 RefusesFor d _ innermost = ⊥
 
--- why no closer but its own can stand where this is the innermost opener
+-- the reason for a closer that doesn't match this innermost opener
 abbrev pub refusal : Option Opener → Reason
 refusal None = StrayCloser
 refusal (Some opener) = MismatchedCloser

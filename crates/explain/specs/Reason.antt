@@ -1,5 +1,5 @@
--- What each reason says, by itself. `front` is what stands from the fault's byte offset to what is at fault, `part` is
--- that, and `r` all that follows it in the text.
+-- The definition of each reason. `front`, or `f`, is the text from the fault up to the wrong part. `part`, or `p`, is
+-- the wrong part, and `r` is the rest of the text.
 use Rattle.std.specs.Prelude.{ℕ, List, [], ◌∷◌, ◌++◌, codes}
 use Rattle.std.specs.Char.{is_ascii_digit}
 use Rattle.lexical.specs.Comment.{block_comment}
@@ -22,23 +22,23 @@ use Rattle.explain.specs.declared.reason.Reason.TheVariants.{DigitLifetime, Hash
 use Rattle.explain.specs.declared.reason.Reason.TheVariants.{BadNumberEnd, MisplacedMark, NoToken, StrayCloser}
 use Rattle.explain.specs.declared.reason.Reason.TheVariants.{MismatchedCloser, UnclosedOpener}
 
--- a piece of the first rule, and then one of the second
+-- `front` matches the first rule, and the wrong part matches the second
 abbrev pub Follow : Rule → Rule → List ℕ → List ℕ → List ℕ → Type 0
 Follow a b front part r = Stands a front (part ++ r) × Stands b part r
 
--- a piece of the rule right at the fault
+-- the wrong part begins at the fault, and matches the rule
 abbrev pub Begins : Rule → List ℕ → List ℕ → List ℕ → Type 0
 Begins rule front part r = Follow nothing rule front part r
 
--- no piece of the rule stands at the fault
+-- the rule has no match at the fault
 abbrev pub Lacks : Rule → List ℕ → List ℕ → List ℕ → Type 0
 Lacks rule front part r = HasNone (Stands rule) (front ++ (part ++ r))
 
--- a piece of the rule stands at the fault
+-- the rule has a match at the fault
 abbrev pub Has : Rule → List ℕ → List ℕ → List ℕ → Type 0
 Has rule front part r = HasNone (Stands rule) (front ++ (part ++ r)) → ⊥
 
--- what the reason says where no piece of the grammar stands
+-- the reason holds: with this wrong part, it is why no piece of the grammar begins at the fault
 abbrev pub Holds : Reason → List ℕ → List ℕ → List ℕ → Type 0
 Holds UnclosedComment f p r = Begins (Exactly (codes "/*")) f p r × Lacks block_comment f p r
 Holds BareReturnInDoc f p r = IsBareReturn f p r

@@ -1,4 +1,4 @@
--- What is remembered of the openers of a text while it is read.
+-- What the sink keeps of the openers of a text while it is read.
 use Rattle.std.specs.Prelude.{◌≡◌}
 use Rattle.std.specs.List.{AllByRecursion}
 use Rattle.std.specs.Str.{chars, IsUtf8}
@@ -7,7 +7,7 @@ use Rattle.explain.specs.Explained.{IsOpenerOf}
 use Rattle.explain.specs.declared.explained.Opener.{Opener}
 use Rattle.explain.specs.declared.explaining.Openers.{Openers}
 
--- the source is this text, and it has each opener that waits for a closer at the opener's bytes and span
+-- the source is the sink's text, and each open opener has its own delimiter, bytes and span in the source
 pub record Remembers (openers : Openers) (taken : Taken Opener) : Type 0 where
   pub text : taken.source ≡ chars openers.text.now
   pub utf8 : IsUtf8 openers.text.now

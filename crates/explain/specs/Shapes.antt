@@ -1,4 +1,4 @@
--- What stands where a reason holds, in the words of the grammar's rules.
+-- The shapes of the texts for which the reasons hold, as rules.
 use Rattle.std.specs.Prelude.{ℕ, Bool, true, not, ◌&&◌, ◌||◌, ◌==◌, List, [], ◌∷◌, codes, length, nat_lt}
 use Rattle.std.specs.Char.{is_ascii_digit}
 use Rattle.lexical.specs.Character.{double_quote, hash_sign, line_feed, single_quote}
@@ -27,32 +27,33 @@ any c = true
 abbrev pub is_hash : ℕ → Bool
 is_hash c = c == hash_sign
 
+-- whether the character is `'`
 abbrev pub is_quote : ℕ → Bool
 is_quote c = c == single_quote
 
 -- ---- strings
 
--- a character but `"` and backslash, or a backslash and any character
+-- a pair: a character except `"` and backslash, or a backslash and any character
 abbrev pub pair : Rule
 pair = Either (One (λ c. not (is_one_of (codes "\"\\") c))) (Then (Exactly (codes "\\")) (One any))
 
--- pairs of a string's body up to the first `"` that is in none of them
+-- the body of a string, up to the first `"` that is in no pair, and that `"`
 abbrev pub closed_body : Rule
 closed_body = UpTo pair (Exactly (codes "\""))
 
--- a string that ends, whatever stands in it
+-- a string that is closed, whatever is in it
 abbrev pub closed_string : StringKind → Rule
 closed_string kind = Then (Exactly (front kind)) closed_body
 
--- a character at which what closes a raw string with these hash signs doesn't begin
+-- a character at which the closing quote and hash signs of a raw string don't begin
 abbrev pub raw_unit : List ℕ → Rule
 raw_unit hashes = NotAt ((double_quote ∷ hashes) ∷ []) (One any)
 
--- all up to the first `"` with these hash signs after it
+-- everything up to the first `"` with these hash signs after it, and both of these
 abbrev pub closed_raw_body : List ℕ → Rule
 closed_raw_body hashes = UpTo (raw_unit hashes) (Exactly (double_quote ∷ hashes))
 
--- a raw string that ends, whatever stands in it and however many hash signs it has
+-- a raw string that is closed, whatever is in it and however many hash signs it has
 abbrev pub closed_raw : StringKind → Rule
 closed_raw kind =
     Then (Exactly (raw_front kind)) (Next (Run is_hash) (λ hashes. Then (Exactly (codes "\""))
@@ -62,27 +63,27 @@ closed_raw kind =
 abbrev pub raw_opening : StringKind → Rule
 raw_opening kind = Then (Exactly (raw_front kind)) (Then (Run is_hash) (Exactly (codes "\"")))
 
--- what opens one with more than 255 hash signs
+-- what opens a raw string with more than 255 hash signs
 abbrev pub long_opening : StringKind → Rule
 long_opening kind =
     Then (Exactly (raw_front kind))
     (Then (Where (λ hashes. nat_lt 255 (length hashes)) (Run is_hash)) (Exactly (codes "\"")))
 
--- the letters of a raw string and one hash sign at least
+-- the letters of a raw string, and at least one hash sign
 abbrev pub hashed_front : StringKind → Rule
 hashed_front kind = Then (Exactly (raw_front kind)) (Then (One is_hash) (Run is_hash))
 
--- a character but `"`, or nothing at the end of the text
+-- a character except `"`, or nothing at the end of the text
 abbrev pub no_double_quote : Rule
 no_double_quote = NotAt (codes "\"" ∷ []) (perhaps (One any))
 
--- how a raw name begins
+-- `r#` and the first character of a name
 abbrev pub raw_name_start : Rule
 raw_name_start = Then (Exactly (codes "r#")) (One is_ident_start)
 
 -- ---- names
 
--- a reserved name after `r#`, or as a lifetime
+-- a reserved name after `r#`, or after `'r#` as a lifetime
 abbrev pub reserved_raw : Rule
 reserved_raw =
     Either (Then (Exactly (codes "r#")) (Where is_reserved name))
@@ -90,38 +91,38 @@ reserved_raw =
 
 -- ---- characters and lifetimes
 
--- what bars a lone `'` from opening a character: a name or a digit
+-- whether the character after a `'` begins a name or is a digit, so that this `'` doesn't open a character literal
 abbrev pub bars_character : ℕ → Bool
 bars_character c = is_ident_start c || is_ascii_digit c
 
--- what opens a character or a byte
+-- the `b'` that opens a byte literal, or a `'` with no name or digit after it, which opens a character literal
 abbrev pub single_opening : Rule
 single_opening = Either (NotBefore bars_character (Exactly (codes "'"))) (Exactly (codes "b'"))
 
--- a character but `'`, backslash and LF, or a backslash and a character but LF, where no comment begins
+-- a pair, where no comment begins: a character except `'`, backslash and LF, or a backslash and a character except LF
 abbrev pub single_pair : Rule
 single_pair =
     NotAt comment_fronts
     (Either (One (λ c. not (is_one_of (codes "'\\\n") c)))
     (Then (Exactly (codes "\\")) (One (λ c. not (c == line_feed)))))
 
--- up to the `'` that closes a character: after one `'` or LF, or else after such pairs
+-- what is in a character literal and the `'` that closes it: one `'` or LF, or else pairs
 abbrev pub closed_single_body : Rule
 closed_single_body =
     Else (Then (One (is_one_of (codes "'\n"))) (Exactly (codes "'"))) (UpTo single_pair (Exactly (codes "'")))
 
--- a character or a byte that ends, whatever stands in it
+-- a character or byte literal that is closed, whatever is in it
 abbrev pub closed_single : Rule
 closed_single = Then single_opening closed_single_body
 
--- a character that ends, between the quotes of which stands a name, a raw one or what begins with a digit
+-- a character literal that is closed, and has a name, a raw name, or a digit and name characters in it
 abbrev pub closed_named : Rule
 closed_named =
     Either (Then (Exactly (codes "'r#")) (Then name (Exactly (codes "'"))))
     (Then (Exactly (codes "'"))
     (Then (Either name (Then (One is_ascii_digit) (Run is_ident_continue))) (Exactly (codes "'"))))
 
--- a character literal that ends, whatever stands in it
+-- a character or byte literal that is closed, whatever is in it, names and digits included
 abbrev pub closed_character : Rule
 closed_character = Either closed_single closed_named
 
@@ -135,7 +136,7 @@ abbrev pub single_rule : SingleKind → Rule
 single_rule Character = character
 single_rule Byte = byte
 
--- a lifetime that begins with a digit
+-- a lifetime that begins with a digit, and has no `'` after it
 abbrev pub digit_lifetime : Rule
 digit_lifetime = NotBefore is_quote (Then (Exactly (codes "'")) (Then (One is_ascii_digit) (Run is_ident_continue)))
 
@@ -143,32 +144,32 @@ digit_lifetime = NotBefore is_quote (Then (Exactly (codes "'")) (Then (One is_as
 abbrev pub lifetime : Rule
 lifetime = Then (Exactly (codes "'")) name
 
--- how a raw lifetime begins
+-- `'r#` and the first character of a name
 abbrev pub raw_lifetime_start : Rule
 raw_lifetime_start = Then (Exactly (codes "'r#")) (One is_ident_start)
 
 -- ---- numbers
 
--- how the numbers of a base begin
+-- the prefix of the numbers of this base
 abbrev pub base_prefix : Base → List ℕ
 base_prefix Binary = codes "0b"
 base_prefix Octal = codes "0o"
 base_prefix Hexadecimal = codes "0x"
 
--- a digit of the base, an ASCII digit or `_`
+-- whether the character is a digit of the base, an ASCII digit or `_`
 abbrev pub goes_on_base : Base → ℕ → Bool
 goes_on_base base c = is_digit_or_underscore_in (radix base) c || is_ascii_digit c
 
--- the prefix of a base and all `_` that follow, before none of these
+-- the prefix of a base and all `_` after it, if no digit follows
 abbrev pub bare_prefix : Base → Rule
 bare_prefix base = NotBefore (goes_on_base base) (Then (Exactly (base_prefix base)) (Run is_underscore))
 
--- the prefix of a base, all `_` that follow, and all digits of the base and `_`
+-- the prefix of a base, all `_` after it, and then all digits of the base and `_`
 abbrev pub base_front : Base → Rule
 base_front base =
     Then (Exactly (base_prefix base)) (Then (Run is_underscore) (perhaps (base_digits (radix base))))
 
--- whether the character can't follow a number: a name goes on with it and begins with it as little as a number goes on
+-- whether the character can't follow a number: it can be inside a name, but it begins no name and is no digit
 abbrev pub ends_badly : ℕ → Bool
 ends_badly c = is_ident_continue c && not (is_ident_start c || is_ascii_digit c)
 

@@ -1,4 +1,4 @@
--- The walk over the content of a literal.
+-- The loop over the content of a literal.
 use Rattle.std.specs.Prelude.{ℕ, ◌≡◌, ◌+◌, ◌-◌, ◌≤◌, List, [], ◌∷◌, ◌++◌, codes, length, Option, Some, None, Result}
 use Rattle.std.specs.Prelude.{Ok, Err}
 use Rattle.std.specs.Prelude.{IsFalse}
@@ -28,38 +28,39 @@ use Rattle.explain.specs.declared.contents.Step.TheVariants.{Unit as IsUnit, Fau
 use Rattle.explain.specs.declared.reason.Reason.TheVariants.{Content}
 use Rattle.explain.specs.declared.trouble.Trouble.{Trouble}
 
--- this part of the text stands from one cursor to the other
+-- `part` is the text between the two cursors
 pub record IsPast (at to : Cursor) : Type 0 where
   pub part : List ℕ
   pub whole : chars at.rest.now ≡ part ++ chars to.rest.now
   pub count : to.chars_before ≡ at.chars_before + length part
 
--- this is left of the content that the quote before the other cursor closes
+-- `left` is the text from the first cursor up to the quote right before the second
 abbrev pub IsLeft : ℕ → List ℕ → Cursor → Cursor → Type 0
 IsLeft quote left at end = chars at.rest.now ≡ left ++ (quote ∷ chars end.rest.now)
 
--- some content is left from the one cursor to the other, which the quote before the other closes
+-- the second cursor is right after a quote, and the first cursor is at that quote or before it
 abbrev pub IsInside : ℕ → Cursor → Cursor → Type 0
 IsInside quote at end = (left : List ℕ) × IsLeft quote left at end
 
--- the error, if it is one
+-- the error of a result, if it is one
 abbrev pub error_in : {U : Type 0} → Result U EscapeError → Option EscapeError
 error_in (Ok unit) = None
 error_in (Err e) = Some e
 
--- what the escaper reads at the front of the content
+-- the size in bytes and the error of the first item that the escaper reads from the content
 abbrev pub GivesFront : {U : Type 0} → Kind U → List ℕ → Front → Type 0
 GivesFront kind [] x = ⊥
 GivesFront kind (c ∷ text) x =
     (x.size ≡ bytes (c ∷ text) - bytes (unit_front kind c text).rest)
     × (x.error ≡ error_in (unit_front kind c text).unit)
 
+-- the size in bytes and the error of the first item that the escaper reads from the content of a string of this kind
 abbrev pub IsFront : StringKind → List ℕ → Front → Type 0
 IsFront Plain = GivesFront string_kind
 IsFront Byte = GivesFront byte_kind
 IsFront C = GivesFront c_kind
 
--- a fault at the front of the content
+-- the escaper reads this error in a string of this kind, between the cursors `at` and `after`
 pub record IsFaultAt (kind : StringKind) (e : EscapeError) (at after end : Cursor) : Type 0 where
   pub past : IsPast at after
   pub some : 1 ≤ length past.part
@@ -68,13 +69,13 @@ pub record IsFaultAt (kind : StringKind) (e : EscapeError) (at after end : Curso
   pub apart : IsFalse (begins_any line_ends (chars at.rest.now))
   pub gives : StringFault kind e (past.part ++ left) left
 
--- the step leads past a unit, or finds a fault or the end of the content
+-- the step passes a unit, or finds an error or the end of the content
 abbrev pub IsStep : StringKind → Cursor → Cursor → Step → Type 0
 IsStep kind at end (IsUnit after) = Passes (unit kind) at after × IsInside double_quote after end
 IsStep kind at end (Fault e after) = IsFaultAt kind e at after end
 IsStep kind at end End = IsLeft double_quote [] at end
 
--- this is wrong, by this error, in the text from one cursor to the other
+-- the trouble has this error, and the wrong part is all text between the cursors or its last character
 pub record IsFaulty (e : EscapeError) (at after : Cursor) (x : Trouble) : Type 0 where
   pub start : IsPast at x.at
   pub part : IsPast x.at x.after
@@ -82,19 +83,19 @@ pub record IsFaulty (e : EscapeError) (at after : Cursor) (x : Trouble) : Type 0
   pub reason : x.reason ≡ Content e
   pub fault : IsAtFault e start.part part.part
 
--- the last character that stands from one cursor to the other
+-- the third cursor is before the last character between the other two
 pub record IsLast (at end last : Cursor) : Type 0 where
   pub before : IsPast at last
   pub character : ℕ
   pub one : chars last.rest.now ≡ character ∷ chars end.rest.now
   pub count : end.chars_before ≡ last.chars_before + 1
 
--- a unit that the escaper reads otherwise
+-- a unit that the escaper reads in another way than the grammar: CR LF, or a backslash with a line end
 abbrev pub line_end : Rule
 line_end =
     Either (Exactly (codes "\r\n")) (Either (Exactly (codes "\\\n")) (Exactly (codes "\\\r\n")))
 
--- from the first cursor on, the first CR that no LF follows stands between the two others
+-- between the cursors `at` and `after` is the first CR from `inside` on that no LF follows
 pub record IsFirstBare (inside at after : Cursor) : Type 0 where
   pub before : IsPast inside at
   pub return : chars at.rest.now ≡ carriage_return ∷ chars after.rest.now
@@ -104,16 +105,18 @@ pub record IsFirstBare (inside at after : Cursor) : Type 0 where
 
 -- ---- characters and bytes
 
+-- the escaper's mode for this kind of literal
 abbrev pub single_mode : SingleKind → Mode
 single_mode Character = modes.Char
 single_mode SingleByte = modes.Byte
 
--- what is wrong with the content, and how many bytes were read for it, or nothing
+-- the error in the content, after the number of bytes that were read for it, or nothing if there is no error
 abbrev pub GivesSingle : {U : Type 0} → Kind U → List ℕ → Option (ℕ × EscapeError) → Type 0
 GivesSingle {U = U} kind text None = (u : U) × ((single kind text).unit ≡ Ok u)
 GivesSingle kind text (Some x) =
     (x.0 ≡ bytes text - bytes (single kind text).rest) × ((single kind text).unit ≡ Err x.1)
 
+-- the error in the content of a literal of this kind, after the number of bytes that were read for it, or nothing
 abbrev pub IsSingleFault : SingleKind → List ℕ → Option (ℕ × EscapeError) → Type 0
 IsSingleFault Character = GivesSingle string_kind
 IsSingleFault SingleByte = GivesSingle byte_kind

@@ -1,4 +1,4 @@
--- What each reason is named, and what is said of it.
+-- The name and the message of each reason.
 use Rattle.std.specs.Prelude.{ℕ, List, codes}
 use Rattle.explain.specs.declared.reason.Reason.{Reason}
 use Rattle.explain.specs.declared.reason.Reason.TheVariants.{UnclosedComment, UnclosedString}
@@ -33,7 +33,7 @@ name_of StrayCloser = codes "stray-closer"
 name_of MismatchedCloser = codes "mismatched-closer"
 name_of UnclosedOpener = codes "unclosed-opener"
 
--- the sentence for a reason
+-- the message of a reason
 unfoldable pub sentence_of : Reason → List ℕ
 sentence_of UnclosedComment = codes "unclosed block comment"
 sentence_of BareReturnInDoc = codes "CR in a doc comment that no LF follows"
@@ -55,7 +55,7 @@ sentence_of StrayCloser = codes "no opener waits for this closer"
 sentence_of MismatchedCloser = codes "the innermost opener waits for another closer"
 sentence_of UnclosedOpener = codes "no closer matches this opener"
 
--- what is said where no reason is answered
+-- the message of an error of `explain`
 abbrev pub error_message : ExplainError → List ℕ
 error_message errors.MapFull = codes "map full"
 error_message (errors.Memory error) = codes "no memory"

@@ -1,4 +1,4 @@
-//! Which block comments a text leaves open.
+//! Finds the block comments that are open at the end of a text.
 
 ghost use Rattle.std.specs.Prelude.{◌≡◌, ◌++◌, List, [], ℕ, IfOk, MatchOption, codes};
 ghost use Rattle.std.specs.Str.{chars};
@@ -9,18 +9,18 @@ ghost use Rattle.explain.specs.HintWalk.{IsSign, LeftComments};
 use lexical::parts::Cursor;
 use std::alloc::{AllocError, Global};
 
-/// What stands at a cursor in a block comment.
+/// What is at a cursor in a block comment.
 #[derive(Clone, Copy)]
 pub enum Sign {
-    /// What begins a comment.
+    /// `/*`, which begins a comment.
     Opens,
-    /// What ends one.
+    /// `*/`, which ends a comment.
     Closes,
     /// A character at which neither begins.
     Other,
 }
 
-/// What stands at the cursor, and the cursor after it.
+/// Returns what is at the cursor, and the cursor after it. Returns `None` at the end of the text.
 #[tactic(auto, using(lexical::proofs::RuleSteps::past_text))]
 fn sign_at(at: Cursor<'_>) -> Option<(Sign, Cursor<'_>)>
     ensures { MatchOption result (chars at.entry.rest.now ≡ []) (λ x. IsSign x.0 at.entry x.1) }
@@ -35,8 +35,8 @@ fn sign_at(at: Cursor<'_>) -> Option<(Sign, Cursor<'_>)>
     Some((Sign::Other, after))
 }
 
-/// How many block comments are open at the end of the text, the one at the cursor among them, and the cursors before
-/// and after the one that ended last.
+/// Returns how many block comments are open at the end of the text, including the one at `start`, and the cursors
+/// before and after the comment that ended last.
 pub fn open_comments<'a>(
     alloc: Global,
     start: Cursor<'a>,

@@ -1,4 +1,4 @@
-//! What is wrong first with the content of a literal that ends.
+//! The first error in the content of a literal that is closed.
 #![tactic(auto, using(lexical::proofs::RuleSteps::steps))]
 
 ghost use Rattle.std.specs.Prelude.{◌≡◌, ◌≤◌, ◌<◌, ◌∷◌, ◌++◌, [], List, MatchOption, None, ℕ, codes, false, length};
@@ -19,27 +19,27 @@ use lexical::parts::{Cursor, StringKind};
 use literal_escaper::{EscapeError, unescape_byte_str, unescape_c_str, unescape_str};
 use std::ops::Range;
 
-/// What the escaper reads at the front of a content.
+/// The first item that the escaper reads from a content.
 #[derive(Drop)]
 pub struct Front {
-    /// How many bytes it reads.
+    /// The size of the item in bytes.
     pub size: usize,
-    /// What is wrong with them, if something is.
+    /// The error of the item, if it has one.
     pub error: Option<EscapeError>,
 }
 
-/// What stands at a cursor in the content of a string.
+/// What is at a cursor in the content of a string.
 #[derive(Drop)]
 pub enum Step<'a> {
     /// A unit, and the cursor after it.
     Unit(Cursor<'a>),
-    /// A fault, and the cursor after what was read for it.
+    /// An error, and the cursor after what was read for it.
     Fault(EscapeError, Cursor<'a>),
-    /// The quote that ends it.
+    /// The quote that ends the string.
     End,
 }
 
-/// The content from the cursor on, up to the quote before `end`.
+/// Returns the content from the cursor up to the quote before `end`.
 pub fn content<'a>(at: Cursor<'a>, end: Cursor<'a>) -> &'a str
     requires { (quote : ℕ) × (quote < 128) × IsInside quote at end }
     ensures { (quote : ℕ) (left : List ℕ) → quote < 128 → IsLeft quote left at.entry end.entry
@@ -49,7 +49,7 @@ pub fn content<'a>(at: Cursor<'a>, end: Cursor<'a>) -> &'a str
     &at.rest[..size]
 }
 
-/// The range and the error of an item.
+/// Returns the size and the error of an item of the escaper, whose range begins at 0.
 fn front_of<U: Copy>(range: Range<usize>, unit: Result<U, EscapeError>) -> Front
     ensures size { result.size ≡ range.end }
     ensures error { result.error ≡ error_in unit }
@@ -64,8 +64,8 @@ fn front_of<U: Copy>(range: Range<usize>, unit: Result<U, EscapeError>) -> Front
     }
 }
 
-/// What the escaper reads at the front of a content, unless that is empty. A line end with a backslash before it is
-/// read otherwise.
+/// Returns the first item that the escaper reads from a content, or `None` if the content is empty. The content must
+/// not begin with a backslash and a line end, which the escaper reads in another way.
 fn read_front(content: &str, kind: StringKind) -> Option<Front>
     requires { begins_with (codes "\\\n") (chars content.now) ≡ false }
     ensures { MatchOption result (chars content.now ≡ []) (IsFront kind (chars content.now)) }
@@ -86,7 +86,7 @@ fn read_front(content: &str, kind: StringKind) -> Option<Front>
     }
 }
 
-/// The cursor after CR LF, or after a line end with a backslash before it.
+/// Returns the cursor after CR LF, or after a backslash and a line end.
 fn past_line_end(at: Cursor<'_>) -> Option<Cursor<'_>>
     ensures { Reads line_end at.entry result }
 {
@@ -99,7 +99,7 @@ fn past_line_end(at: Cursor<'_>) -> Option<Cursor<'_>>
     }
 }
 
-/// What stands at the cursor in the content of a string, which the quote before `end` closes.
+/// Returns what is at the cursor in the content of a string. The quote before `end` closes the string.
 fn next_step<'a>(at: Cursor<'a>, end: Cursor<'a>, kind: StringKind) -> Step<'a>
     requires { IsInside double_quote at end }
     ensures { IsStep kind at.entry end.entry result }
@@ -119,7 +119,7 @@ fn next_step<'a>(at: Cursor<'a>, end: Cursor<'a>, kind: StringKind) -> Step<'a>
     }
 }
 
-/// Whether the last character that is read is at fault, and not all of the escape.
+/// Whether the error is about the last character that was read, and not about the whole escape.
 fn is_of_last(error: &EscapeError) -> bool
     ensures { result ≡ of_last error.now }
 {
@@ -132,7 +132,7 @@ fn is_of_last(error: &EscapeError) -> bool
     )
 }
 
-/// The cursor before the last character that stands before `end`, from a cursor on.
+/// Returns the cursor before the last character between `at` and `end`.
 fn last_character<'a>(at: Cursor<'a>, end: Cursor<'a>) -> Cursor<'a>
     requires { (past : IsPast at end) × (1 ≤ length past.part) }
     ensures { IsLast at.entry end.entry result }
@@ -147,7 +147,8 @@ fn last_character<'a>(at: Cursor<'a>, end: Cursor<'a>) -> Cursor<'a>
     last
 }
 
-/// That this is wrong with what was read from a cursor to another: with all of it, or with its last character.
+/// Returns the trouble for an error in what was read from `at` to `after`. The wrong part is all of it, or its last
+/// character.
 pub fn faulty<'a>(at: Cursor<'a>, after: Cursor<'a>, error: EscapeError) -> Trouble<'a>
     requires { (past : IsPast at after) × (1 ≤ length past.part) }
     ensures { IsFaulty error at.entry after.entry result }
@@ -164,7 +165,8 @@ pub fn faulty<'a>(at: Cursor<'a>, after: Cursor<'a>, error: EscapeError) -> Trou
     }
 }
 
-/// What is wrong with the content of a string that ends at `end` and isn't one. What opens it leads `inside`.
+/// Returns the first error in the content of a string that begins at `at`. Its content begins at `inside`, and `end` is
+/// after its closing quote.
 pub fn string_content<'a>(
     at: Cursor<'a>,
     inside: Cursor<'a>,

@@ -1,4 +1,4 @@
-//! What is said of a text that doesn't parse.
+//! The explanation of why a text doesn't parse.
 
 use crate::reason::Reason;
 use pm_span::Span;
@@ -7,43 +7,47 @@ use std::alloc::AllocError;
 use std::error::Error;
 use std::fmt;
 
-/// A stretch of a text.
+/// A part of a text, from one byte offset to another.
 #[derive(Clone, Copy)]
 pub struct Stretch {
-    /// How many bytes of the text stand before it.
+    /// The byte offset in the text at which the part begins.
     pub start: usize,
-    /// How many bytes stand before its end.
+    /// The byte offset in the text at which the part ends. The byte at this offset is not in the part.
     pub end: usize,
-    /// Its positions in a new map whose first file the text is.
+    /// The span of the part, in a new map whose first file is the text.
     pub span: Span,
 }
 
-/// An opener that no closer matches: one character of the text.
+/// An opening delimiter that no closer matches. It is one character of the text.
 #[derive(Clone, Copy)]
 pub struct Opener {
-    /// Which one it is.
+    /// The kind of delimiter.
     pub delimiter: Delimiter,
-    /// Where it stands.
+    /// Where the opener is in the text.
     pub at: Stretch,
 }
 
 /// Why a text doesn't parse, and where.
+///
+/// The fault of a text is where no token, comment or white space can begin, or where a delimiter has no match. The part
+/// of the text that is wrong may begin later. For `0b12` the fault is at the `0`, since no number begins there. But
+/// only the `2` is wrong, because it is no binary digit. So `before` is `0b1`, and `at` is `2`.
 #[derive(Drop)]
 pub struct Explained {
-    /// The reason.
+    /// The reason why the text doesn't parse.
     pub reason: Reason,
-    /// What stands from the fault to what is at fault: of a digit that is too large the number before it.
+    /// The text from the fault up to `at`. It is empty if the wrong part begins at the fault.
     pub before: Stretch,
-    /// What is at fault.
+    /// The part of the text that is wrong.
     pub at: Stretch,
-    /// The innermost opener before the fault that no closer matches: of a mismatched closer the one that it doesn't
-    /// match, and of an unclosed opener this very one.
+    /// The innermost opener that is still open at the error, if there is one. For a mismatched closer, it is the opener
+    /// that the closer doesn't match. For an unclosed opener, it is that opener.
     pub innermost: Option<Opener>,
-    /// The others, the innermost of them last.
+    /// The other openers that are still open at the error. The innermost of them is last.
     pub outer: Vec<Opener>,
 }
 
-/// Why no reason is answered.
+/// Why [`explain`](crate::explain) can't give an answer.
 #[derive(Debug, Drop, PartialEq, Eq)]
 pub enum ExplainError {
     /// The text doesn't fit a new map.

@@ -1,4 +1,4 @@
-//! From a text to the reason why it doesn't parse.
+//! Finds the reason why a text doesn't parse.
 ghost use Rattle.std.specs.Prelude.{◌≡◌, ◌≢◌, ◌≤◌, ◌+◌, ◌<◌, ◌^◌, ◌↔◌, ◌++◌, Bool, Err, List, [], ℕ, IfOk};
 ghost use Rattle.std.specs.Prelude.{MatchOption, false, length, true};
 ghost use Rattle.std.specs.Str.{chars};
@@ -19,12 +19,12 @@ use pm_stream::reading::{Ending, Lexed, TokenSink, walk};
 use pm_token::Delimiter;
 use std::alloc::{AllocError, Global};
 
-/// Why a text doesn't parse, or `None` where it parses.
+/// Returns why a text doesn't parse, or `None` if it parses.
 ///
-/// The spans are those of a new map whose first file the text is. Fails with `MapFull` exactly where the text doesn't
-/// fit a new map, and with `Memory` where the list of open delimiters can't grow, the only thing that takes memory.
+/// The spans are those of a new map whose first file is the text. Fails with `MapFull` exactly if the text doesn't fit
+/// a new map, and with `Memory` if memory runs out. Only the list of open delimiters is allocated.
 ///
-/// Of `a + 0x;` the reason is `NoDigits`, and `at` is `0x`, the bytes 4..6.
+/// For `a + 0x;` the reason is `NoDigits`, and `at` is `0x`, the bytes 4..6.
 pub fn explain(alloc: Global, text: &str) -> Result<Option<Explained>, ExplainError>
     ensures answer { IfOk result (λ answer. MatchOption answer
         (Parses (next_lo new_map) (chars text.now)) (IsExplained (next_lo new_map) (chars text.now))) }
@@ -38,7 +38,7 @@ pub fn explain(alloc: Global, text: &str) -> Result<Option<Explained>, ExplainEr
     Ok(explain_at(alloc, lo, text)?)
 }
 
-/// Why a text doesn't parse that begins at the position `base`.
+/// Returns why a text doesn't parse that begins at the position `base`, or `None` if it parses.
 fn explain_at(alloc: Global, base: u32, text: &str) -> Result<Option<Explained>, AllocError>
     requires { base + length (chars text.now) < 2 ^ 32 }
     ensures { IfOk result (λ answer. MatchOption answer
@@ -61,7 +61,7 @@ fn explain_at(alloc: Global, base: u32, text: &str) -> Result<Option<Explained>,
     Ok(Some(stuck(text, rest, at, first, opened)))
 }
 
-/// Whether nothing is left of a text.
+/// Whether the rest of a text is empty.
 fn is_done(rest: &str) -> bool
     ensures done { result ≡ true → chars rest.now ≡ [] }
     ensures more { result ≡ false → chars rest.now ≢ [] }
@@ -69,7 +69,7 @@ fn is_done(rest: &str) -> bool
     rest.is_empty()
 }
 
-/// What tells of each opener of a text where it stands.
+/// A sink that keeps the delimiter and the part of the text of each open opener. It ignores all other tokens.
 #[derive(Drop)]
 struct Openers<'a> {
     text: &'a str,
@@ -138,7 +138,8 @@ impl<'a> TokenSink for Openers<'a> {
     }
 }
 
-/// That a closer can't stand at the front of this rest of a text, which is at this position.
+/// Explains that a closer matches no opener, or not the innermost one. The rest of the text begins with the closer, at
+/// the position `at`.
 fn refused(text: &str, rest: &str, at: u32, closer: Piece, openers: Vec<Opener>) -> Explained
     requires stands { (first : Bool) × IsPieceAt first (chars rest.now) closer }
     requires behind { (behind : List ℕ) × (chars text.now ≡ behind ++ chars rest.now) }
@@ -169,7 +170,8 @@ fn refused(text: &str, rest: &str, at: u32, closer: Piece, openers: Vec<Opener>)
     }
 }
 
-/// The stretch of a text from one rest of it to another, which stand at these positions.
+/// Returns the part of a text from where its rest `from` begins, at the position `lo`, to where its rest `to` begins,
+/// at the position `hi`.
 pub fn stretch(text: &str, from: &str, to: &str, lo: u32, hi: u32) -> Stretch
     requires from { (front : List ℕ) × (chars text.now ≡ front ++ chars from.now) }
     requires to { (part : List ℕ) × (chars from.now ≡ part ++ chars to.now) }
@@ -185,7 +187,7 @@ pub fn stretch(text: &str, from: &str, to: &str, lo: u32, hi: u32) -> Stretch
     }
 }
 
-/// That an opener is left open at the end of the text, if one is.
+/// Explains that an opener is left open at the end of the text. Returns `None` if none is.
 fn left_open(openers: Vec<Opener>) -> Option<Explained>
     ensures { MatchOption result (waiting openers.items ≡ [])
         (λ x. SaysLeftOpen x × WaitsAs (waiting openers.items) x.innermost x.outer.items
@@ -208,7 +210,7 @@ fn left_open(openers: Vec<Opener>) -> Option<Explained>
     })
 }
 
-/// That no piece stands at this rest of a text, which is at this position.
+/// Explains that no piece begins at this rest of a text, which is at the position `at`.
 fn stuck(text: &str, rest: &str, at: u32, first: bool, openers: Vec<Opener>) -> Explained
     requires some { chars rest.now ≢ [] }
     requires none { HasNoPiece first (chars rest.now) }

@@ -1,4 +1,4 @@
-//! What helps to mend a fault.
+//! Advice that helps to fix an error.
 
 ghost use Rattle.std.specs.Prelude.{◌≡◌, ◌+◌, ◌<◌, ◌^◌, ◌++◌, List, ℕ, IfOk, Some, codes, length};
 ghost use Rattle.std.specs.Str.{chars};
@@ -22,26 +22,28 @@ use lexical::parts::Cursor;
 use pm_span::parts::bounds;
 use std::alloc::{AllocError, Global};
 
-/// What helps to mend a fault: advice, by definitions of its own in `specs/Hint.antt`.
+/// Advice that helps to fix an error, as defined in `specs/Hint.antt`.
 #[derive(Clone, Copy)]
 pub enum Hint {
-    /// Of a block comment that doesn't end.
+    /// Advice for a block comment that doesn't end.
     Comments {
-        /// How many block comments are open at the end of the text, this one among them.
+        /// How many block comments are open at the end of the text, including this one.
         depth: usize,
-        /// The comment inside that ended last, if one did: often it is the one that wasn't meant to begin.
+        /// The comment inside it that ended last, if one did. Often this comment was not meant to begin.
         closed: Option<Stretch>,
     },
-    /// Of a raw string that doesn't end: the quote with most hash signs after it, the first of them, and these.
+    /// Advice for a raw string that doesn't end: the quote with the most hash signs right after it, together with
+    /// these. Of several such quotes it is the first.
     Quote(Stretch),
 }
 
-/// What helps to mend the fault of a text, which [`explain`](crate::explain) explained so.
+/// Returns advice on the error of a text. `explained` must be what [`explain`](crate::explain) returned for
+/// this text.
 ///
-/// `None` for all reasons but an unclosed block comment and an unclosed raw string in which a quote stands. Fails where
-/// the list of open comments can't grow, the only thing that takes memory.
+/// Returns `None` for all reasons except an unclosed block comment, and an unclosed raw string that has a quote in it.
+/// Fails if memory for the list of open comments runs out. Nothing else is allocated.
 ///
-/// Of `/* a/*.rs */` one comment is open, and `/*.rs */` ended last, the bytes 4..12.
+/// In `/* a/*.rs */` one comment is open at the end, and `/*.rs */` ended last, the bytes 4..12.
 pub fn advice(alloc: Global, text: &str, explained: &Explained) -> Result<Option<Hint>, AllocError>
     requires fits { Fits new_map (length (chars text.now)) }
     requires explained { IsExplained (next_lo new_map) (chars text.now) explained.now }
@@ -54,7 +56,7 @@ pub fn advice(alloc: Global, text: &str, explained: &Explained) -> Result<Option
     }
 }
 
-/// The hint for a block comment that doesn't end, whose front stands there.
+/// Returns the hint for a block comment that doesn't end. `at` is its `/*`.
 fn comment_hint(alloc: Global, text: &str, at: Stretch) -> Result<Hint, AllocError>
     requires fits { Fits new_map (length (chars text.now)) }
     requires stands { (behind more : List ℕ) × (chars text.now ≡ behind ++ (codes "/*" ++ more))
@@ -78,7 +80,8 @@ fn comment_hint(alloc: Global, text: &str, at: Stretch) -> Result<Hint, AllocErr
     })
 }
 
-/// The hint for a raw string that doesn't end, which is opened there.
+/// Returns the hint for a raw string that doesn't end, or `None` if it has no quote in it. `at` is what opens the
+/// string.
 fn quote_hint(text: &str, at: Stretch) -> Option<Hint>
     requires fits { Fits new_map (length (chars text.now)) }
     requires stands { (kind : StringKind) × (behind opening body : List ℕ)
@@ -94,7 +97,8 @@ fn quote_hint(text: &str, at: Stretch) -> Option<Hint>
     Some(Hint::Quote(between(text, from, to, lo)))
 }
 
-/// The stretch of a text from one cursor to another, of which a rest of it begins at the position `base`.
+/// Returns the part of a text between two cursors. The cursors belong to a rest of the text that begins at the position
+/// `base`.
 fn between(text: &str, from: Cursor<'_>, to: Cursor<'_>, base: u32) -> Stretch
     requires from { (front : List ℕ) × (chars text.now ≡ front ++ chars from.rest.now) }
     requires to { IsPast from to }

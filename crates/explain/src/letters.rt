@@ -1,4 +1,4 @@
-//! Why nothing stands where a letter does.
+//! Why no piece begins at a letter.
 #![tactic(auto, using(lexical::proofs::RuleSteps::steps))]
 
 ghost use Rattle.std.specs.Prelude.{◌≡◌, None, codes, true};
@@ -18,7 +18,7 @@ use crate::strings::{raw_string, string};
 use crate::trouble::Trouble;
 use lexical::parts::{Cursor, StringKind, name};
 
-/// Why no raw name stands at the cursor, where `r#` does. `inner` is after that.
+/// Returns why no piece begins at the cursor, which is before `r#`. `inner` is after the `r#`.
 fn raw_name<'a>(at: Cursor<'a>, inner: Cursor<'a>) -> Trouble<'a>
     requires front { Passes (Exactly (codes "r#")) at inner }
     requires identifier { found_identifier (chars at.rest.now) ≡ None }
@@ -38,7 +38,7 @@ fn raw_name<'a>(at: Cursor<'a>, inner: Cursor<'a>) -> Trouble<'a>
     raw_string(at, inside, StringKind::Plain)
 }
 
-/// Why nothing stands at the cursor, where a letter does.
+/// Returns why no piece begins at the cursor, which is before a letter.
 pub fn letter(at: Cursor<'_>) -> Trouble<'_>
     requires letter { first_passes is_ident_start (chars at.rest.now) ≡ true }
     requires identifier { found_identifier (chars at.rest.now) ≡ None }

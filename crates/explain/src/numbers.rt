@@ -1,4 +1,4 @@
-//! Why no number stands where a digit does.
+//! Why no number begins at a digit.
 #![tactic(auto, using(lexical::proofs::RuleSteps::steps))]
 
 ghost use Rattle.std.specs.Prelude.{◌≡◌, None, false, true};
@@ -16,7 +16,7 @@ use crate::reason::Reason;
 use crate::trouble::Trouble;
 use lexical::parts::{Base, Class, Cursor, one, skip};
 
-/// The cursor after the character that can't end a number there.
+/// Returns the cursor after a character that may not follow a number.
 #[tactic(auto, using(crate::proofs::NumberLemmas::past_bad))]
 fn past_bad_end(end: Cursor<'_>) -> Cursor<'_>
     requires none { find rule.end (chars end.rest.now) ≡ None }
@@ -29,7 +29,7 @@ fn past_bad_end(end: Cursor<'_>) -> Cursor<'_>
     after
 }
 
-/// Why no number of the base stands at the cursor, after the prefix of which is `inside`.
+/// Returns why no number of this base begins at the cursor. `inside` is after the prefix of the base.
 fn based<'a>(at: Cursor<'a>, inside: Cursor<'a>, base: Base) -> Trouble<'a>
     requires prefix { Passes (Exactly (base_prefix base)) at inside }
     requires none { find (Then (rule.digits_in (radix base)) rule.end) (chars inside.rest.now) ≡ None }
@@ -67,7 +67,7 @@ fn based<'a>(at: Cursor<'a>, inside: Cursor<'a>, base: Base) -> Trouble<'a>
     }
 }
 
-/// Why no number stands at the cursor, where a digit does.
+/// Returns why no number begins at the cursor, which is before a digit.
 pub fn number(at: Cursor<'_>) -> Trouble<'_>
     requires digit { first_passes is_ascii_digit (chars at.rest.now) ≡ true }
     requires none { find rule.number (chars at.rest.now) ≡ None }

@@ -1,4 +1,4 @@
-//! The quote that came nearest to ending a raw string.
+//! Finds the quote that came nearest to ending a raw string.
 
 ghost use Rattle.std.specs.Prelude.{◌≡◌, ◌≤◌, [], IfSome, MatchOption};
 ghost use Rattle.std.specs.Str.{chars};
@@ -9,7 +9,8 @@ ghost use Rattle.explain.specs.Shapes.{closed_raw_body};
 
 use lexical::parts::{Class, Cursor, skip, skip_to};
 
-/// The cursors before and after the quote with most hash signs right after it, the first of them, and these.
+/// Returns the cursors before and after the quote with the most hash signs right after it, together with these. Of
+/// several such quotes it is the first.
 pub fn nearest(inside: Cursor<'_>) -> Option<(Cursor<'_>, Cursor<'_>)>
     ensures { MatchOption result (HasNone (Stands (closed_raw_body [])) (chars inside.entry.rest.now))
         (λ x. CameNearest inside.entry x.0 x.1) }
@@ -24,8 +25,8 @@ pub fn nearest(inside: Cursor<'_>) -> Option<(Cursor<'_>, Cursor<'_>)>
     best
 }
 
-/// The longer of what stands between two cursors and of what stands between two others, which is the first where they
-/// are alike.
+/// Returns the pair of cursors with more characters between them: `best`, or `from` and `to`. If both have the same
+/// number, it is `best`.
 fn longer<'a>(
     best: Option<(Cursor<'a>, Cursor<'a>)>,
     from: Cursor<'a>,

@@ -1,4 +1,4 @@
-//! What is wrong first with the content of a raw string that ends.
+//! The first error in the content of a raw string that is closed.
 #![tactic(auto, using(lexical::proofs::RuleSteps::steps))]
 
 ghost use Rattle.std.specs.Prelude.{◌≡◌, ◌≤◌, ◌∷◌, ◌&&◌, ◌==◌, Err, IsTrue, None, codes, false, length, not};
@@ -17,7 +17,7 @@ use crate::trouble::Trouble;
 use lexical::parts::{Cursor, StringKind, begins};
 use literal_escaper::EscapeError;
 
-/// Whether a string of the kind may have the character, be it raw or not.
+/// Whether the content of a string of this kind may have the character. A CR is checked elsewhere.
 fn may_stand(c: char, kind: StringKind) -> bool
     ensures { result ≡ may_stand_raw kind c }
 {
@@ -28,7 +28,7 @@ fn may_stand(c: char, kind: StringKind) -> bool
     }
 }
 
-/// The cursor after a unit of a raw string with these hash signs.
+/// Returns the cursor after a unit of a raw string with these hash signs.
 #[tactic(auto, unfolding(lexical::specs::Rule::find))]
 fn past_unit<'a>(at: Cursor<'a>, hashes: &str, kind: StringKind) -> Option<Cursor<'a>>
     requires { IsTrue (all_ascii hashes.now) }
@@ -48,7 +48,8 @@ fn past_unit<'a>(at: Cursor<'a>, hashes: &str, kind: StringKind) -> Option<Curso
     }
 }
 
-/// What is wrong with a character that no raw string of the kind has, but for CR before LF.
+/// Returns the error for a character that a raw string of this kind may not have. For a CR, the caller has checked that
+/// no LF follows.
 fn error_of(c: char, kind: StringKind) -> EscapeError
     requires { (may_stand_raw kind c && not (c == carriage_return)) ≡ false }
     ensures { raw_character kind c ≡ Err result }
@@ -63,8 +64,8 @@ fn error_of(c: char, kind: StringKind) -> EscapeError
     }
 }
 
-/// What is wrong with the content of a raw string with these hash signs that ends at `end` and isn't one. The letters
-/// that open it lead `inside`, the hash signs `quote`, and the quote after them `body`.
+/// Returns the first error in the content of a raw string that begins at `at`. `inside` is after its letters, `quote`
+/// after its hash signs, `body` after its opening quote, and `end` after all of it.
 pub fn raw_content<'a>(
     at: Cursor<'a>,
     inside: Cursor<'a>,

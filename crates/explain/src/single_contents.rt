@@ -1,4 +1,4 @@
-//! What is wrong with the content of a character or a byte that ends.
+//! The first error in the content of a character or byte literal that is closed.
 #![tactic(auto, using(lexical::proofs::RuleSteps::steps))]
 
 ghost use Rattle.std.specs.Prelude.{◌≡◌, None};
@@ -18,7 +18,7 @@ use crate::trouble::Trouble;
 use lexical::parts::Cursor;
 use literal_escaper::{EscapeError, Mode, check_for_errors};
 
-/// The kind of literal, as the escaper calls it.
+/// Returns the escaper's mode for this kind of literal.
 fn mode_of(kind: SingleKind) -> Mode
     ensures { result ≡ single_mode kind }
 {
@@ -28,7 +28,8 @@ fn mode_of(kind: SingleKind) -> Mode
     }
 }
 
-/// What is wrong with the content, if something is, and how many bytes were read for it.
+/// Returns the error in the content, after the number of bytes that were read for it. Returns `None` if there is no
+/// error.
 fn fault_of(content: &str, kind: SingleKind) -> Option<(usize, EscapeError)>
     ensures { IsSingleFault kind (chars content.now) result }
 {
@@ -36,15 +37,15 @@ fn fault_of(content: &str, kind: SingleKind) -> Option<(usize, EscapeError)>
     Some((range.end, error))
 }
 
-/// Whether all of the literal is at fault.
+/// Whether the whole literal is wrong.
 fn is_of_literal(error: &EscapeError) -> bool
     ensures { result ≡ of_literal error.now }
 {
     matches!(error, EscapeError::ZeroChars | EscapeError::MoreThanOneChar)
 }
 
-/// What is wrong with the content of a character or a byte that ends at `end` and isn't one. What opens it leads
-/// `inside`.
+/// Returns the first error in the content of a character or byte literal that begins at `at`. Its content begins at
+/// `inside`, and `end` is after its closing quote.
 pub fn single_content<'a>(
     at: Cursor<'a>,
     inside: Cursor<'a>,

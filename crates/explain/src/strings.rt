@@ -1,4 +1,4 @@
-//! Why no string stands where what opens one does.
+//! Why no string begins at what opens one.
 #![tactic(auto, using(lexical::proofs::RuleSteps::steps))]
 
 ghost use Rattle.std.specs.Prelude.{◌≡◌, ◌∷◌, IsTrue, None, codes, not};
@@ -21,14 +21,14 @@ use lexical::parts::{
     Class, Cursor, StringKind, before, begins, one_that, skip, skip_to, skip_to_either,
 };
 
-/// Whether a pair may be the character alone.
+/// Whether the character is a pair by itself: any character except `"` and backslash.
 fn stands_alone(c: char) -> bool
     ensures { result ≡ not (is_one_of (codes "\"\\") c) }
 {
     !matches!(c, '"' | '\\')
 }
 
-/// The cursor after a character but `"` and backslash, or after a backslash and any character.
+/// Returns the cursor after a pair: a character except `"` and backslash, or a backslash and any character.
 fn past_pair(at: Cursor<'_>) -> Option<Cursor<'_>>
     ensures { Reads pair at.entry result }
 {
@@ -38,7 +38,7 @@ fn past_pair(at: Cursor<'_>) -> Option<Cursor<'_>>
     }
 }
 
-/// The cursor after the first `"` that no backslash takes.
+/// Returns the cursor after the first `"` that has no backslash before it in a pair.
 fn past_quote(inside: Cursor<'_>) -> Option<Cursor<'_>>
     ensures { Reads closed_body inside.entry result }
 {
@@ -49,7 +49,7 @@ fn past_quote(inside: Cursor<'_>) -> Option<Cursor<'_>>
     end.past("\"")
 }
 
-/// The cursor after a character with which what closes a raw string of these hash signs doesn't begin.
+/// Returns the cursor after a character, or `None` where the closing quote and hash signs of the raw string are.
 #[tactic(auto, unfolding(lexical::specs::Rule::find))]
 fn past_raw_unit<'a>(at: Cursor<'a>, hashes: &str) -> Option<Cursor<'a>>
     requires { IsTrue (all_ascii hashes.now) }
@@ -62,7 +62,7 @@ fn past_raw_unit<'a>(at: Cursor<'a>, hashes: &str) -> Option<Cursor<'a>>
     Some(after)
 }
 
-/// The cursor after the first `"` that so many hash signs follow.
+/// Returns the cursor after the first `"` with these hash signs after it, and after the hash signs.
 fn past_raw_quote<'a>(inside: Cursor<'a>, hashes: &str) -> Option<Cursor<'a>>
     requires { IsTrue (all_ascii hashes.now) }
     ensures { Reads (closed_raw_body hashes.now) inside.entry result }
@@ -74,7 +74,7 @@ fn past_raw_quote<'a>(inside: Cursor<'a>, hashes: &str) -> Option<Cursor<'a>>
     end.past("\"")?.past(hashes)
 }
 
-/// Why no string of the kind stands at the cursor, which what opens one leads `inside`.
+/// Returns why no string of this kind begins at the cursor. `inside` is after its opening quote.
 pub fn string<'a>(at: Cursor<'a>, inside: Cursor<'a>, kind: StringKind) -> Trouble<'a>
     requires opens { Passes (Exactly (front kind)) at inside }
     requires none { find (cooked kind) (chars at.rest.now) ≡ None }
@@ -90,7 +90,7 @@ pub fn string<'a>(at: Cursor<'a>, inside: Cursor<'a>, kind: StringKind) -> Troub
     }
 }
 
-/// Why no raw string of the kind stands at the cursor, which the letters that open one lead `inside`.
+/// Returns why no raw string of this kind begins at the cursor. `inside` is after its letters.
 pub fn raw_string<'a>(at: Cursor<'a>, inside: Cursor<'a>, kind: StringKind) -> Trouble<'a>
     requires letters { Passes (Exactly (raw_front kind)) at inside }
     requires name { find raw_name_start (chars at.rest.now) ≡ None }
@@ -120,10 +120,10 @@ pub fn raw_string<'a>(at: Cursor<'a>, inside: Cursor<'a>, kind: StringKind) -> T
     raw_content(at, inside, quote, body, end, hashes, kind)
 }
 
-/// How many hash signs a raw string may have at most.
+/// The largest number of hash signs that a raw string may have.
 const MOST_HASHES: usize = 255;
 
-/// That no quote follows the hash signs at `inside`, up to `end`.
+/// Returns the trouble for hash signs, from `inside` to `end`, with no quote after them.
 fn without_quote<'a>(
     at: Cursor<'a>,
     inside: Cursor<'a>,
@@ -147,7 +147,7 @@ fn without_quote<'a>(
     }
 }
 
-/// The cursor after a character but `"`, or the cursor itself at the end of the text.
+/// Returns the cursor after a character except `"`, or `at` itself at the end of the text. Returns `None` before a `"`.
 fn past_other(at: Cursor<'_>) -> Option<Cursor<'_>>
     ensures { Reads no_double_quote at.entry result }
 {

@@ -1,4 +1,4 @@
-//! Why no piece stands.
+//! Finds the reason why no piece begins at a cursor.
 #![tactic(auto, using(lexical::proofs::RuleSteps::steps))]
 
 ghost use Rattle.std.specs.Prelude.{◌≡◌, ◌≢◌, [], MatchOption, None, false, true};
@@ -22,7 +22,7 @@ use lexical::parts::{
     Cursor, PieceStart, StringKind, begins, piece_start_of, skip_comment, skip_to,
 };
 
-/// The first CR at the cursor or after it that no LF follows, and the cursor after it.
+/// Returns the cursors before and after the first CR, from `inside` on, that no LF follows.
 fn bare_return(inside: Cursor<'_>) -> Option<(Cursor<'_>, Cursor<'_>)>
     ensures { MatchOption result (has_bare_return (chars inside.entry.rest.now) ≡ false)
         (λ x. IsFirstBare inside.entry x.0 x.1) }
@@ -37,10 +37,10 @@ fn bare_return(inside: Cursor<'_>) -> Option<(Cursor<'_>, Cursor<'_>)>
     None
 }
 
-/// How many bytes open a doc comment.
+/// The number of bytes that open a doc comment.
 const DOC_FRONT: usize = 3;
 
-/// Why no comment stands at the cursor, where one begins.
+/// Returns why no comment is at the cursor, which is before what begins a comment.
 fn comment(at: Cursor<'_>) -> Trouble<'_>
     requires begins { begins_any comment_fronts (chars at.rest.now) ≡ true }
     requires none { comment_found (find rule.comment (chars at.rest.now)) ≡ None }
@@ -66,8 +66,8 @@ fn comment(at: Cursor<'_>) -> Trouble<'_>
     }
 }
 
-/// Why no piece stands at the cursor, which isn't at the end of the text. `first` says whether that is byte offset 0 of
-/// a source.
+/// Returns why no piece begins at the cursor, which isn't at the end of the text. `first` says whether the cursor is at
+/// the start of a source.
 pub fn reason_at(at: Cursor<'_>, first: bool) -> Trouble<'_>
     requires some { chars at.rest.now ≢ [] }
     requires none { found first (chars at.rest.now) ≡ None }

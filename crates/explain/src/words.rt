@@ -1,11 +1,11 @@
-//! What each reason is named, and what is said of it.
+//! The name and the message of each reason.
 ghost use Rattle.std.specs.Prelude.{◌≡◌};
 ghost use Rattle.explain.specs.Words.{name_of, sentence_of};
 
 use crate::reason::Reason;
 
 impl Reason {
-    /// A short name, which stays: of [`Reason::UnclosedString`] `unclosed-string`.
+    /// Returns a short name, which never changes: `unclosed-string` for [`Reason::UnclosedString`].
     #[tactic(auto, unfolding(crate::specs::Words::name_of))]
     pub fn name(&self) -> &'static str
         ensures { result.now ≡ name_of self.now }
@@ -33,7 +33,8 @@ impl Reason {
         }
     }
 
-    /// What it says, in a few words: of [`Reason::MismatchedCloser`] `the innermost opener waits for another closer`.
+    /// Returns a message of a few words: `the innermost opener waits for another closer` for
+    /// [`Reason::MismatchedCloser`].
     #[tactic(auto, unfolding(crate::specs::Words::sentence_of))]
     pub fn message(&self) -> &'static str
         ensures { result.now ≡ sentence_of self.now }

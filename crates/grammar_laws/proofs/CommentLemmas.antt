@@ -1,4 +1,4 @@
--- What comments give to the laws of texts.
+-- Comments, for the laws of texts.
 use Rattle.std.proofs.Common.{◌≡◌, ℕ, Bool, true, false, not, ◌&&◌, ◌==◌, List, [], ◌∷◌, ◌++◌, codes, Some, inl, inr}
 use Rattle.std.proofs.Common.{refl, sym, ap, ◌∙◌, subst, append-nil, eqb-true}
 use Rattle.std.specs.Prelude.{if◌then◌else◌}
@@ -12,12 +12,12 @@ use Rattle.lexical.proofs.RuleLemmas.{one_split}
 use Rattle.lexical.proofs.CommentKindLemmas.{clear_comment, front_is, doc_front, doc_said, doc_kind, closing_block}
 use Rattle.lexical.proofs.CommentKindLemmas.{closing_none}
 
--- ---- at most one comment stands
+-- ---- at most one comment begins there
 
 pub one_comment : (p q r s : List ℕ) → Comment p r → Comment q s → p ++ r ≡ q ++ s → (p ≡ q) × (r ≡ s)
 one_comment = one_split comment clear_comment
 
--- and it says one thing
+-- a doc comment has only one text, and is either inner or outer
 pub one_doc : (i j : Bool) (t u p r : List ℕ) → Doc i t p r → Doc j u p r → (i ≡ j) × (t ≡ u)
 one_doc i j t u p r h k =
     let same : Some (pieces.Doc i t) ≡ Some (pieces.Doc j u) = sym (doc_kind i t p r h) ∙ doc_kind j u p r k in
@@ -29,7 +29,7 @@ plain_or_doc i t p r s h k = both_ways _ (not_from_true _ k.comment.1) h.1
 
 -- ---- before another text
 
--- a body asks for one character of what follows it
+-- the body of a block comment depends on only one character after it
 sign_cut : (k c : ℕ) (more x y : List ℕ)
     → begins_any block_signs (k ∷ (more ++ (c ∷ x))) ≡ begins_any block_signs (k ∷ (more ++ (c ∷ y)))
 sign_cut k c [] x y = refl
@@ -41,7 +41,7 @@ body_cut c x y (Nested inner more e nested h) =
     Nested inner more e (body_cut 42 (47 ∷ (more ++ (c ∷ x))) (47 ∷ (more ++ (c ∷ y))) nested) (body_cut c x y h)
 body_cut c x y (Single k more e plain h) = Single k more e (sign_cut k c more y x ∙ plain) (body_cut c x y h)
 
--- a line comment stands at its end or before LF, and a block comment whatever follows it
+-- a line comment stays a comment before LF and at the end of the text, and a block comment before any text
 comment_stays : (p r s : List ℕ)
     → (first_passes (λ c. not (c == 10)) r ≡ false → first_passes (λ c. not (c == 10)) s ≡ false) → Comment p r
     → Comment p s
@@ -82,27 +82,27 @@ doc_stays i t p r s c same h = record {
 
 -- ---- comments before LF
 
--- a comment stands before a line's end that is put right after it
+-- a comment stays a comment before a line end that is put right after it
 pub comment_line : (p r w : List ℕ) → Comment p r → Comment p (10 ∷ w)
 comment_line p r w h = comment_stays p r (10 ∷ w) (λ e. refl) h
 
 pub plain_line : (p r w : List ℕ) → PlainComment p r → PlainComment p (10 ∷ w)
 plain_line p r w h = plain_stays p r (10 ∷ w) (comment_line p r w h.0) h
 
--- a text that ends with CR has a bare one
+-- a text that ends with CR has a CR with no LF after it
 bare_end : (text : List ℕ) → ends_with 13 text ≡ true → has_bare_return text ≡ true
 bare_end [] e = absurd (both_ways false refl e)
 bare_end (c ∷ []) e = or_left _ _ (and_from _ _ e refl)
 bare_end (c ∷ (d ∷ text)) e = or_right _ _ (bare_end (d ∷ text) e)
 
--- so a doc comment at the end, which loses nothing there, does not end so
+-- a doc comment at the end of a text, which has no closing sign there, does not end with CR
 doc_at_end : (i : Bool) (t p : List ℕ) → closing p [] ≡ [] → Doc i t p [] → ends_with 13 p ≡ false
 doc_at_end i t p none h =
     let said = doc_said i t p [] h ∙ (ap (λ x. t ++ x) none ∙ append-nil t) in
     false_from_ne_true _ (λ ends.
     both_ways _ h.returns (bare_end t (ap (ends_with 13) (sym said) ∙ (sym (doc_front p h.comment.1).last ∙ ends))))
 
--- what closes it stays the same
+-- the closing sign of a doc comment stays the same before LF
 closing_stays : (i : Bool) (t p r w : List ℕ) → Comment p r → Doc i t p r → closing p r ≡ closing p (10 ∷ w)
 closing_stays i t p [] w (inl line) h =
     let is : begins_with (codes "/*") p ≡ false = ap (begins_with (codes "/*")) (front_is line) in
@@ -112,7 +112,7 @@ closing_stays i t p (c ∷ r) w (inl line) h = ap (λ d. closing p (d ∷ r)) (e
 closing_stays i t p r w (inr block) h = let is = ap (begins_with (codes "/*")) (front_is block) in closing_block p r is
     ∙ sym (closing_block p (10 ∷ w) is)
 
--- and so does what it says
+-- a doc comment has the same text before LF
 pub doc_line : (i : Bool) (t p r w : List ℕ) → Doc i t p r → Doc i t p (10 ∷ w)
 doc_line i t p r w h = doc_stays i t p r (10 ∷ w) (comment_line p r w h.comment.0)
     (closing_stays i t p r w h.comment.0 h) h

@@ -1,4 +1,4 @@
--- Pieces that begin with a digit, and how the pieces end that a float with a dot is cut into.
+-- Pieces that begin with a digit, and the pieces into which a float with a dot is cut.
 use Rattle.std.proofs.Common.{◌≡◌, ℕ, ◌<◌, Bool, true, false, not, List, [], ◌∷◌, ◌++◌, length, Some, refl, sym, ap}
 use Rattle.std.proofs.Common.{◌∙◌, inl, inr, arith, length-append}
 use Rattle.std.specs.List.{list_all}
@@ -44,7 +44,7 @@ digit_piece first k p r h digit = by_text (p ++ r) digit (found_complete first k
         let is = tagged_is literal_kind (find number (c ∷ text)) k p r from in
         (is.0, (found_is (find number) Number finds_number (c ∷ text) p r is.1).1)
 
--- pieces of which the last is such add to the length
+-- pieces add to the length of a text, if the last one is neither a mark nor a number
 pub quiet_longer : (us : List Piece) (v : List ℕ) → StandBefore false us v → ends_quiet us ≡ true
     → length v < length (onto us v)
 quiet_longer [] v stand quiet = absurd (both_ways _ refl quiet)
@@ -54,7 +54,7 @@ quiet_longer (u ∷ (w ∷ us)) v stand quiet =
 
 -- ---- digits, a dot, and digits and letters
 
--- where digits and letters stand, a number takes them all
+-- the pieces of a text of digits and letters are one number, so the last one is no other piece
 pub number_last : (W v : List ℕ) (us : List Piece) → list_all is_ident_continue W ≡ true
     → first_passes is_ascii_digit W ≡ true
     → StandBefore false us v → ends_quiet us ≡ true → onto us v ≡ W ++ v → ⊥
@@ -81,7 +81,7 @@ number_last W v (y ∷ us) each digit stand quiet e =
 dot_stands : (r : List ℕ) → IsPiece false (Leaf (tokens.Mark 46 (joint_before r))) (46 ∷ []) r
 dot_stands r = (refl, inl (((46, refl, refl), refl), refl))
 
--- an integer and a dot: the pieces behind the dot
+-- the pieces after an integer and a dot
 pub behind_dot : (p D W v : List ℕ) (us : List Piece) → Stands (Then integer end) p (onto us v)
     → list_all is_ident_continue D ≡ true
     → StandBefore false us v → ends_quiet us ≡ true → p ++ onto us v ≡ D ++ (46 ∷ (W ++ v))

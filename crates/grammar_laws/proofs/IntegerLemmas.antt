@@ -1,5 +1,4 @@
--- An integer, and so each number, stays what it is where something follows that doesn't go on with it, right after it
--- or later.
+-- An integer or any number stays what it is, if the new text after it does not continue it, at once or later.
 use Rattle.std.proofs.Common.{◌≡◌, ℕ, ◌≤◌, nat_lt, true, false, not, ◌||◌, List, [], ◌++◌, refl, sym, ap, ◌∙◌, arith}
 use Rattle.std.proofs.Common.{inl, inr}
 use Rattle.std.specs.Char.{is_digit, digit_value}
@@ -82,7 +81,7 @@ on_integer_end = all_in is_ident_continue (Then rule.integer rule.end)
 
 -- ---- numbers
 
--- a number stays one where what follows doesn't go on with it, if no float newly stands
+-- a number stays a number, if the new text does not continue it and makes no float begin there
 pub number_moved : (p b r s : List ℕ) → first_passes goes_on s ≡ false
     → (Stands (Then rule.integer rule.end) p (b ++ r) → HasNone (Stands rule.float) (p ++ (b ++ r))
     → HasNone (Stands rule.float) (p ++ (b ++ s)))
@@ -96,24 +95,24 @@ number_moved p b r s ends moves is = elim is [
   )
 ]
 
--- right after it none does
+-- no float begins there, if the new text is right after the number
 pub number_before : (p r s : List ℕ) → first_passes goes_on s ≡ false → Number p r → Number p s
 number_before p r s ends = number_moved p [] r s ends
     (λ int. no_new_float p r s (on_integer_end p r int) int.second.1 ends)
 
--- nothing that goes on with an identifier follows a number
+-- no character that may continue an identifier follows a number
 pub number_ends : (p r : List ℕ) → Number p r → first_passes is_ident_continue r ≡ false
 unfolding number
 number_ends p r is = elim is [ inl float ↦ float_ends p r float | inr int ↦ int.1.second.1 ]
 
--- where neither text goes on with one, the number stays one, however far after it one text becomes the other
+-- a number stays a number, if neither the old nor the new text continues it, however far after it they begin
 pub number_cut : (p b r s : List ℕ) → first_passes goes_on r ≡ false → first_passes goes_on s ≡ false
     → Number p (b ++ r)
     → Number p (b ++ s)
 number_cut p b r s old new = number_moved p b r s new
     (λ int. none_moved p b r s new (λ q d e. stable_float q d s r old))
 
--- a space, LF, a closer and the end don't go on with one
+-- no stop continues a number
 pub stop_is_calm : (r : List ℕ) → stops r ≡ true → first_passes goes_on r ≡ false
 unfolding unicode_ident
 stop_is_calm r = stop_out goes_on r refl

@@ -1,4 +1,4 @@
--- Literals in a line that is broken after pieces.
+-- Literals in a line that is broken after some pieces.
 use Rattle.std.proofs.Common.{◌≡◌, ◌⊎◌, ℕ, Bool, true, false, ◌==◌, List, [], ◌∷◌, ◌++◌, refl, sym, ap, ◌∙◌, subst, inl}
 use Rattle.std.proofs.Common.{inr, append_assoc, append-nil, length, arith}
 use Rattle.std.specs.List.{list_all}
@@ -28,16 +28,16 @@ use Rattle.grammar_laws.proofs.LiteralLemmas.{quoted_stable}
 use Rattle.grammar_laws.proofs.QuietLemmas.{HasDead, onto_split, quiet_end}
 use Rattle.grammar_laws.proofs.DigitLemmas.{quiet_longer, number_last, behind_dot}
 
--- ---- no float stands newly
+-- ---- no new float begins
 
--- what stands before one text stands before another that goes on with no identifier
+-- a stable form keeps its piece, if the new text continues no identifier
 moved : (A : Form) → Stable is_ident_continue A → (x y d r s : List ℕ) → first_passes is_ident_continue s ≡ false
     → A x (y ++ (d ++ r))
     → A x (y ++ (d ++ s))
 moved A stable x y d r s ends is =
     subst (A x) (append_assoc y d s) (stable x (y ++ d) r s ends (subst (A x) (sym (append_assoc y d r)) is))
 
--- a dot with something after it stands there
+-- a dot stays the dot of a number, if some text stays between the dot and the change
 dot_still : (y d r s : List ℕ) → (y ++ d ≡ [] → ⊥) → first_passes bars_dot (y ++ (d ++ r)) ≡ false
     → first_passes bars_dot (y ++ (d ++ s)) ≡ false
 dot_still [] [] r s some h = absurd (some refl)
@@ -50,7 +50,8 @@ first_front : (passes : ℕ → Bool) (w z : List ℕ) → first_passes passes (
 first_front passes [] z h = refl
 first_front passes (c ∷ w) z h = h
 
--- a digit, where an exponent that goes past a character begins after the digits
+-- a digit follows the dot, if an exponent begins after the digits and extends past a character that continues no
+-- identifier
 first_after : (F Y m : List ℕ) (c : ℕ) → list_all is_digit_or_underscore F ≡ true
     → first_passes is_exponent_letter (Y ++ (c ∷ m)) ≡ true
     → is_ident_continue c ≡ false
@@ -66,13 +67,13 @@ first_after [] (k ∷ Y) m c each letter out dot =
     absurd (both_ways _ dot (sub_either (λ c. c == 101) (λ c. c == 69) bars_dot (sub_one bars_dot 101 refl)
     (sub_one bars_dot 69 refl) k letter))
 
--- ---- no float stands newly
+-- ---- no new float begins
 
 module _ (p v s : List ℕ) (us : List Piece) (int : Stands (Then rule.integer rule.end) p (onto us [] ++ v))
     (stand : StandBefore false us v)
     (quiet : ends_quiet us ≡ true)
     (stops : first_passes is_ident_continue v ≡ false) (calm : first_passes is_ident_continue s ≡ false) where
-  -- the pieces behind the dot of a float
+  -- the pieces after the dot of a float
   after_dot : (q d : List ℕ) (h : Dotted q (d ++ s)) → p ++ onto us [] ≡ q ++ d
       → (later : List Piece) × StandBefore false later v × (ends_quiet later ≡ true)
       × (onto later v ≡ (h.second.back ++ d) ++ v)
@@ -87,13 +88,13 @@ module _ (p v s : List ℕ) (us : List Piece) (int : Stands (Then rule.integer r
       (ap (λ z. p ++ z) (onto_split us v) ∙ (sym (append_assoc p (onto us []) v)
       ∙ (ap (λ z. z ++ v) front ∙ append_assoc h.front (46 ∷ (h.second.back ++ d)) v)))
 
-  -- something follows the dot
+  -- some text follows the dot
   dot_inside : (q d : List ℕ) (h : Dotted q (d ++ s)) → p ++ onto us [] ≡ q ++ d → h.second.back ++ d ≡ [] → ⊥
   dot_inside q d h whole none =
       let at = after_dot q d h whole in
       omega (arith, ap length (at.3 ∙ ap (λ z. z ++ v) none), quiet_longer at.0 v at.1 at.2)
 
-  -- no exponent goes past the pieces, as a number would
+  -- no exponent extends past the pieces, because a number would extend past them too
   none_past : (q d : List ℕ) (h : Dotted q (d ++ s)) → p ++ onto us [] ≡ q ++ d → (x t m : List ℕ) (c : ℕ)
       → Stands rule.exponent x t
       → x ≡ (h.second.second.back ++ d) ++ (c ∷ m) → v ≡ c ∷ (m ++ t) → ⊥
@@ -161,7 +162,7 @@ module _ (p v s : List ℕ) (us : List Piece) (int : Stands (Then rule.integer r
 
 -- ---- literals
 
--- where a character doesn't pass, it stands somewhere
+-- if not all characters pass, there is a first one that does not
 first_out : (passes : ℕ → Bool) (text : List ℕ) → list_all passes text ≡ false
     → (front : List ℕ) × (c : ℕ) × (back : List ℕ) × (text ≡ front ++ (c ∷ back)) × (passes c ≡ false)
 first_out passes [] out = absurd (both_ways _ out refl)
@@ -170,8 +171,8 @@ first_out passes (c ∷ text) out = elim (and_cases (passes c) (list_all passes 
   | inr there ↦ let at = first_out passes text there in (c ∷ at.0, at.1, at.2, ap (λ x. c ∷ x) at.3, at.4)
 ]
 
--- a number before pieces stays one where a stop stands in place of what follows them: of nothing,
--- or of any text after a piece that is neither a mark nor a number
+-- a number before some pieces stays a number, if a stop replaces the text after them. That text is empty, or the last
+-- piece is neither a mark nor a number
 pub number_broken : (p : List ℕ) (us : List Piece) (v s : List ℕ) → stops s ≡ true → (v ≡ []) ⊎ (ends_quiet us ≡ true)
     → Number p (onto us v) → StandBefore false us v → Number p (onto us s)
 number_broken p us v s e at is stand = subst (Number p) (sym (onto_split us s)) (by_end at)
@@ -207,7 +208,8 @@ number_broken p us v s e at is stand = subst (Number p) (sym (onto_split us s)) 
     by_end (inl end) = by_cut text [] (sym (append-nil text)) (ap (first_passes goes_on) end) ends
     by_end (inr quiet) = elim (quiet_end us v stand quiet) [ inl dead ↦ by_dead dead | inr other ↦ by_stop other quiet ]
 
--- and so a literal. One between quotes asks for nothing of these pieces
+-- a literal before some pieces stays a literal, if a stop replaces the text after them. A literal between quotes needs
+-- no condition on the pieces
 pub literal_cut : (p : List ℕ) (us : List Piece) (v s : List ℕ) → stops s ≡ true → (v ≡ []) ⊎ (ends_quiet us ≡ true)
     → AnyLiteral p (onto us v) → StandBefore false us v → AnyLiteral p (onto us s)
 unfolding Literal

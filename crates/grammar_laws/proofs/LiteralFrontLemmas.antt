@@ -12,7 +12,7 @@ use Rattle.lexical.proofs.LiteralFinderLemmas.{literal_fronts, literal_front}
 
 -- ---- how a literal begins
 
--- what the first character of a literal tells
+-- whether a literal's first character decides what else can begin there
 pub record BeginsLiteral (p : List ℕ) : Type 0 where
   pub first : ℕ
   pub rest : List ℕ
@@ -24,12 +24,12 @@ pub record BeginsLiteral (p : List ℕ) : Type 0 where
   pub front_mark : (first == 0xFEFF) ≡ false
   pub opener : is_opener first ≡ true → p ≡ error_literal
 
--- no character passes with which literals begin
+-- a first character of a literal fails each test that all of `literal_fronts` fail
 none_passes : (passes : ℕ → Bool) (c : ℕ) → list_all (λ d. not (passes d)) literal_fronts ≡ true
     → list_any (λ d. d == c) literal_fronts ≡ true → passes c ≡ false
 none_passes passes c all any = not-true _ (sub_listed (λ d. not (passes d)) literal_fronts all c any)
 
--- of the marks only `'` begins one, of the openers only that of the error literal, and nothing else that starts a piece
+-- a literal begins with no mark except `'`, with no opener except that of the error literal, and like no other piece
 pub literal_first : (p r : List ℕ) → AnyLiteral p r → BeginsLiteral p
 literal_first p r (inr error) = record {
   first = 40;
@@ -68,7 +68,7 @@ literal_first p r (inl literal) =
       opener = λ h. absurd (both_ways _ (none_passes is_opener at.0 refl at.3) h);
     }
 
--- no comment begins with it, whatever follows
+-- no comment begins where a literal does, before any text
 pub literal_plain : (p r s : List ℕ) → AnyLiteral p r → begins_any comment_fronts (p ++ s) ≡ false
 literal_plain p r s h =
     let at = literal_first p r h in

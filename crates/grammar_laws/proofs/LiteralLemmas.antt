@@ -1,4 +1,4 @@
--- What literals give to the laws of texts.
+-- Literals, for the laws of texts.
 use Rattle.std.proofs.Common.{◌≡◌, ℕ, ◌+◌, true, ◌&&◌, ◌==◌, List, [], ◌∷◌, codes, refl, ap, arith, inl, inr}
 use Rattle.std.specs.List.{list_all}
 use Rattle.std.proofs.lemmas.List.{drop_all}
@@ -15,9 +15,9 @@ use Rattle.grammar_laws.proofs.StableLemmas.{least, Stable, ends_after, Looks, s
 use Rattle.grammar_laws.proofs.NumberLemmas.{looks_suffix}
 use Rattle.grammar_laws.proofs.IntegerLemmas.{number_before_stop}
 
--- ---- literals where a text that goes on with no identifier stands in place of what follows
+-- ---- literals before a new text that continues no identifier
 
--- no escape looks at more than the quote after it
+-- an escape needs at most one character after it, which is the quote
 looks_escape : (kind : StringKind) → Looks is_ident_continue 1 (escape kind)
 looks_escape Plain = (tt, ((tt, (tt, tt)), (tt, ((tt, tt), tt))))
 looks_escape Byte = (tt, ((tt, (tt, tt)), (tt, ((tt, tt), tt))))
@@ -26,7 +26,7 @@ looks_escape C = (tt, ((tt, (refl, (tt, tt))), (tt, ((tt, tt), tt))))
 looks_close : (text : List ℕ) → Looks is_ident_continue 0 (close text)
 looks_close text = (tt, looks_suffix is_ident_continue (λ c is. is))
 
--- and no unit of a raw string at more than what closes it
+-- a raw string looks at nothing after it
 looks_raw : (kind : StringKind) → Looks is_ident_continue 0 (raw_string kind)
 looks_raw kind = (
   tt,
@@ -46,14 +46,13 @@ looks_single : (kind : StringKind)
     → Looks is_ident_continue 0 (Then (single.unit (single.is_plain kind) (escape kind)) (close (codes "'")))
 looks_single kind = ((tt, (tt, looks_escape kind)), looks_close (codes "'"))
 
--- one between quotes stays one where a text that goes on with no identifier stands in place of what follows, near or
--- far
+-- a literal between quotes stays a literal, if the new text continues no identifier, near or far
 pub quoted_stable : Stable is_ident_continue QuotedLiteral
 unfolding Str
 quoted_stable = stable is_ident_continue quoted_literal
     (looks_string Plain, ((tt, looks_single Plain), (looks_string Byte, ((tt, looks_single Byte), looks_string C))))
 
--- any stays one before a stop
+-- a literal stays a literal before a stop
 pub literal_before_stop : (p r s : List ℕ) → stops s ≡ true → AnyLiteral p r → AnyLiteral p s
 unfolding Literal
 literal_before_stop p r s e is = elim is [
@@ -64,7 +63,7 @@ literal_before_stop p r s e is = elim is [
   | inr error ↦ inr error
 ]
 
--- and before nothing
+-- a literal stays a literal at the end of the text
 pub literal_whole : (p r : List ℕ) → AnyLiteral p r → IsLiteralToken p
 unfolding IsLiteralToken
 literal_whole p r is = literal_before_stop p r [] refl is

@@ -1,4 +1,4 @@
--- What identifiers and marks give to the laws of texts.
+-- Identifiers and marks, for the laws of texts.
 use Rattle.std.proofs.Common.{◌≡◌, ℕ, Bool, true, false, not, ◌==◌, ◌⊎◌, List, [], ◌∷◌, ◌++◌, Some, None, IsTrue, inl}
 use Rattle.std.proofs.Common.{inr, codes, refl, sym, ap, ◌∙◌}
 use Rattle.std.specs.List.{list_any}
@@ -24,7 +24,7 @@ use Rattle.grammar_laws.proofs.StableLemmas.{stable}
 
 -- ---- stops
 
--- a character that is no stop
+-- whether the character is no stop
 abbrev goes_on : ℕ → Bool
 goes_on c = not (list_any (λ d. d == c) (codes " \n)]}"))
 
@@ -33,18 +33,18 @@ stop_first s = stop_out goes_on s refl
 
 -- ---- identifiers before another text
 
--- a name stands before every text that does not go on with it
+-- a name stays a name before each text that does not continue it
 pub name_before : (p r s : List ℕ) → first_passes is_ident_continue s ≡ false → identifiers.Name p r
     → identifiers.Name p s
 name_before p r s ends h = stable is_ident_continue identifiers.name (tt, λ c is. is) p [] r s ends h
 
--- the name of an identifier is a name before nothing, and is allowed
+-- the name of an identifier is a name at the end of the text too, and is allowed
 pub identifier_alone : (raw : Bool) (name r : List ℕ) → Identifier raw name r
     → identifiers.Name name [] × IsTrue (is_allowed raw name)
 identifier_alone true name r h = (name_before name r [] refl h.0.0, h.0.1)
 identifier_alone false name r h = (name_before name r [] refl h.0.0, refl)
 
--- an identifier stands before every stop, whatever literal begins there
+-- an identifier stays an identifier before each stop, even if a literal begins there
 pub named_before_stop : (raw : Bool) (name r s : List ℕ) → stops s ≡ true → Named raw name r → Named raw name s
 named_before_stop true name r s e h = (name_before name r s (stop_ends s e).continue h.0, h.1)
 named_before_stop false name r s e h = (
@@ -52,7 +52,7 @@ named_before_stop false name r s e h = (
   any_cut goes_on (codes "r#" ∷ []) name r s refl (stop_first s e) h.1,
 )
 
--- and where no literal begins
+-- an identifier stays an identifier before each stop, if no literal begins there
 pub identifier_before_stop : (raw : Bool) (name r s : List ℕ) → stops s ≡ true → Identifier raw name r
     → Identifier raw name s
 identifier_before_stop true name r s e h = (
@@ -64,30 +64,30 @@ identifier_before_stop false name r s e h =
 
 -- ---- lone quotes
 
--- no stop bars a `'` before it
+-- no stop forbids a `'` before the identifier
 pub stop_unbarred : (raw : Bool) (s : List ℕ) → stops s ≡ true → first_passes (bars_quote raw) s ≡ false
 stop_unbarred true s = stop_out (bars_quote true) s refl
 stop_unbarred false s = stop_out (bars_quote false) s refl
 
--- where a lone quote stands before an identifier, no character follows that which bars it
+-- if a lone quote is before an identifier, no character that forbids it follows the identifier
 pub quote_unbarred : (raw : Bool) (name r : List ℕ) → Named raw name r
     → FollowsQuote (raw_front raw ++ (name ++ r)) → first_passes (bars_quote raw) r ≡ false
 quote_unbarred raw name r h follows =
     not-true _ (sym (follows_at raw name r h) ∙ follows_complete (raw_front raw ++ (name ++ r)) follows)
 
--- what follows it begins as identifiers do
+-- the text after a lone quote begins with a character that may begin an identifier
 pub follows_start : (r : List ℕ) → FollowsQuote r → first_passes is_ident_start r ≡ true
 follows_start r h = ap (first_passes is_ident_start) h.whole ∙ named_start h.raw h.name h.rest h.named
 
 pub follows_something : FollowsQuote [] → ⊥
 follows_something h = both_ways _ refl (follows_start [] h)
 
--- an identifier, or else a literal
+-- whether the kind is that of an identifier or a literal
 abbrev pub IsNameOrLiteral : Kind → Type 0
 IsNameOrLiteral kind = ((raw : Bool) × (name : List ℕ) × (kind ≡ Leaf (Name raw name)))
     ⊎ ((text : List ℕ) × (kind ≡ Leaf (Literal text)))
 
--- what was found with a kind has it
+-- an answer with a kind has that kind
 pub tagged_is : (kind : List ℕ → List ℕ → Kind) (o : Answer) (k : Kind) (p r : List ℕ) → tagged kind o ≡ Some (k, p, r)
     → (k ≡ kind p r) × (o ≡ Some (p, r))
 tagged_is kind None k p r e = absurd (cc)
@@ -96,7 +96,7 @@ tagged_is kind (Some x) k p r e =
     let piece : x ≡ (p, r) = ap (λ y. (y.1, y.2)) same in
     (sym (ap (λ y. y.0) same) ∙ ap (λ y. kind y.0 y.1) piece, ap Some piece)
 
--- the piece that follows it is one of these
+-- the piece after a lone quote is an identifier or a literal
 pub quote_next : (first : Bool) (k : Kind) (p r : List ℕ) → IsPiece first k p r → FollowsQuote (p ++ r)
     → IsNameOrLiteral k
 quote_next first k p r h follows =
@@ -112,11 +112,11 @@ quote_next first k p r h follows =
 
 -- ---- other marks
 
--- one stands before every stop that stands anywhere
+-- a mark stays a mark before each stop
 pub mark_before_stop : (c : ℕ) (r s : List ℕ) → stops s ≡ true → marks.Mark (c ∷ []) r → marks.Mark (c ∷ []) s
 mark_before_stop c r s e h = (h.0, any_cut goes_on comment_fronts (c ∷ []) r s refl (stop_first s e) h.1)
 
--- and is Alone there
+-- a mark is Alone before a stop
 pub stop_alone : (s : List ℕ) → stops s ≡ true → joint_before s ≡ false
 stop_alone [] e = refl
 stop_alone (c ∷ s) e =

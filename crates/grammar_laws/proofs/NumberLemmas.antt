@@ -1,4 +1,4 @@
--- The parts of a number, and floats, stay what they are where something follows that doesn't go on with them.
+-- The parts of a number, and floats, stay what they are, if the new text after them does not continue them.
 use Rattle.std.proofs.Common.{◌≡◌, ℕ, ◌≤◌, Bool, true, false, ◌||◌, ◌==◌, List, [], ◌∷◌, ◌++◌, length, length-append}
 use Rattle.std.proofs.Common.{arith, refl, sym, ap, ◌∙◌, subst, inl, inr, append_assoc, append-nil}
 use Rattle.std.specs.List.{list_all}
@@ -24,7 +24,7 @@ use Rattle.grammar_laws.proofs.StableLemmas.{none_one, all_in}
 
 -- ---- classes
 
--- what follows a number and may go on with it
+-- whether the character may continue a number
 abbrev pub goes_on : ℕ → Bool
 goes_on c = is_ident_continue c || ((c == 46) || is_sign c)
 
@@ -114,7 +114,7 @@ exponent_none : KeepsNone goes_on 0 (Stands rule.exponent)
 exponent_none = none_extended goes_on rule.exponent on_exponent
     (tt, (tt, ((tt, tt, none_one none is_sign), (tt, (tt, tt)))))
 
--- up to a character that goes on with no identifier, its sign, an exponent is made of others
+-- if an exponent has a character that continues no identifier, which is its sign, all characters before that one do
 pub exponent_front : (x t y m : List ℕ) (c : ℕ) → Stands rule.exponent x t → is_ident_continue c ≡ false
     → x ≡ y ++ (c ∷ m)
     → list_all is_ident_continue y ≡ true
@@ -150,10 +150,11 @@ exponent_front x t y m c is out e =
 
 -- ---- floats
 
--- those with a dot, and those without
+-- floats with a dot
 abbrev pub Dotted : Form
 Dotted = Stands (Then rule.digits rule.fraction)
 
+-- floats without a dot
 abbrev pub Exponential : Form
 Exponential = Stands (Then rule.digits (Then rule.exponent rule.end))
 
@@ -178,13 +179,13 @@ on_float =
     let end = within_suffix goes_on continue_goes_on in
     all_in goes_on rule.float (digits, ((refl, (digits.1, ((on_exponent, refl), end))), (on_exponent, end)))
 
--- ---- no float newly stands
+-- ---- no new float begins
 
--- nothing that goes on with an identifier follows a float
+-- no character that may continue an identifier follows a float
 pub float_ends : (p r : List ℕ) → Stands rule.float p r → first_passes is_ident_continue r ≡ false
 float_ends p r is = elim is.second [ inl fraction ↦ fraction.second.second.second.1 | inr exponent ↦ exponent.second.1 ]
 
--- where each float before the one text would stand before the other, none newly stands
+-- no new float begins, if each float before the new text would be one before the old text
 pub none_moved : (p b r s : List ℕ) → first_passes goes_on s ≡ false
     → ((q d : List ℕ) → p ++ b ≡ q ++ d → Stands rule.float q (d ++ s) → Stands rule.float q (d ++ r))
     → HasNone (Stands rule.float) (p ++ (b ++ r)) → HasNone (Stands rule.float) (p ++ (b ++ s))
@@ -193,7 +194,8 @@ none_moved p b r s ends moves none q t e is =
     none q (within.0 ++ r) (sym (append_assoc p b r) ∙ (ap (λ z. z ++ r) within.1 ∙ append_assoc q within.0 r))
     (moves q within.0 within.1 (subst (Stands rule.float q) within.2 is))
 
--- one without a dot does, where nothing that goes on with an identifier follows
+-- a float before the new text is one before the old text, if floats with a dot are and the old text continues no
+-- identifier
 pub float_moved : (q d r s : List ℕ) → first_passes is_ident_continue r ≡ false
     → (Dotted q (d ++ s) → Dotted q (d ++ r))
     → Stands rule.float q (d ++ s) → Stands rule.float q (d ++ r)
@@ -206,7 +208,7 @@ float_moved q d r s calm moves is = elim is.second [
       anew _ _ _ q (d ++ r) (d ++ r) h h.first (inr h.second)
 ]
 
--- there is no dot among what goes on with an identifier
+-- characters that continue an identifier contain no dot
 no_dotted : (q d s : List ℕ) → list_all is_ident_continue (q ++ d) ≡ true → Dotted q (d ++ s) → ⊥
 unfolding unicode_ident
 no_dotted q d s all is =
@@ -216,7 +218,7 @@ no_dotted q d s all is =
     ∙ append_assoc is.front (46 ∷ after.back) d in
     both_ways (is_ident_continue 46) refl (passes_at is_ident_continue (q ++ d) is.front 46 (after.back ++ d) all whole)
 
--- so none newly stands in a text of such characters
+-- no new float begins in a text of characters that may continue an identifier
 pub no_new_float : (p r s : List ℕ) → list_all is_ident_continue p ≡ true → first_passes is_ident_continue r ≡ false
     → first_passes goes_on s ≡ false → HasNone (Stands rule.float) (p ++ r)
     → HasNone (Stands rule.float) (p ++ s)

@@ -1,4 +1,4 @@
--- What pieces end with that are neither marks nor numbers.
+-- How pieces end that are neither marks nor numbers.
 use Rattle.std.proofs.Common.{◌≡◌, ◌⊎◌, ℕ, Bool, true, false, not, ◌||◌, ◌==◌, List, [], ◌∷◌, ◌++◌, codes, refl, sym}
 use Rattle.std.proofs.Common.{ap, ◌∙◌, subst, inl, inr, append_assoc, append-nil}
 use Rattle.std.specs.List.{list_all}
@@ -21,21 +21,21 @@ use Rattle.grammar_laws.proofs.NumberLemmas.{goes_on}
 use Rattle.lexical.proofs.PieceFacts.{open_is, close_is}
 use Rattle.grammar_laws.proofs.StableLemmas.{sub_one, sub_either, sub_between, misses}
 
--- ---- a character with which no number goes on
+-- ---- a character that no number contains
 
--- such a character
+-- whether no number continues with the character
 abbrev pub dead : ℕ → Bool
 dead c = not (goes_on c)
 
--- one of them stands in the text
+-- whether the text has a character that no number contains
 abbrev pub HasDead : List ℕ → Type 0
 HasDead text = list_all goes_on text ≡ false
 
--- where it begins the text
+-- a text that begins with a character that no number contains has one
 dead_first : (p q : List ℕ) (c : ℕ) → p ≡ c ∷ q → dead c ≡ true → HasDead p
 dead_first p q c e out = ap (list_all goes_on) e ∙ and_left (goes_on c) (list_all goes_on q) (not-true _ out)
 
--- or the class or its last character does
+-- no number contains a character of a class with one more character, if none contains those of the class and that one
 or_one : (passes : ℕ → Bool) (n : ℕ) → dead n ≡ true → Sub passes dead → Sub (λ c. passes c || (c == n)) dead
 or_one passes n out all = sub_either passes (λ c. c == n) dead all (sub_one dead n out)
 
@@ -48,7 +48,7 @@ white_dead =
     (or_one _ 5760 refl (or_one _ 160 refl (or_one _ 133 refl (or_one _ 32 refl (sub_between dead 8 14 refl)))))
     (sub_between dead 8191 8203 refl))))))))
 
--- each literal between quotes has a quote
+-- a literal between quotes has a quote, which no number contains
 quoted_dead : (p r : List ℕ) → literals.QuotedLiteral p r → HasDead p
 unfolding Str unicode_ident
 quoted_dead =
@@ -59,8 +59,8 @@ quoted_dead =
 
 -- ---- quiet pieces
 
--- a piece that is neither a mark nor a number has such a character, or nothing follows it that goes on with an
--- identifier
+-- a piece that is neither a mark nor a number has a character that no number contains, or the text after it continues
+-- no identifier
 quiet_piece : (k : Kind) (p r : List ℕ) → IsPiece false k p r → is_quiet k ≡ true
     → HasDead p ⊎ (first_passes is_ident_continue r ≡ false)
 unfolding unicode_ident literals.Literal
@@ -89,12 +89,13 @@ quiet_piece (Leaf (Literal text)) p r h quiet = elim h.1 [
 
 -- ---- texts of pieces
 
--- what follows the pieces may be put after their text
+-- the text of the pieces before some text is their text alone, joined with it
 pub onto_split : (us : List Piece) (v : List ℕ) → onto us v ≡ onto us [] ++ v
 onto_split [] v = refl
 onto_split (u ∷ us) v = ap (λ x. u.1 ++ x) (onto_split us v) ∙ sym (append_assoc u.1 (onto us []) v)
 
--- the same of pieces, the last of which is such
+-- pieces that end with neither a mark nor a number have a character that no number contains, or the text after them
+-- continues no identifier
 pub quiet_end : (us : List Piece) (v : List ℕ) → StandBefore false us v → ends_quiet us ≡ true
     → HasDead (onto us []) ⊎ (first_passes is_ident_continue v ≡ false)
 quiet_end [] v stand quiet = absurd (both_ways _ refl quiet)

@@ -1,4 +1,4 @@
--- Which literals may come next to a lone quote.
+-- Which literals may follow a lone quote.
 use Rattle.std.proofs.Common.{◌≡◌, ℕ, true, false, List, ◌∷◌, ◌++◌, codes, refl, sym, ap, ◌∙◌, inl, inr}
 use Rattle.std.specs.List.{AllByRecursion}
 use Rattle.std.specs.Char.{is_ascii_digit}
@@ -25,9 +25,9 @@ use Rattle.lexical.proofs.LiteralFinderLemmas.{raw_text, raw_fronts, hashes_begi
 use Rattle.lexical.proofs.ClassLemmas.{start_letter, start_digit}
 use Rattle.grammar_laws.proofs.NameLemmas.{follows_start}
 
--- ---- these may
+-- ---- these literals may
 
--- before a text that begins so, whatever follows, a lone quote may stand
+-- a text with one of the five prefixes may follow a lone quote, whatever follows the prefix
 pub prefixed_follows : (p r : List ℕ) → begins_any quotable_fronts p ≡ true → FollowsQuote (p ++ r)
 unfolding unicode_ident find
 prefixed_follows p r h =
@@ -39,17 +39,17 @@ prefixed_follows p r h =
       ),
     )
 
--- ---- no others may
+-- ---- no other literals may
 
 not_followed : {A : Type 0} (text : List ℕ) → follows_quote text ≡ false → FollowsQuote text → A
 not_followed text out h = absurd (both_ways _ out (follows_complete text h))
 
--- a text that begins with what no identifier begins with
+-- a text whose first character begins no identifier may not follow a lone quote
 no_start : (c : ℕ) (text rest : List ℕ) → text ≡ c ∷ rest → is_ident_start c ≡ false → FollowsQuote text → ⊥
 no_start c text rest e out h = both_ways (is_ident_start c) out
     (sym (ap (first_passes is_ident_start) e) ∙ follows_start text h)
 
--- if a lone quote may stand before the piece, it begins with one of the five
+-- whether the piece begins with one of the five prefixes, if it may follow a lone quote
 abbrev Quotable : List ℕ → List ℕ → Type 0
 Quotable p r = FollowsQuote (p ++ r) → begins_any quotable_fronts p ≡ true
 
@@ -58,7 +58,7 @@ front_bars : (front : List ℕ) (A : Form) (p r : List ℕ) → Then (Exactly fr
 front_bars front A p r h out follows =
     (not_followed (p ++ r) (ap follows_quote (front_whole front A p r h) ∙ out (h.back ++ r)) follows)
 
--- a raw string without hash signs may, and none with them
+-- a raw string may follow a lone quote only if it has no hash signs
 raw_quotable : (kind : StringKind) (p r : List ℕ) → Stands (raw_string kind) p r → Quotable p r
 unfolding unicode_ident find
 raw_quotable kind p r h =
@@ -81,13 +81,13 @@ between_quotes p r =
     (λ is. front_bars (codes "'") _ p r is (λ t. refl))
     (λ is. front_bars (codes "b'") _ p r is (λ t. refl))
 
--- a digit starts no identifier
+-- a digit begins no identifier
 digit_no_start : (c : ℕ) → is_ascii_digit c ≡ true → is_ident_start c ≡ false
 digit_no_start c digit = false_from_ne_true _ (λ letter.
     let clash : starts.Letter ≡ starts.Digit = sym (start_letter c letter) ∙ start_digit c digit in
     cc)
 
--- a literal before which a lone quote may stand begins with one of the five
+-- a literal that may follow a lone quote begins with one of the five prefixes
 pub literal_quoted : (p r : List ℕ) → AnyLiteral p r → FollowsQuote (p ++ r) → begins_any quotable_fronts p ≡ true
 unfolding Literal unicode_ident
 literal_quoted p r (inl literal) follows = elim literal [

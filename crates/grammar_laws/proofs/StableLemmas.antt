@@ -1,4 +1,4 @@
--- Rules that keep their pieces where what follows them becomes something else.
+-- Rules that keep their pieces when the text after the pieces changes.
 use Rattle.std.proofs.Common.{◌≡◌, ◌⊎◌, ℕ, ◌≤◌, ◌+◌, zero, suc, min, Bool, true, false, ◌||◌, ◌&&◌, ◌==◌, ◌<◌, ◌-◌}
 use Rattle.std.proofs.Common.{nat_lt, ltb-true, List, [], ◌∷◌, ◌++◌, length, drop, refl, sym, ap, ap₂, ◌∙◌, subst}
 use Rattle.std.proofs.Common.{arith, inl, inr, append_assoc, length-append, eqb-true}
@@ -26,7 +26,7 @@ pub sub_either : (passes others class : ℕ → Bool) → Sub passes class → S
 sub_either passes others class one other c is =
     elim (or_cases (passes c) (others c) is) [ inl x ↦ one c x | inr y ↦ other c y ]
 
--- a range of characters
+-- the characters of a range are in the class, which computes
 pub sub_between : (class : ℕ → Bool) (low high : ℕ)
     → agree_below (λ k. class (1 + low + k)) (λ k. true) (high - (1 + low)) ≡ true
     → Sub (λ c. nat_lt low c && nat_lt c high) class
@@ -43,9 +43,9 @@ pub stops_within : (passes class : ℕ → Bool) → Sub passes class → (s : L
 stops_within passes class within [] ends = refl
 stops_within passes class within (c ∷ s) ends = false_from_ne_true _ (λ is. both_ways _ ends (within c is))
 
--- ---- how short pieces are
+-- ---- how short pieces can be
 
--- a number of characters that each piece of the rule has at least
+-- the least number of characters of a piece of the rule
 abbrev pub least : Rule → ℕ
 least (rules.One passes) = 1
 least (rules.Exactly text) = length text
@@ -84,21 +84,20 @@ least_holds rule p r is = omega arith
 
 -- ---- rules that keep their pieces
 
--- the form keeps its pieces where n characters at least follow them, and then a text that begins with none of the class
--- stands in place of another
+-- whether the form keeps its pieces, if n characters after them stay and the new text begins outside the class
 abbrev pub Keeps : (ℕ → Bool) → ℕ → Form → Type 0
 Keeps class n A = (p b r s : List ℕ) → n ≤ length b → first_passes class s ≡ false → A p (b ++ r) → A p (b ++ s)
 
--- and where none of the form stands, none does then
+-- whether no new piece of the form appears, if n characters stay and the new text begins outside the class
 abbrev pub KeepsNone : (ℕ → Bool) → ℕ → Form → Type 0
 KeepsNone class n A = (b r s : List ℕ) → n ≤ length b → first_passes class s ≡ false → HasNone A (b ++ r)
     → HasNone A (b ++ s)
 
--- the same, however many follow
+-- whether the form keeps its pieces, however many characters stay, if the new text begins outside the class
 abbrev pub Stable : (ℕ → Bool) → Form → Type 0
 Stable class A = (p b r s : List ℕ) → first_passes class s ≡ false → A p (b ++ r) → A p (b ++ s)
 
--- the characters that pass are of the class, where none need follow
+-- whether the characters that pass are in the class, if no character needs to stay
 abbrev pub Ends : (ℕ → Bool) → ℕ → (ℕ → Bool) → Type 0
 Ends class zero passes = Sub passes class
 Ends class (suc n) passes = Unit {0}
@@ -107,7 +106,7 @@ pub ends_after : (class : ℕ → Bool) (n : ℕ) (passes : ℕ → Bool) → 1 
 ends_after class zero passes some = absurd (omega (arith, some))
 ends_after class (suc n) passes some = tt
 
--- the rule looks at n characters after its pieces, and past them only whether one of the class follows
+-- whether the rule depends only on n characters after its pieces, and on whether a character of the class follows them
 abbrev pub Looks : (ℕ → Bool) → ℕ → Rule → Type 0
 Looks class n (rules.One passes) = Unit {0}
 Looks class n (rules.Run passes) = Ends class n passes
@@ -123,7 +122,7 @@ Looks class n (rules.NotBefore passes a) = Ends class n passes × Looks class n 
 Looks class n (rules.Where test a) = Looks class n a
 Looks class n (rules.Ends depth) = Keeps class n (Stands (rules.Ends depth))
 
--- the two pieces before another text, or the second of another form
+-- makes a piece of two parts again, if both parts are pieces before the new text
 pub anew : (A : Form) (B C : List ℕ → Form) (p r s : List ℕ) (h : Next A B p r) → A h.front (h.back ++ s)
     → C h.front h.back s → Next A C p s
 anew A B C p r s h first second =
@@ -137,7 +136,7 @@ module _ (class : ℕ → Bool) where
   keeps_ends zero passes within [] r s long ends stops = stops_within passes class within s ends
   keeps_ends (suc n) passes within [] r s long ends stops = absurd (omega (arith, long))
 
-  -- what follows a piece may be in two parts
+  -- a form keeps its pieces, if the text after them is in two parts
   pub keeps_before : (n : ℕ) (A : Form) → Keeps class n A → (front back b r s : List ℕ) → n ≤ length back + length b
       → first_passes class s ≡ false
       → A front (back ++ (b ++ r)) → A front (back ++ (b ++ s))
@@ -212,11 +211,11 @@ module _ (class : ℕ → Bool) where
 
 -- ---- the characters of pieces
 
--- each character of a piece is of the class
+-- whether each character of the form's pieces is in the class
 abbrev pub AllIn : (ℕ → Bool) → Form → Type 0
 AllIn class A = (p r : List ℕ) → A p r → list_all class p ≡ true
 
--- the rule's characters are of the class
+-- whether the rule's characters are in the class
 abbrev pub Within : (ℕ → Bool) → Rule → Type 0
 Within class (rules.One passes) = Sub passes class
 Within class (rules.Run passes) = Sub passes class
@@ -251,7 +250,7 @@ module _ (class : ℕ → Bool) where
   all_in (rules.Where test a) within = λ p r is. all_in a within p r is.0
   all_in rule within = within
 
--- each piece of the rule has a character that is none of the class
+-- whether each piece of the rule has a character that is not in the class
 abbrev pub Misses : (ℕ → Bool) → Rule → Type 0
 Misses class (rules.Exactly text) = list_all class text ≡ false
 Misses class (rules.Then a b) = Misses class a ⊎ Misses class b
@@ -275,13 +274,13 @@ misses class (rules.Either a b) out =
     λ p r is. elim is [ inl x ↦ misses class a out.0 p r x | inr y ↦ misses class b out.1 p r y ]
 misses class rule out = out
 
--- ---- where none stands
+-- ---- where no piece is
 
--- where a piece stands, one stands whatever follows its text
+-- whether a piece of the form is also there before any other text, possibly a longer one
 abbrev pub Extends : Form → Type 0
 Extends A = (p r s : List ℕ) → A p r → (q : List ℕ) × (t : List ℕ) × (p ++ s ≡ q ++ t) × A q t
 
--- no character
+-- a class without characters
 abbrev pub none : ℕ → Bool
 none c = false
 
@@ -289,7 +288,7 @@ no_first : (s : List ℕ) → first_passes none s ≡ false
 no_first [] = refl
 no_first (c ∷ s) = refl
 
--- the rule is such
+-- whether the rule's pieces are there before any other text, possibly longer
 abbrev pub Grows : Rule → Type 0
 Grows (rules.One passes) = Unit {0}
 Grows (rules.Run passes) = Unit {0}
@@ -327,7 +326,7 @@ extends (rules.Then a b) grows = λ p r s is.
     )
 extends rule grows = grows
 
--- of two fronts of one text one goes on from the other
+-- of two prefixes of one text, one is a prefix of the other
 pub fronts_compared : (y v x t : List ℕ) → y ++ v ≡ x ++ t
     → ((m : List ℕ) × (y ≡ x ++ m) × (t ≡ m ++ v)) ⊎ ((c : ℕ) × (m : List ℕ) × (x ≡ y ++ (c ∷ m)) × (v ≡ c ∷ (m ++ t)))
 fronts_compared y v [] t e = inl (y, refl, sym e)
@@ -341,7 +340,7 @@ fronts_compared (a ∷ y) v (c ∷ x) t e =
     ]
 
 module _ (class : ℕ → Bool) where
-  -- each character of a text of the class is of it
+  -- each character of a text in the class is in the class
   pub passes_at : (p front : List ℕ) (c : ℕ) (back : List ℕ) → list_all class p ≡ true → p ≡ front ++ (c ∷ back)
       → class c ≡ true
   passes_at p front c back all e =
@@ -349,7 +348,7 @@ module _ (class : ℕ → Bool) where
       (sym (ap (list_all class) e ∙ list_all-append class front (c ∷ back)) ∙ all) in
       (and_parts _ _ parts.1).0
 
-  -- a piece whose characters are of the class lies before a text that begins with none
+  -- a piece whose characters are in the class ends before a text that begins with no character of the class
   pub inside : (b s q t : List ℕ) → first_passes class s ≡ false → list_all class q ≡ true → b ++ s ≡ q ++ t
       → (d : List ℕ) × (b ≡ q ++ d) × (t ≡ d ++ s)
   inside b s q t ends on e = elim (fronts_compared b s q t e) [

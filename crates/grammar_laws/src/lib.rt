@@ -1,3 +1,3 @@
-//! What holds of the pieces of a text where what follows them becomes something else: the facts about the grammar on
-//! which the laws of printed, joined and broken texts stand.
+//! Lemmas about the pieces of a text when the text after them changes. The laws about printed, joined and broken texts
+//! follow from them.
 #![tactic(auto)]

@@ -1,4 +1,4 @@
--- What a deterministic grammar derives, the machine reads.
+-- The machine reads everything that a deterministic grammar derives.
 use Rattle.std.proofs.Common.{◌≡◌, refl, ◌∙◌, ap, subst, Bool, false, List, [], ◌∷◌}
 use Rattle.std.proofs.Common.{◌++◌, inl, inr, Some, append_assoc}
 use Rattle.std.proofs.lemmas.Bool.{both_ways, and_parts, or_cases, or_right}

@@ -1,4 +1,4 @@
--- What is found by each word that grammars are made of.
+-- What each constructor of `Grammar` finds.
 use Rattle.std.proofs.Common.{◌≡◌, refl, sym, ◌∙◌, ap, Bool, true, false, ◌&&◌, List, [], ◌∷◌}
 use Rattle.std.proofs.Common.{◌++◌, Some, None, append_assoc, if◌then◌else◌}
 use Rattle.grammars.specs.Grammar.{Grammar, Nothing, Sign, To, Mark, Then, Either, Many, Listed, Event, One}
@@ -104,7 +104,7 @@ module _ {C N L : Type 0} (rules : N → Grammar C N L) where
         | Some taken ↦ front taken.0 (scan rules taken.1 signs)
       ]) e
 
-  -- where the rest ends a state, what follows it is read there
+  -- if the signs may end at the first stack, the second reads what follows; otherwise there is an error
   at_end : (r k : List (Grammar C N L)) (signs : List C) (e : Bool) → ends r ≡ e
       → (ends r ≡ true → scan rules (r ++ k) signs ≡ front (closing r) (scan rules k signs))
       → (ends r ≡ false → scan rules (r ++ k) signs ≡ Stuck signs)

@@ -1,10 +1,10 @@
--- The machine over flat stacks: sequences stand there in parts, without marks, so that it comes to few states.
+-- The machine over flat stacks. A sequence is in them as its parts, and marks are left out, so there are few states.
 use Rattle.std.proofs.Common.{◌≡◌, refl, sym, ◌∙◌, ap, subst, Bool, true, false, ◌&&◌, List, [], ◌∷◌, ◌++◌, Option}
 use Rattle.std.proofs.Common.{Some, None, append_assoc}
 use Rattle.grammars.specs.Grammar.{Grammar, Nothing, Sign, To, Mark, Then, Either, Many, Listed, Event, One, further}
 use Rattle.grammars.specs.Machine.{is_nullable, Step, or_else, behind, only, into, step, ends, walk}
 
--- the parts of a sequence
+-- the parts of a grammar, which are several if it is a sequence
 abbrev pub flat : {C N L : Type 0} → Grammar C N L → List (Grammar C N L)
 flat Nothing = []
 flat (Mark l) = []
@@ -20,12 +20,12 @@ abbrev pub flat_all : {C N L : Type 0} → List (Grammar C N L) → List (Gramma
 flat_all [] = []
 flat_all (g ∷ k) = flat g ++ flat_all k
 
--- a stack with more after it, if there is one
+-- the stack with more grammars after it, if there is one
 abbrev pub and_more : {T : Type 0} → Option (List T) → List T → Option (List T)
 and_more None k = None
 and_more (Some j) k = Some (j ++ k)
 
--- the flat stack after a step
+-- the flat form of the stack after a step
 abbrev pub flattened : {C N L : Type 0} → Step C N L → Option (List (Grammar C N L))
 flattened None = None
 flattened (Some taken) = Some (flat_all taken.1)
@@ -54,7 +54,7 @@ more_more None j k = refl
 more_more (Some i) j k = ap Some (append_assoc i j k)
 
 module _ {C N L : Type 0} (rules : N → Grammar C N L) where
-  -- what is to be read in place of a grammar after a sign
+  -- the flat stack that takes the place of a grammar after a sign
   abbrev pub enter : Grammar C N L → C → Option (List (Grammar C N L))
   enter Nothing c = None
   enter (Sign passes) c = only (passes c) (Some [])
@@ -70,7 +70,7 @@ module _ {C N L : Type 0} (rules : N → Grammar C N L) where
   move [] c = None
   move (g ∷ k) c = or_else (and_more (enter g c) k) (only (is_nullable g) (move k c))
 
-  -- the flat stack after some signs, if there is a step at each
+  -- the flat stack after some signs, if there is a step at each sign
   abbrev pub moves : List (Grammar C N L) → List C → Option (List (Grammar C N L))
   moves k [] = Some k
   moves k (c ∷ signs) = elim (move k c) [ None ↦ None | Some j ↦ moves j signs ]
@@ -137,7 +137,7 @@ module _ {C N L : Type 0} (rules : N → Grammar C N L) where
   move_flat (Many a) k c = refl
   move_flat (Listed a s) k c = refl
 
-  -- a step is one of the flat stack
+  -- the flat form of a step is the step of the flat stack
   pub step_flat : (k : List (Grammar C N L)) (c : C) → flattened (step rules k c) ≡ move (flat_all k) c
   step_flat [] c = refl
   step_flat (g ∷ k) c =
@@ -165,12 +165,12 @@ module _ {C N L : Type 0} (rules : N → Grammar C N L) where
   ends_both (Many a) k = refl
   ends_both (Listed a s) k = refl
 
-  -- signs may end at a stack where they may at the flat one
+  -- signs may end at a flat stack exactly if they may end at the stack
   pub ends_flat : (k : List (Grammar C N L)) → ends (flat_all k) ≡ ends k
   ends_flat [] = refl
   ends_flat (g ∷ k) = ends_both g (flat_all k) ∙ ap (λ e. is_nullable g && e) (ends_flat k)
 
-  -- a walk is one over flat stacks
+  -- the flat form of a walk is the walk over flat stacks
   pub walk_flat : (k : List (Grammar C N L)) (signs : List C)
       → flattened (walk rules k signs) ≡ moves (flat_all k) signs
   walk_flat k [] = refl

@@ -1,4 +1,4 @@
--- The laws.
+-- The laws of `specs/Laws.antt` and `specs/Words.antt`.
 use Rattle.std.proofs.Common.{◌≡◌, refl, sym, ◌∙◌, List, [], ◌∷◌, ◌++◌, Some, None}
 use Rattle.std.proofs.Common.{append_assoc}
 use Rattle.grammars.specs.Grammar.{Grammar}
@@ -29,9 +29,9 @@ module _ (C N L : Type 0) where
     λ r. found rules follows good k start.deterministic start.productive signs events r.reads r.whole,
   )
 
-  -- ---- one fault
+  -- ---- one error
 
-  -- two fronts of a list are the same, where neither is longer
+  -- two prefixes of a list are equal if neither is longer
   same_front : (front left other rest : List C) → front ++ left ≡ other ++ rest
       → ((c : C) (more : List C) → other ≡ front ++ c ∷ more → left ≡ c ∷ (more ++ rest) → ⊥)
       → ((c : C) (more : List C) → front ≡ other ++ c ∷ more → rest ≡ c ∷ (more ++ left) → ⊥)
@@ -49,7 +49,7 @@ module _ (C N L : Type 0) where
       cons : (x y : C) (xs ys : List C) → x ≡ y → xs ≡ ys → x ∷ xs ≡ y ∷ ys
       cons x y xs ys e f = rw (e, f) refl
 
-  -- what goes on after more signs goes on after the first of them
+  -- if some signs can go on to a reading, each prefix of them can
   on_before : (rules : N → Grammar C N L) (k : List (Grammar C N L)) (front other : List C) (c : C) (more : List C)
       → other ≡ front ++ c ∷ more → GoesOn rules k other
       → GoesOn rules k (front ++ c ∷ [])
@@ -97,7 +97,7 @@ module _ (C N L : Type 0) where
   stuck_is_fault rules follows good k start signs left e =
       stuck_fault rules follows good k start.deterministic start.productive signs left e
 
-  -- ---- tests, lists
+  -- ---- tests and lists
 
   pub test_is_deterministic : laws.TestIsDeterministic C N L
   test_is_deterministic every holds follows g follow h = clear_holds every holds follows g follow h
@@ -108,7 +108,7 @@ module _ (C N L : Type 0) where
   pub list_is_written : laws.ListIsWritten C N L
   list_is_written rules a s events = (listed_written rules a s events, written_listed rules a s events)
 
-  -- ---- words
+  -- ---- constructors
 
   pub lacks_finds : words.LacksFinds C N L
   lacks_finds rules g signs h e = word.find_lacks rules g signs h e

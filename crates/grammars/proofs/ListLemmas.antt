@@ -1,4 +1,4 @@
--- A list is `( a ( s a )* s? )?`.
+-- `Listed a s` derives the same events as `( a ( s a )* s? )?`.
 use Rattle.std.proofs.Common.{◌≡◌, refl, sym, ap, subst, List, [], ◌++◌, append_assoc, append-nil}
 use Rattle.grammars.specs.Lists.{written}
 use Rattle.grammars.specs.Grammar.{Grammar, Then, Many, Listed, Event, perhaps}

@@ -1,4 +1,4 @@
--- The pieces at the front of signs are the walks of the machine as far as it goes.
+-- The pieces at the start of some signs are the walks of the machine as far as it goes.
 use Rattle.std.proofs.Common.{◌≡◌, refl, sym, ◌∙◌, ap, Bool, true, false, List, [], ◌∷◌, ◌++◌, Option, Some, None}
 use Rattle.std.proofs.Common.{append-nil}
 use Rattle.grammars.specs.Grammar.{Grammar, Event}
@@ -9,13 +9,13 @@ use Rattle.grammars.proofs.StepLemmas.{if_some}
 use Rattle.grammars.proofs.ReadingLemmas.{Comes, fault, found, goes_on, reading, walk_comes, walk_step}
 
 module _ {C N L : Type 0} (rules : N → Grammar C N L) where
-  -- a walk over some signs to a state where they may end
+  -- a walk over the signs to a stack at which they may end
   pub record Walks (k : List (Grammar C N L)) (signs : List C) : Type 0 where
     pub taken : List (Event C L) × List (Grammar C N L)
     pub walks : walk rules k signs ≡ Some taken
     pub ended : ends taken.1 ≡ true
 
-  -- what is read of all signs is a walk
+  -- if all signs are read, there is a walk over them
   run_walks : (k : List (Grammar C N L)) (signs : List C) (events : List (Event C L)) → run rules k signs ≡ Some events
       → Walks k signs
   run_walks k [] events e = go (ends k) refl e
@@ -46,7 +46,7 @@ module _ {C N L : Type 0} (rules : N → Grammar C N L) where
       go None h e f = absurd cc
       go (Some t) h e f = later t h (run rules t.1 signs) e (f t.1)
 
-  -- a walk goes on where there is a step
+  -- a walk goes on if there is a step at the next sign
   one_more : (k : List (Grammar C N L)) (signs : List C) (c : C) (taken : List (Event C L) × List (Grammar C N L))
       (next : List (Event C L) × List (Grammar C N L)) → walk rules k signs ≡ Some taken
       → step rules taken.1 c ≡ Some next
@@ -79,7 +79,7 @@ module _ {C N L : Type 0} (rules : N → Grammar C N L) where
 
   module _ (follows : N → C → Bool) (good : IsWellFormed rules follows) (k : List (Grammar C N L))
       (start : IsStart rules follows k) where
-    -- a walk that may end, and has no step at what follows, is over a piece
+    -- if the signs may end after a walk, and there is no step at the next sign, the walk is over a piece
     pub walk_piece : (piece rest : List C) (w : Walks k piece)
         → ((c : C) (more : List C) → rest ≡ c ∷ more → step rules w.taken.1 c ≡ None)
         → IsPiece rules k piece rest
@@ -96,13 +96,13 @@ module _ {C N L : Type 0} (rules : N → Grammar C N L) where
               at.longest c more refl;
         }
 
-    -- each piece has such a walk
+    -- each piece has a walk over it to a stack at which the signs may end
     pub piece_walk : (piece rest : List C) → IsPiece rules k piece rest → Walks k piece
     piece_walk piece rest p =
         run_walks k piece p.events
         (found rules follows good k start.deterministic start.productive piece p.events p.reading.reads p.reading.whole)
 
-    -- and there is no step after it
+    -- after a walk over a piece there is no step at the next sign
     pub piece_stops : (piece rest : List C) → IsPiece rules k piece rest → (w : Walks k piece)
         → (c : C) (more : List C) → rest ≡ c ∷ more
         → step rules w.taken.1 c ≡ None

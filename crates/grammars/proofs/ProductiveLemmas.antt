@@ -1,4 +1,4 @@
--- Each state that the machine comes to can go on to an end.
+-- From each stack that the machine reaches, some signs lead to an end.
 use Rattle.std.proofs.Common.{refl, Bool, true, false, List, [], ◌∷◌}
 use Rattle.std.proofs.Common.{◌++◌, Some, None, IfSome}
 use Rattle.grammars.specs.Grammar.{Grammar, Nothing, Sign, To, Mark, Then, Either, Many, Listed, Event, One, Marked}

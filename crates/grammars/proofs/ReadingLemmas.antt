@@ -1,4 +1,4 @@
--- The machine reads what the grammar derives and nothing else, in one way, and its faults are where no reading goes on.
+-- The machine reads exactly what the grammar derives, in one way. It stops exactly where no reading goes on.
 use Rattle.std.proofs.Common.{◌≡◌, refl, sym, ◌∙◌, ap, subst, Bool, false, List, [], ◌∷◌}
 use Rattle.std.proofs.Common.{◌++◌, Option, Some, None, IfSome, append_assoc, append-nil}
 use Rattle.grammars.specs.Grammar.{Grammar, Event, signs_of, Reads}
@@ -22,7 +22,7 @@ module _ {C N L : Type 0} (rules : N → Grammar C N L) where
         | Some t ↦ behind t.0 (walk rules t.1 signs)
       ]) ≡ behind taken.0 (walk rules taken.1 signs)) (sym e) refl
 
-  -- what holds at each step holds of a walk
+  -- whether the events of a walk have exactly its signs, and lead from what the stack after it reads to what `k` reads
   abbrev pub Comes : List (Grammar C N L) → List C → List (Event C L) × List (Grammar C N L) → Type 0
   Comes k front taken =
       (signs_of taken.0 ≡ front)
@@ -86,7 +86,7 @@ module _ {C N L : Type 0} (rules : N → Grammar C N L) where
   module _ (follows : N → C → Bool) (good : IsWellFormed rules follows) (k : List (Grammar C N L))
       (clear : AllDeterministic follows k)
       (alive : AllProductive k) where
-    -- what is read is what the grammar derives, and nothing else is
+    -- what the machine reads is the only reading of the signs
     pub reading : (signs : List C) (events : List (Event C L)) → run rules k signs ≡ Some events
         → IsReading rules k signs events
     reading signs events e =
@@ -135,7 +135,7 @@ module _ {C N L : Type 0} (rules : N → Grammar C N L) where
         let both : Some events ≡ None = sym ran ∙ none in
         cc
 
-    -- where a walk can't go on there is a fault
+    -- if a walk has no step at the next sign, the error is there
     pub fault : (front : List C) (taken : List (Event C L) × List (Grammar C N L)) (c : C) (more : List C)
         → walk rules k front ≡ Some taken → step rules taken.1 c ≡ None
         → FaultAt rules k (front ++ c ∷ more) front (c ∷ more)
@@ -149,7 +149,7 @@ module _ {C N L : Type 0} (rules : N → Grammar C N L) where
       nothing = λ events r w. stops front taken c more e stop events r w;
     }
 
-    -- or where it may not end
+    -- if the signs may not end after a walk over all of them, the error is at the end
     pub fault_end : (front : List C) (taken : List (Event C L) × List (Grammar C N L))
         → walk rules k front ≡ Some taken → ends taken.1 ≡ false
         → FaultAt rules k front front []

@@ -1,4 +1,4 @@
--- What the machine reads is what the grammar derives.
+-- The grammar derives everything that the machine reads.
 use Rattle.std.proofs.Common.{◌≡◌, refl, sym, ◌∙◌, ap, subst, Bool, true, false, List, [], ◌∷◌, ◌++◌, Option}
 use Rattle.std.proofs.Common.{Some, None, IfSome, append_assoc, append-nil, if◌then◌else◌}
 use Rattle.std.proofs.Common.{inl, inr}
@@ -9,7 +9,7 @@ use Rattle.grammars.specs.Grammar.{element, further, signs_of, Reads}
 use Rattle.grammars.specs.Machine.{is_nullable, skipped, Step, or_else, behind, only, into, step, ends, closing}
 use Rattle.grammars.specs.Machine.{ahead, run}
 
--- ---- answers
+-- ---- optional values
 
 pub or_holds : {T : Type 0} (P : T → Type 0) (x y : Option T) → IfSome x P → IfSome y P → IfSome (or_else x y) P
 or_holds P None y hx hy = hy
@@ -27,7 +27,7 @@ signs_append (One c ∷ front) back = ap (λ x. c ∷ x) (signs_append front bac
 signs_append (Marked l ∷ front) back = signs_append front back
 
 module _ {C N L : Type 0} (rules : N → Grammar C N L) where
-  -- ---- what the words derive
+  -- ---- what each constructor derives
 
   pub reads_both : (a b : Grammar C N L) (k : List (Grammar C N L)) (events : List (Event C L))
       → Reads rules (a ∷ b ∷ k) events → Reads rules (Then a b ∷ k) events
@@ -84,7 +84,8 @@ module _ {C N L : Type 0} (rules : N → Grammar C N L) where
 
   -- ---- steps
 
-  -- what is read after the step is read from the grammars, with the events of the step in front, which have this sign
+  -- whether the events of the step have exactly this sign, and what is read after the step is read from `k` with these
+  -- events before it
   abbrev pub Taken : List (Grammar C N L) → C → List (Event C L) × List (Grammar C N L) → Type 0
   Taken k c taken =
       (signs_of taken.0 ≡ c ∷ [])
@@ -164,7 +165,7 @@ module _ {C N L : Type 0} (rules : N → Grammar C N L) where
         signs_append (skipped g) (closing k) ∙ (ap (λ x. x ++ signs_of (closing k)) (skipped_signs g) ∙ more.1),
       )
 
-  -- what is read by these grammars, of these signs
+  -- whether the grammars read these events, and the events have exactly these signs
   abbrev pub ReadsOf : List (Grammar C N L) → List C → List (Event C L) → Type 0
   ReadsOf k signs events = Reads rules k events × (signs_of events ≡ signs)
 

@@ -1,4 +1,4 @@
--- Steps of the machine: where there are none, and where one state takes those of another, with events in front.
+-- Steps of the machine: where there is none, and where one stack takes the steps of another after some events.
 use Rattle.std.proofs.Common.{◌≡◌, refl, sym, ap, subst, Bool, true, false, ◌&&◌, ◌||◌, List, [], ◌∷◌}
 use Rattle.std.proofs.Common.{◌++◌, Option, inl, inr, Some, None, IfSome, append_assoc}
 use Rattle.std.proofs.Common.{if◌then◌else◌}
@@ -61,7 +61,7 @@ behind_none events x h = rw h refl
 or_none : {T : Type 0} (x y : Option T) → x ≡ None → y ≡ None → or_else x y ≡ None
 or_none x y h i = rw (h, i) refl
 
--- an answer that is the other
+-- two equal values are both none, or both are the same value
 same_answer : {T : Type 0} (x y : Option T) → x ≡ y → IfSome x (λ v. y ≡ Some v)
 same_answer None y e = tt
 same_answer (Some v) y e = sym e
@@ -70,7 +70,7 @@ pub if_some : {T : Type 0} (x : Option T) (v : T) (P : T → Type 0) → x ≡ S
 if_some x v P e h = subst (λ y. IfSome y P) e h
 
 module _ {C N L : Type 0} (rules : N → Grammar C N L) where
-  -- ---- where no step is
+  -- ---- where there is no step
 
   skip_none : (g : Grammar C N L) (p : Bool) (x : Step C N L) → (is_nullable g && p) ≡ false → (p ≡ false → x ≡ None)
       → only (is_nullable g) (behind (skipped g) x) ≡ None
@@ -110,7 +110,7 @@ module _ {C N L : Type 0} (rules : N → Grammar C N L) where
   pub step_starts : (k : List (Grammar C N L)) (c : C) → IfSome (step rules k c) (λ taken. starts k c ≡ true)
   step_starts k c = some_true (starts k c) _ (step_none k c)
 
-  -- ---- where one state does what another does, behind some events
+  -- ---- where one stack does what another does, after some events
 
   pub record Extends (pre : List (Event C L)) (k k2 : List (Grammar C N L)) : Type 0 where
     pub ending : ends k ≡ true → (ends k2 ≡ true) × (closing k2 ≡ pre ++ closing k)
@@ -154,7 +154,7 @@ module _ {C N L : Type 0} (rules : N → Grammar C N L) where
       → run rules k2 signs ≡ Some (pre ++ events)
   runs pre k k2 x signs events e = if_some _ events _ e (run_extends pre k k2 x signs)
 
-  -- nothing is read of a grammar
+  -- no sign of a grammar is read
   pub skip_extends : (g : Grammar C N L) (k : List (Grammar C N L)) → is_nullable g ≡ true
       → Apart (may_begin g) (starts k)
       → Extends (skipped g) k (g ∷ k)
@@ -170,7 +170,7 @@ module _ {C N L : Type 0} (rules : N → Grammar C N L) where
       at c (Some taken) f =
           rw (into_none g k c (false_from_ne_true _ (λ x. away c x f)), h) refl
 
-  -- the first of two is read, or its end
+  -- the first of two grammars in a row is read
   pub both_extends : (a b : Grammar C N L) (k : List (Grammar C N L)) → Extends [] (a ∷ b ∷ k) (Then a b ∷ k)
   both_extends a b k = record {
     ending = λ e.
@@ -192,7 +192,7 @@ module _ {C N L : Type 0} (rules : N → Grammar C N L) where
       same None None None true true sa sb = refl
       same None None (Some z) true true sa sb = ap (λ e. Some (e, z.1)) (sym (append_assoc sa sb z.0))
 
-  -- the first of two choices
+  -- the first of two choices is read
   pub first_extends : (a b : Grammar C N L) (k : List (Grammar C N L))
       → Apart (begins a (starts k)) (begins b (starts k))
       → Extends [] (a ∷ k) (Either a b ∷ k)
@@ -218,7 +218,7 @@ module _ {C N L : Type 0} (rules : N → Grammar C N L) where
           rw (into_none b k c (false_from_ne_true _
           (λ y. away c (or_right _ _ (and_from _ _ h f)) (or_left _ _ y)))) refl
 
-  -- the second
+  -- the second of two choices is read
   pub second_extends : (a b : Grammar C N L) (k : List (Grammar C N L))
       → Apart (begins a (starts k)) (begins b (starts k)) → (is_nullable a ≡ true → is_nullable b ≡ true → ⊥)
       → Extends [] (b ∷ k) (Either a b ∷ k)
@@ -249,7 +249,7 @@ module _ {C N L : Type 0} (rules : N → Grammar C N L) where
           rw (into_none a k c (false_from_ne_true _
           (λ x. away c (or_left _ _ x) (or_right _ _ (and_from _ _ i f))))) refl
 
-  -- what enters another grammar
+  -- a grammar does what another one does, if both have the same steps into them
   pub enter_extends : (a g : Grammar C N L) (j k : List (Grammar C N L)) → is_nullable a ≡ false
       → ((c : C) → into rules a j c ≡ into rules g k c)
       → Extends [] (a ∷ j) (g ∷ k)

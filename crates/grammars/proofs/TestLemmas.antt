@@ -1,4 +1,4 @@
--- The tests say that a grammar is clear, and alive.
+-- If the tests pass, a grammar is deterministic and productive.
 use Rattle.std.proofs.Common.{◌≡◌, Bool, true, not, ◌&&◌, ◌||◌}
 use Rattle.std.proofs.Common.{inl, inr}
 use Rattle.std.proofs.lemmas.Bool.{both_ways, and_parts, and_from, or_cases, not-true}

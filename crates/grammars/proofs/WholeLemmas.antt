@@ -1,4 +1,4 @@
--- What is found of all signs is what the grammar reads, and what isn't is a fault.
+-- If all signs are read, that is their reading; otherwise there is an error.
 use Rattle.std.proofs.Common.{◌≡◌, refl, sym, ◌∙◌, ap, subst, Bool, true, false, List, [], ◌∷◌, ◌++◌, Some, None}
 use Rattle.std.proofs.Common.{append_assoc, append-nil, if◌then◌else◌}
 use Rattle.grammars.specs.Grammar.{Grammar, Event}
@@ -10,7 +10,7 @@ use Rattle.grammars.proofs.StepLemmas.{if_some}
 use Rattle.grammars.proofs.ReadingLemmas.{Comes, walk_step, walk_comes, reading, fault, fault_end}
 
 module _ {C N L : Type 0} (rules : N → Grammar C N L) where
-  -- a walk stops before what is left
+  -- whether a walk stops before the signs that are left
   pub record Stopped (k : List (Grammar C N L)) (signs left : List C) : Type 0 where
     pub before : List C
     pub taken : List (Event C L) × List (Grammar C N L)
@@ -72,7 +72,7 @@ module _ {C N L : Type 0} (rules : N → Grammar C N L) where
 
   module _ (follows : N → C → Bool) (good : IsWellFormed rules follows) (k : List (Grammar C N L))
       (clear : AllDeterministic follows k) (alive : AllProductive k) where
-    -- a reading of all signs
+    -- if no signs are left, what is found is the only reading
     pub whole_read : (signs : List C) (events : List (Event C L)) → scan rules k signs ≡ Past events []
         → IsReading rules k signs events
     whole_read signs events e =

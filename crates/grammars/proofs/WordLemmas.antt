@@ -1,4 +1,4 @@
--- What is found by each word.
+-- What each constructor of `Grammar` finds.
 use Rattle.std.proofs.Common.{◌≡◌, refl, sym, ◌∙◌, ap, Bool, true, false, ◌&&◌, ◌||◌, List, [], ◌∷◌}
 use Rattle.std.proofs.Common.{◌++◌, Option, Some, None, append_assoc, append-nil, if◌then◌else◌}
 use Rattle.std.proofs.lemmas.Bool.{both_ways}
@@ -45,7 +45,7 @@ module _ {C N L : Type 0} (rules : N → Grammar C N L) where
   some_is None h = absurd (both_ways _ refl h)
   some_is (Some v) h = (v, refl)
 
-  -- where it begins there is a step
+  -- if a grammar begins with a sign, there is a step into it
   pub into_some : (g : Grammar C N L) (k : List (Grammar C N L)) (c : C) → may_begin g c ≡ true
       → (t : List (Event C L) × List (Grammar C N L)) × (into rules g k c ≡ Some t)
   into_some g k c h = some_is (into rules g k c) (into_is g k c ∙ h)
@@ -55,7 +55,7 @@ module _ {C N L : Type 0} (rules : N → Grammar C N L) where
       → scan rules j (c ∷ signs) ≡ scan rules k (c ∷ signs)
   taken j k c signs t e f = scan_step rules j c signs (Some t) e ∙ sym (scan_step rules k c signs (Some t) f)
 
-  -- ---- where it does not begin
+  -- ---- a grammar that does not begin with the first sign
 
   pub find_lacks : (g : Grammar C N L) (signs : List C) → heads g signs ≡ false → is_nullable g ≡ false
       → find rules g signs ≡ Stuck signs
@@ -72,7 +72,7 @@ module _ {C N L : Type 0} (rules : N → Grammar C N L) where
       scan_step rules (g ∷ []) c signs None (rw (into_none rules g [] c h, e) refl)
       ∙ rw e (ap (λ x. Past x (c ∷ signs)) (append-nil (skipped g)))
 
-  -- ---- word by word
+  -- ---- constructor by constructor
 
   pub find_nothing : (signs : List C) → find rules Nothing signs ≡ Past [] signs
   find_nothing [] = find_skips Nothing [] refl refl
@@ -173,7 +173,7 @@ module _ {C N L : Type 0} (rules : N → Grammar C N L) where
       taken (Listed a s ∷ []) (a ∷ further a s ∷ []) c signs t.0 (rw t.1 refl) (rw t.1 refl)
       ∙ scan_append rules (a ∷ []) (further a s ∷ []) (c ∷ signs)
 
-  -- the second of two, where the first does not begin and is not empty
+  -- the second of two choices is found if the first does not begin with the first sign and must derive a sign
   pub find_other : (a b : Grammar C N L) (signs : List C) → heads a signs ≡ false → is_nullable a ≡ false
       → find rules (Either a b) signs ≡ find rules b signs
   find_other a b signs h e = go (heads b signs) refl (is_nullable b) refl

@@ -1,9 +1,9 @@
--- First sets: the signs with which what a grammar derives may begin.
+-- First sets: the signs with which a grammar may begin.
 use Rattle.std.specs.Prelude.{Bool, false, ◌&&◌, ◌||◌, List, [], ◌∷◌}
 use Rattle.grammars.specs.Grammar.{Grammar, Nothing, Sign, To, Mark, Then, Either, Many, Listed}
 use Rattle.grammars.specs.Machine.{is_nullable}
 
--- whether what a grammar derives may begin with this sign
+-- whether something that the grammar derives begins with this sign
 abbrev pub may_begin : {C N L : Type 0} → Grammar C N L → C → Bool
 may_begin Nothing c = false
 may_begin (Sign passes) c = passes c
@@ -14,16 +14,16 @@ may_begin (Either a b) c = may_begin a c || may_begin b c
 may_begin (Many a) c = may_begin a c
 may_begin (Listed a s) c = may_begin a c
 
--- whether a grammar and what follows it may begin with this sign
+-- whether the grammar and what follows it may begin with this sign
 abbrev pub begins : {C N L : Type 0} → Grammar C N L → (C → Bool) → C → Bool
 begins g follow c = may_begin g c || is_nullable g && follow c
 
--- whether a stack of grammars may begin with this sign
+-- whether the stack of grammars may begin with this sign
 abbrev pub starts : {C N L : Type 0} → List (Grammar C N L) → C → Bool
 starts [] c = false
 starts (g ∷ k) c = begins g (starts k) c
 
--- whether the first of these signs may begin the grammar
+-- whether the grammar may begin with the first of these signs
 abbrev pub heads : {C N L : Type 0} → Grammar C N L → List C → Bool
 heads g [] = false
 heads g (c ∷ signs) = may_begin g c

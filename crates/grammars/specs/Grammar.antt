@@ -1,37 +1,37 @@
--- Grammars over signs, as data, and what they derive.
+-- Grammars over signs as data, and what they derive.
 use Rattle.std.specs.Prelude.{◌≡◌, Bool, true, List, [], ◌∷◌, ◌++◌}
 
 -- a grammar over the signs C, whose rules have the names N, and which marks parts by the labels L
 pub data Grammar (C N L : Type 0) : Type 0 where
-  -- nothing
+  -- no sign
   Nothing : Grammar C N L
   -- one sign that passes a test
   Sign : (C → Bool) → Grammar C N L
-  -- one sign that passes a test, followed by the rule with this name: the one word that refers to a rule
+  -- one sign that passes a test, and then the rule with this name. No other constructor refers to a rule
   To : (C → Bool) → N → Grammar C N L
   -- no sign, but a mark among the events: a part begins or ends here, or is of this kind
   Mark : L → Grammar C N L
-  -- the first, followed by the second
+  -- the first grammar, and then the second
   Then : Grammar C N L → Grammar C N L → Grammar C N L
-  -- one of the two
+  -- one of the two grammars
   Either : Grammar C N L → Grammar C N L → Grammar C N L
-  -- any number of it, one after the other
+  -- the grammar any number of times
   Many : Grammar C N L → Grammar C N L
-  -- any number of the first, with the second between each two and perhaps once more at the end
+  -- the first grammar any number of times, with the second between two of them and possibly after the last
   Listed : Grammar C N L → Grammar C N L → Grammar C N L
 
--- what a reading consists of: signs, with marks between them
+-- a part of a reading: a sign, or a mark between signs
 pub data Event (C L : Type 0) : Type 0 where
   -- a sign
   One : C → Event C L
   -- a mark
   Marked : L → Event C L
 
--- it, or nothing
+-- the grammar, or no sign
 abbrev pub perhaps : {C N L : Type 0} → Grammar C N L → Grammar C N L
 perhaps a = Either a Nothing
 
--- what may follow an element of a list
+-- what may follow an element of a list: nothing, or a separator and the rest of the list
 abbrev pub further : {C N L : Type 0} → Grammar C N L → Grammar C N L → Grammar C N L
 further a s = perhaps (Then s (Listed a s))
 
@@ -41,7 +41,7 @@ signs_of [] = []
 signs_of (One c ∷ events) = c ∷ signs_of events
 signs_of (Marked l ∷ events) = signs_of events
 
--- the events that a grammar derives, where `rules` gives the grammar of each name
+-- the events that a grammar derives. `rules` gives the grammar of each name
 pub data Derives {C N L : Type 0} (rules : N → Grammar C N L) : Grammar C N L → List (Event C L) → Type 0 where
   nothing : Derives rules Nothing []
   sign : {passes : C → Bool} (c : C) → passes c ≡ true → Derives rules (Sign passes) (One c ∷ [])
@@ -64,7 +64,7 @@ pub data Derives {C N L : Type 0} (rules : N → Grammar C N L) : Grammar C N L 
       → Derives rules (Listed a s) back
       → Derives rules (Listed a s) (front ++ (mid ++ back))
 
--- what a stack of grammars derives, one after the other
+-- whether a stack of grammars derives the events, one grammar after another
 abbrev pub Reads : {C N L : Type 0} → (N → Grammar C N L) → List (Grammar C N L) → List (Event C L) → Type 0
 Reads rules [] events = events ≡ []
 Reads {C = C} {L = L} rules (g ∷ k) events =

@@ -1,6 +1,6 @@
--- Lists, as grammars without a word for them write them.
+-- Lists, written without the constructor `Listed`.
 use Rattle.grammars.specs.Grammar.{Grammar, Then, Many, perhaps}
 
--- `( a ( s a )* s? )?`
+-- the grammar `( a ( s a )* s? )?`
 abbrev pub written : {C N L : Type 0} → Grammar C N L → Grammar C N L → Grammar C N L
 written a s = perhaps (Then a (Then (Many (Then s a)) (perhaps s)))

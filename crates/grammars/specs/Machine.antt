@@ -1,10 +1,10 @@
--- The machine that reads by a grammar. Its state is what is still to be read: a stack of grammars.
+-- The machine that reads signs by a grammar. Its state is a stack of grammars, which are still to be read.
 use Rattle.std.specs.Prelude.{Bool, true, false, ◌&&◌, ◌||◌, List, [], ◌∷◌, ◌++◌, Option, Some, None}
 use Rattle.std.specs.Prelude.{if◌then◌else◌}
 use Rattle.grammars.specs.Grammar.{Grammar, Nothing, Sign, To, Mark, Then, Either, Many, Listed, Event, One, Marked}
 use Rattle.grammars.specs.Grammar.{further}
 
--- whether it derives no sign, perhaps among others
+-- whether the grammar derives the empty list of signs
 abbrev pub is_nullable : {C N L : Type 0} → Grammar C N L → Bool
 is_nullable Nothing = true
 is_nullable (Sign passes) = false
@@ -15,7 +15,7 @@ is_nullable (Either a b) = is_nullable a || is_nullable b
 is_nullable (Many a) = true
 is_nullable (Listed a s) = true
 
--- the marks that it derives where it derives no sign
+-- the marks that the grammar derives without a sign, if it can
 abbrev pub skipped : {C N L : Type 0} → Grammar C N L → List (Event C L)
 skipped Nothing = []
 skipped (Sign passes) = []
@@ -26,26 +26,26 @@ skipped (Either a b) = if is_nullable a then skipped a else skipped b
 skipped (Many a) = []
 skipped (Listed a s) = []
 
--- the events of a step and the state after it, if there is a step
+-- the events of a step and the stack after it, if there is a step
 abbrev pub Step : Type 0 → Type 0 → Type 0 → Type 0
 Step C N L = Option (List (Event C L) × List (Grammar C N L))
 
--- the first answer, or else the second
+-- the first value if there is one, and otherwise the second
 abbrev pub or_else : {T : Type 0} → Option T → Option T → Option T
 or_else None other = other
 or_else (Some x) other = Some x
 
--- the step with these events in front
+-- the step, with the given events put before its own
 abbrev pub behind : {C N L : Type 0} → List (Event C L) → Step C N L → Step C N L
 behind events None = None
 behind events (Some step) = Some (events ++ step.0, step.1)
 
--- the answer, if the test holds
+-- the value if the test holds, and otherwise none
 abbrev pub only : {T : Type 0} → Bool → Option T → Option T
 only true x = x
 only false x = None
 
--- the step into a grammar at a sign, where `k` is to be read after the grammar
+-- the step into a grammar at a sign. `k` is to be read after the grammar
 abbrev pub into : {C N L : Type 0} → (N → Grammar C N L) → Grammar C N L → List (Grammar C N L) → C → Step C N L
 into rules Nothing k c = None
 into rules (Sign passes) k c = only (passes c) (Some (One c ∷ [], k))
@@ -57,33 +57,33 @@ into rules (Either a b) k c = or_else (into rules a k c) (into rules b k c)
 into rules (Many a) k c = into rules a (Many a ∷ k) c
 into rules (Listed a s) k c = into rules a (further a s ∷ k) c
 
--- the step at a sign
+-- the step of the stack at a sign
 abbrev pub step : {C N L : Type 0} → (N → Grammar C N L) → List (Grammar C N L) → C → Step C N L
 step rules [] c = None
 step rules (g ∷ k) c = or_else (into rules g k c) (only (is_nullable g) (behind (skipped g) (step rules k c)))
 
--- whether the signs may end at this state
+-- whether the signs may end when this stack is left
 abbrev pub ends : {C N L : Type 0} → List (Grammar C N L) → Bool
 ends [] = true
 ends (g ∷ k) = is_nullable g && ends k
 
--- the marks that are still to come where they end
+-- the marks that are still to come if the signs end here
 abbrev pub closing : {C N L : Type 0} → List (Grammar C N L) → List (Event C L)
 closing [] = []
 closing (g ∷ k) = skipped g ++ closing k
 
--- more events with these in front, if there are any
+-- the second events, if there are any, with the first ones put before them
 abbrev pub ahead : {C L : Type 0} → List (Event C L) → Option (List (Event C L)) → Option (List (Event C L))
 ahead events None = None
 ahead events (Some more) = Some (events ++ more)
 
--- what is read of all the signs, if they can be read
+-- the events that are read from all the signs, or none if they cannot be read
 abbrev pub run : {C N L : Type 0} → (N → Grammar C N L) → List (Grammar C N L) → List C → Option (List (Event C L))
 run rules k [] = only (ends k) (Some (closing k))
 run rules k (c ∷ signs) =
     elim (step rules k c) [ None ↦ None | Some taken ↦ ahead taken.0 (run rules taken.1 signs) ]
 
--- the events of some signs and the state after them, if there is a step at each
+-- the events of some signs and the stack after them, if there is a step at each sign
 abbrev pub walk : {C N L : Type 0} → (N → Grammar C N L) → List (Grammar C N L) → List C → Step C N L
 walk rules k [] = Some ([], k)
 walk rules k (c ∷ signs) =

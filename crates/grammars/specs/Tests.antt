@@ -1,15 +1,15 @@
--- Tests of grammars that compute, where tests of signs can be tried on every sign.
+-- Tests of grammars that can be computed, if a test of signs can be tried on every sign.
 use Rattle.std.specs.Prelude.{◌≡◌, Bool, true, ◌&&◌, ◌||◌, not}
 use Rattle.grammars.specs.Grammar.{Grammar, Nothing, Sign, To, Mark, Then, Either, Many, Listed, further}
 use Rattle.grammars.specs.Machine.{is_nullable}
 use Rattle.grammars.specs.First.{may_begin, begins}
 use Rattle.grammars.specs.Deterministic.{Passes}
 
--- where it answers yes, every sign passes the test
+-- whether every sign passes a test for which `every` returns true
 abbrev pub IsEvery : {C : Type 0} → ((C → Bool) → Bool) → Type 0
 IsEvery {C = C} every = (p : C → Bool) → every p ≡ true → (c : C) → p c ≡ true
 
--- where it answers yes, some sign passes the test
+-- whether some sign passes a test for which `any` returns true
 abbrev pub IsAny : {C : Type 0} → ((C → Bool) → Bool) → Type 0
 IsAny {C = C} any = (p : C → Bool) → any p ≡ true → Passes p
 
@@ -21,7 +21,7 @@ apart every p q = every (λ c. not (p c && q c))
 abbrev pub within : {C : Type 0} → ((C → Bool) → Bool) → (C → Bool) → (C → Bool) → Bool
 within every p q = every (λ c. not (p c) || q c)
 
--- whether one sign decides at each choice, as `Deterministic` says
+-- whether one sign decides at each choice of the grammar, as `Deterministic` says
 abbrev pub is_deterministic : {C N L : Type 0} → ((C → Bool) → Bool) → (N → C → Bool) → Grammar C N L → (C → Bool)
     → Bool
 is_deterministic every follows Nothing follow = true
@@ -43,7 +43,7 @@ is_deterministic every follows (Listed a s) follow =
     && ((not (is_nullable a) && not (is_nullable s))
     && (apart every (may_begin a) follow && apart every (may_begin s) follow)))
 
--- whether each part of a grammar derives something, as `Productive` says
+-- whether each part of the grammar derives something, as `Productive` says
 abbrev pub is_productive : {C N L : Type 0} → ((C → Bool) → Bool) → Grammar C N L → Bool
 is_productive any Nothing = true
 is_productive any (Sign passes) = any passes

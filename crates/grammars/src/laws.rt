@@ -1,4 +1,4 @@
-//! The laws of all grammars over the signs `C`, whose rules have the names `N`, and which mark parts by the labels `L`.
+//! Laws for all grammars over the signs `C`, whose rules have the names `N`, and which mark parts by the labels `L`.
 //! The functions compute nothing: their contracts are the laws, which `specs/Laws.antt` and `specs/Words.antt` state.
 
 ghost use Rattle.grammars.specs.Laws.{
@@ -30,8 +30,8 @@ ghost use Rattle.grammars.specs.Words.{
 };
 
 /// The machine of any grammar reads only what the grammar derives. If one sign decides at each choice of the grammar,
-/// the machine reads all that the grammar derives. In both cases the signs of the events are the signs that were read,
-/// so a reading loses none.
+/// the machine reads all that the grammar derives. In both cases the signs of the events are exactly the signs that
+/// were read.
 ///
 /// `Listed (Sign is_word) (Sign is_comma)` reads `a , b` and `a , b ,`, but not `a , ,`.
 pub fn machine_reads<C, N, L>()
@@ -39,40 +39,40 @@ pub fn machine_reads<C, N, L>()
     ensures complete { RunIsComplete C N L }
 {}
 
-/// By a grammar that passes the tests, signs have exactly one reading, or else a fault, at exactly one position. The
-/// signs before the fault are the longest front that can go on to a whole reading.
+/// By a grammar that passes the tests, signs have either exactly one reading or exactly one error. The signs before the
+/// error are the longest prefix that can go on to a whole reading.
 ///
-/// By `Listed (Sign is_word) (Sign is_comma)` the fault of `a , , b` is at the second comma: `a ,` is a whole reading,
-/// and no reading begins with `a , ,`.
+/// By `Listed (Sign is_word) (Sign is_comma)`, the error of `a , , b` is at the second comma. `a ,` is a whole reading,
+/// but no reading begins with `a , ,`.
 pub fn one_reading<C, N, L>()
     ensures reading { OneReading C N L }
     ensures otherwise { ReadsOrFails C N L }
     ensures fault { OneFault C N L }
 {}
 
-/// A reader that takes a step at each sign, and stops at the first sign that has none, tells a reading from a fault. It
-/// has the one reading if no sign is left, and else the fault is before the signs that are left.
+/// A reader that takes a step at each sign, and stops at the first sign without a step, finds the reading or the error.
+/// If no sign is left, it has the one reading. Otherwise the error is at the first sign that is left.
 pub fn found_tells<C, N, L>()
     ensures reading { FoundIsReading C N L }
     ensures left { LeftIsFault C N L }
     ensures stuck { StuckIsFault C N L }
 {}
 
-/// The tests of a grammar can be computed, if a test of signs can be tried on every sign: where they answer yes, one
-/// sign decides at each choice of the grammar, and each of its parts derives something.
+/// If the tests of a grammar pass, one sign decides at each choice of the grammar, and each of its parts derives
+/// something. The tests can be computed if a test of signs can be tried on every sign.
 pub fn tests_hold<C, N, L>()
     ensures deterministic { TestIsDeterministic C N L }
     ensures productive { TestIsProductive C N L }
 {}
 
-/// `Listed a s` derives what `( a ( s a )* s? )?` does. The second is not deterministic: a separator may be the last
-/// one, or stand before another element.
+/// `Listed a s` derives the same as `( a ( s a )* s? )?`. The second is not deterministic: a separator may be the last
+/// one, or another element may follow it.
 pub fn lists<C, N, L>()
     ensures written { ListIsWritten C N L }
 {}
 
-/// What each word of a grammar finds at the front of some signs, told by what its parts find there. A reader that is
-/// made of functions, one a rule, is proved by these equations.
+/// What each constructor of `Grammar` finds at the start of some signs, in terms of what its parts find there. These
+/// equations prove a reader that has a function for each rule.
 pub fn words_find<C, N, L>()
     ensures lacks { LacksFinds C N L }
     ensures skips { SkipsFinds C N L }

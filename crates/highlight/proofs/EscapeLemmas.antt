@@ -1,4 +1,4 @@
--- Texts escaped, a part at a time.
+-- Texts that are escaped part by part.
 use Rattle.std.proofs.Common.{◌≡◌, ℕ, suc, ◌+◌, ◌<◌, true, false, ◌==◌, List, [], ◌∷◌, ◌++◌, codes, length, get_or}
 use Rattle.std.proofs.Common.{refl, sym, ap, subst, ◌∙◌, ◌≤◌, arith, append_assoc, append-nil, drop, take}
 use Rattle.std.specs.Prelude.{encode_utf8, if◌then◌else◌}
@@ -27,7 +27,7 @@ escaped-append line (c ∷ s) t =
       | false ↦ ap (λ l. escape c ++ l) (escaped-append line s t) ∙ sym (append_assoc (escape c) (escaped line s) _)
     ]
 
--- bytes of which none is escaped, and none is a line feed
+-- none of the bytes is escaped, and none is a line feed
 pub record AreBare (text : List ℕ) : Type 0 where
   pub none : (k : ℕ) → k < length text → IsBare (get_or text k 0)
 
@@ -44,7 +44,7 @@ bare_line line (c ∷ text) bare =
     let here = bare.none 0 (omega arith) in
     rw here.0 (bare_line line text (record { none = λ k below. bare.none (suc k) (omega arith) }))
 
--- the bytes of a character below 128 are itself
+-- a character that is neither LF nor escaped has bytes that are bare
 character_bare : (c : ℕ) → (c ≡ 10 → ⊥) → (c ≡ 60 → ⊥) → (c ≡ 62 → ⊥) → (c ≡ 38 → ⊥) → (c ≡ 34 → ⊥)
     → AreBare (encode_utf8 c)
 character_bare c feed less more ampersand quote = record {
@@ -127,7 +127,7 @@ pub ruleset of_character = (
   line_after_character,
 )
 
--- ---- a loop over a text's characters
+-- ---- the loop over the characters of a text
 
 pub escaped_step : (before out : List ℕ) (line next : ℕ) (rest part after whole : List ℕ)
     → rest ≡ part ++ after → out ≡ before ++ escaped line part → next ≡ line_after line part
@@ -173,7 +173,7 @@ span_parts before one two after class text some opened shown closed =
     (ap (λ l. before ++ l) (append_assoc (codes "<span class=") (class ++ codes ">") (text ++ closer)
     ∙ ap (λ l. codes "<span class=" ++ l) (append_assoc class (codes ">") (text ++ closer))))
 
--- ---- bytes at the front of which none is escaped
+-- ---- the bytes before the first that is escaped
 
 are_bare : (text : List ℕ) (size : ℕ) → size ≤ length text → ((k : ℕ) → k < size → IsBare (get_or text k 0))
     → AreBare (take size text)

@@ -3,7 +3,7 @@ use Rattle.std.proofs.Common.{◌≡◌, ℕ, false, List, ◌∷◌, refl}
 use Rattle.std.proofs.lemmas.Bool.{ne_eqb}
 use Rattle.highlight.specs.Style.{is_keyword}
 
--- no keyword begins with another letter than these
+-- no keyword begins with a letter other than these
 pub no_keyword : (c : ℕ) (rest : List ℕ) → (83 ≡ c → ⊥) → (97 ≡ c → ⊥) → (98 ≡ c → ⊥) → (99 ≡ c → ⊥) → (100 ≡ c → ⊥)
     → (101 ≡ c → ⊥) → (102 ≡ c → ⊥) → (103 ≡ c → ⊥) → (105 ≡ c → ⊥) → (108 ≡ c → ⊥) → (109 ≡ c → ⊥) → (111 ≡ c → ⊥)
     → (112 ≡ c → ⊥) → (114 ≡ c → ⊥) → (115 ≡ c → ⊥) → (116 ≡ c → ⊥) → (117 ≡ c → ⊥) → (118 ≡ c → ⊥) → (119 ≡ c → ⊥)

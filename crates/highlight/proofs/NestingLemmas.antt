@@ -1,4 +1,4 @@
--- What the flags say of the openers that wait.
+-- What the flags say about the openers that wait.
 use Rattle.std.proofs.Common.{◌≡◌, ℕ, Bool, true, false, ◌==◌, ◌||◌, List, [], ◌∷◌, ◌++◌, suc, length, reverse}
 use Rattle.std.proofs.Common.{IsTrue}
 use Rattle.std.proofs.Common.{refl, sym, ap, ◌∙◌, arith}
@@ -32,7 +32,7 @@ length_outward (opener ∷ around) = ap (λ n. suc n) (length_outward around)
 pub length_waiting : (openers : List Opener) → length (waiting_of openers) ≡ length openers
 length_waiting openers = length_outward (reverse openers) ∙ length-reverse openers
 
--- where the flags say none, no opener waits for the closer
+-- no opener waits for the closer if the flags say so
 none_waits : (c : ℕ) (awaited : Awaited) (openers : List Opener) → IsTrue (is_closer c) → Know awaited openers
     → flag c awaited ≡ false → from_match c (outward openers) ≡ []
 none_waits c awaited [] is know none = refl
@@ -44,7 +44,7 @@ pub no_match : (c : ℕ) (awaited : Awaited) (openers : List Opener) → IsTrue 
     → flag c awaited ≡ false → from_match c (waiting_of openers) ≡ []
 no_match c awaited openers is known none = none_waits c awaited (reverse openers) is known.know none
 
--- no opener is there, but one waits
+-- some opener is left if the flags say that one waits
 pub none_left : (c : ℕ) (awaited : Awaited) (openers : List Opener) → length openers ≡ 0 → IsAwaited awaited openers
     → flag c awaited ≡ true → ⊥
 none_left c awaited [] none known has = absurd (let off : flag c awaited ≡ false = known.know c in cc)

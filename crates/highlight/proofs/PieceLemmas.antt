@@ -1,4 +1,4 @@
--- All pieces of a text, a piece at a time.
+-- All pieces of a text, one by one.
 use Rattle.std.proofs.Common.{◌≡◌, ℕ, Bool, true, false, ◌==◌, List, [], ◌∷◌, ◌++◌, IsTrue}
 use Rattle.std.proofs.Common.{refl, sym, ap, subst, ◌∙◌, ◌+◌, arith, length, length-append, append_assoc, append-nil}
 use Rattle.std.proofs.Common.{MatchOption, Option, drop, encode_utf8, take}
@@ -27,7 +27,7 @@ use Rattle.highlight.specs.Page.{IsMarked, line_past, marked_piece, marked_piece
 use Rattle.highlight.specs.declared.format.Format.{Format}
 use Rattle.highlight.specs.declared.style.Style.TheVariants.{NoPiece, Unread}
 
--- there is one such list
+-- a text has only one such list of pieces
 pub unique : (first : Bool) (source : List ℕ) (ps qs : List Piece) (r s : List ℕ)
     → AreAllPieces first source ps r → AreAllPieces first source qs s → (ps ≡ qs) × (r ≡ s)
 unique first source [] [] r s x y = (refl, sym x.0 ∙ y.0)
@@ -40,7 +40,7 @@ unique first source (p ∷ ps) (q ∷ qs) r s x y =
     let same : p ≡ q = kind ∙ ap (λ t. (q.0, t)) one.1 in
     (ap (λ piece. piece ∷ ps) same ∙ ap (λ l. q ∷ l) more.0, more.1)
 
--- a piece, and then those after it
+-- a piece, and then all pieces after it, are all pieces
 pub all_from : (at : PieceWalk) (next : PlacedPiece) (to : PieceWalk) (more : List Piece) (rest : List ℕ)
     → IsNext at next to → AreAllPieces to.at_front (chars to.rest.now) more rest
     → AreAllPieces at.at_front (chars at.rest.now)
@@ -64,7 +64,7 @@ closes first kinds.Literal p r stands = tt
 closes first (kinds.Mark joint mark) p r stands = tt
 closes first (kinds.Name raw name) p r stands = tt
 
--- the test of a text's bytes is that of its characters
+-- a text has no bytes exactly if it has no characters
 by_chars : (cs : List ℕ) → (length (encode_utf8_all cs) == 0) ≡ is_nil cs
 by_chars [] = refl
 by_chars (c ∷ cs) =
@@ -76,7 +76,7 @@ by_chars (c ∷ cs) =
 pub is_nil_chars : (text : List ℕ) → IsUtf8 text → (length text == 0) ≡ is_nil (chars text)
 is_nil_chars text utf8 = ap (λ l. length l == 0) (sym (encodes-chars text utf8)) ∙ by_chars (chars text)
 
--- ---- where no piece stands
+-- ---- the text at which no piece begins
 
 pub rest_parts : (format given : Format) (line next : ℕ) (rest after : List ℕ) (c : ℕ) (before one two : List ℕ)
     → IsUtf8 rest → rest ≡ encode_utf8 c ++ after → IsUtf8 after
@@ -98,7 +98,7 @@ rest_parts format given line next rest after c before one two utf8 split more fi
       append-nil (marked_piece format (line_past format line (encode_utf8 c)) (Styled Unread, after)),
     ) refl
 
--- the characters that are at fault, and those around them
+-- the part that is wrong, and the parts around it
 pub faulty_parts : (format f1 f2 : Format) (line l1 l2 : ℕ) (reason : Reason) (before size : ℕ)
     (text front here after : List ℕ) (old one two new : List ℕ)
     → encode_utf8_all (take before text) ≡ front → encode_utf8_all (take size (drop before text)) ≡ here

@@ -1,4 +1,4 @@
--- What is seen of what is written, a part at a time.
+-- What is seen of the output, part by part.
 use Rattle.std.proofs.Common.{◌-◌}
 use Rattle.std.proofs.Common.{◌≡◌, ℕ, zero, suc, ◌%◌, ◌/◌, ◌+◌, ◌<◌, ◌⊎◌, inl, inr, Bool, true, false, not, ◌==◌, List}
 use Rattle.std.proofs.Common.{[], ◌∷◌, ◌++◌, Option, Some, None, codes, drop, length, take, IsTrue}
@@ -30,7 +30,7 @@ use Rattle.highlight.specs.declared.style.Style.TheVariants as styles
 use Rattle.highlight.specs.declared.format.Format.{Format}
 use Rattle.highlight.specs.declared.format.Format.TheVariants.{Html, Term}
 
--- of what is written, followed by anything, this text is seen
+-- this text is seen of what is written, whatever follows
 pub record Shows (format : Format) (written text : List ℕ) : Type 0 where
   pub shows : IsTrue (can_be_seen format text) → (rest : List ℕ)
       → plain format (written ++ rest) ≡ text ++ plain format rest
@@ -56,7 +56,7 @@ Shows-append format v w s t first second = record {
 
 -- ---- tags
 
--- of what follows a tag's beginning this text is seen
+-- this text is seen of what follows the beginning of a tag
 record EndsTag (format : Format) (tail text : List ℕ) : Type 0 where
   pub ends : IsTrue (can_be_seen format text) → (rest : List ℕ)
       → seen format InTag (tail ++ rest) ≡ text ++ plain format rest
@@ -71,7 +71,7 @@ EndsTag-more format (c ∷ front) stays tail =
     let more = EndsTag-more format front parts.1 tail in
     record { ends = λ can rest. rw stay (more.ends can rest) }
 
--- a digit is no `>`
+-- no digit is `>`
 digit_stays : (n : ℕ) → not (digit_glyph false (n % 10) == 62) ≡ true
 digit_stays n =
     let few : (n % 10 < 10) = omega arith in
@@ -98,7 +98,7 @@ anchor_shows line =
     let tag = EndsTag-more Html (codes "a id=L") refl (EndsTag-more Html (decimal line) (decimal_stays line) end) in
     record { shows = λ can rest. tag.ends can rest }
 
--- a byte shows itself
+-- an escaped byte shows the byte
 byte_by : (c : ℕ) (rest : List ℕ) → ((c ≡ 60) ⊎ (c ≡ 60 → ⊥)) → ((c ≡ 62) ⊎ (c ≡ 62 → ⊥)) → ((c ≡ 38) ⊎ (c ≡ 38 → ⊥))
     → ((c ≡ 34) ⊎ (c ≡ 34 → ⊥)) → plain Html (escape c ++ rest) ≡ c ∷ plain Html rest
 byte_by c rest (inl is) more ampersand quote = rw is refl
@@ -112,7 +112,7 @@ byte_by c rest (inr less) (inr more) (inr ampersand) (inr quote) =
 byte_shows : (c : ℕ) (rest : List ℕ) → plain Html (escape c ++ rest) ≡ c ∷ plain Html rest
 byte_shows c rest = byte_by c rest (cases_eq c 60) (cases_eq c 62) (cases_eq c 38) (cases_eq c 34)
 
--- so does a line feed, after which an anchor stands
+-- an escaped byte shows the byte, also a line feed, which an anchor follows
 byte_first : (line c : ℕ) (text rest : List ℕ) → ((c ≡ 10) ⊎ (c ≡ 10 → ⊥))
     → ((l : ℕ) → plain Html (escaped l text ++ rest) ≡ text ++ plain Html rest)
     → plain Html (escaped line (c ∷ text) ++ rest) ≡ c ∷ (text ++ plain Html rest)
@@ -137,7 +137,7 @@ uncoloured_shows (c ∷ text) can rest =
     let here : (c == 27) ≡ false = not-true _ parts.0 in
     rw here (ap (λ l. c ∷ l) (uncoloured_shows text parts.1 rest))
 
--- ---- the marks around it
+-- ---- marks around the text
 
 depth_class_by : (a b c d e : Bool) → stays_in_tag Html (if a then codes "d0" else (if b then codes "d1"
     else (if c then codes "d2" else (if d then codes "d3" else (if e then codes "d4" else codes "d5"))))) ≡ true
@@ -215,7 +215,7 @@ colour_stays styles.Unclosed = refl
 colour_stays styles.NoPiece = refl
 colour_stays styles.Unread = refl
 
--- what is said of a fault ends no tag
+-- no message of an error ends a tag
 content_stays : (e : EscapeError) → stays_in_tag Html (escape_message e) ≡ true
 unfolding escape_message
 content_stays faults.ZeroChars = refl
@@ -360,7 +360,7 @@ all_texts answer first source delimiters quote (piece ∷ more) rest are =
     ap (λ l. encode_utf8_all piece.1 ++ l) (all_texts answer false are.0 _ _ more rest are.3)
     ∙ sym (encodes-append piece.1 are.0) ∙ ap encode_utf8_all (sym are.1)
 
--- of the text marked the text is seen, with the tags taken out and the escapes undone
+-- the text is seen of the marked text, once tags are left out and escapes are undone
 pub marked_shows : (format : Format) (text body : List ℕ) → IsUtf8 text → IsMarked format text body
     → IsTrue (can_be_seen format text) → plain format body ≡ text
 marked_shows format text body utf8 marked can =

@@ -1,4 +1,4 @@
--- Runs of white characters, each of them a gap that stands bare.
+-- Runs of white characters, each of which is a gap without a mark.
 use Rattle.std.proofs.Common.{◌≡◌, ◌∙◌, ◌==◌, ◌≤◌, ℕ, Bool, true, false, List, [], ◌∷◌, ◌++◌, ◌&&◌, ap, ap₂, inl, inr}
 use Rattle.std.proofs.Common.{Option, None, Some, append-nil, append_assoc, arith, encode_utf8, length, refl, subst}
 use Rattle.std.proofs.Common.{sym}
@@ -27,7 +27,7 @@ use Rattle.highlight.specs.declared.style.Style.TheVariants.{Bare}
 use Rattle.highlight.proofs.EscapeLemmas.{escaped-append, line_after-append}
 use Rattle.highlight.proofs.PieceLemmas.{all_from}
 
--- ---- they come first of all pieces
+-- ---- white characters before all pieces
 
 gaps_first : (first : Bool) (white after : List ℕ) (more : List Piece) (rest : List ℕ) → list_all is_white white ≡ true
     → AreAllPieces (first && (length white == 0)) after more rest
@@ -52,7 +52,7 @@ all_white at next to is more rest are =
     rw splits.whole (gaps_first at.at_front (chars white) (chars is.here.rest.now) more rest splits.stands.each
     (subst (λ b. AreAllPieces b (chars is.here.rest.now) more rest) front are))
 
--- and a piece after them
+-- white characters, a piece, and then all pieces after it, are all pieces
 pub all_past : (at : PieceWalk) (next : Spaced) (to : PieceWalk) (is : IsSpaced at next to) (piece : PlacedPiece)
     → next.piece ≡ Some piece → (more : List Piece) (rest : List ℕ)
     → AreAllPieces to.at_front (chars to.rest.now) more rest
@@ -61,14 +61,14 @@ all_past at next to is piece some more rest are =
     all_white at next to is (piece_of piece ∷ more) rest
     (all_from is.here piece to more rest (next_there at next to is piece some) are)
 
--- or none, where the rest begins
+-- white characters are all pieces, if no piece follows them
 pub all_end : (at : PieceWalk) (next : Spaced) (to : PieceWalk) → IsSpaced at next to → next.piece ≡ None
     → AreAllPieces at.at_front (chars at.rest.now) (gaps (chars next.white.now) ++ []) (chars next.rest.now)
 all_end at next to is none =
     subst (λ r. AreAllPieces at.at_front (chars at.rest.now) (gaps (chars next.white.now) ++ []) (chars r))
     (sym is.rest) (all_white at next to is [] (chars is.here.rest.now) (refl, none_there at next to is none))
 
--- ---- no delimiter stands among them
+-- ---- no white character is a delimiter
 
 pub styles_past_gaps : (whole : Bool) (styles : List Style) (waiting : List Waiting) (white : List ℕ)
     (more : List Piece) → delimiter_styles whole styles waiting (gaps white ++ more)
@@ -76,7 +76,7 @@ pub styles_past_gaps : (whole : Bool) (styles : List Style) (waiting : List Wait
 styles_past_gaps whole styles waiting [] more = refl
 styles_past_gaps whole styles waiting (c ∷ white) more = styles_past_gaps whole styles waiting white more
 
--- ---- they stand bare
+-- ---- white characters have no mark
 
 no_slash : (c : ℕ) → is_white c ≡ true → gap_style (encode_utf8_all (c ∷ [])) ≡ Bare
 no_slash c white = elim (cases_lt c 128) [
@@ -88,7 +88,7 @@ no_slash c white = elim (cases_lt c 128) [
   | inr past ↦ let cell = first_byte c past in rw (cell.2, ne_eqb cell.0 47 (λ e. omega (arith, e, cell.3))) refl
 ]
 
--- what is bare is written without a mark, whatever stands in it
+-- a text of the style `Bare` is written without a mark
 bare_text : (line : ℕ) (text : List ℕ) → marked_piece Html line (Styled Bare, text) ≡ escaped line text
 bare_text line [] = refl
 bare_text line (c ∷ text) = refl

@@ -1,41 +1,41 @@
--- Which delimiters match, and the style of each.
+-- Which delimiters match each other, and the style of each.
 use Rattle.std.specs.Prelude.{ℕ, Bool, ◌==◌, List, [], ◌∷◌, ◌++◌, length, if◌then◌else◌, slice_set}
 use Rattle.lexical.specs.Piece as pieces
 use Rattle.lexical.specs.Piece.{Piece, Kind}
 use Rattle.highlight.specs.declared.style.Style.{Style}
 use Rattle.highlight.specs.declared.style.Style.TheVariants.{Delimiter, StrayCloser, Unclosed}
 
--- an opener that no closer has matched yet: the closer that it waits for, and how many delimiters stand before it
+-- an opener that no closer has matched yet: the closer for which it waits, and the number of delimiters before it
 pub record Waiting : Type 0 where
   pub closer : ℕ
   pub index : ℕ
 
--- the closer of an opener: of `(` (40), `[` (91), `{`
+-- the closer of an opener, where `(` is 40 and `[` is 91
 abbrev pub closer_of : ℕ → ℕ
 closer_of c = if c == 40 then 41 else (if c == 91 then 93 else 125)
 
--- from the innermost opener that waits for this closer on, outwards; none where no opener does
+-- the innermost opener that waits for this closer, and the openers around it; none if no opener waits for it
 abbrev pub from_match : ℕ → List Waiting → List Waiting
 from_match closer [] = []
 from_match closer (opener ∷ around) = if opener.closer == closer then opener ∷ around else from_match closer around
 
--- the styles of the delimiters so far and of a closer, which matches the first of these openers
+-- the styles of the delimiters so far and of a closer, which matches the first of the openers, if there are any
 abbrev pub closed : List Style → List Waiting → List Style
 closed styles [] = styles ++ StrayCloser ∷ []
 closed styles (opener ∷ around) =
     slice_set styles opener.index (Delimiter (length around)) ++ Delimiter (length around) ∷ []
 
--- the openers that wait after it
+-- the openers that still wait after a closer
 abbrev pub still_waiting : List Waiting → List Waiting → List Waiting
 still_waiting all [] = all
 still_waiting all (opener ∷ around) = around
 
--- where what follows isn't read, the openers that wait may be closed there
+-- the styles if the text was not read to its end: the openers that wait may be closed later, so they count as closed
 abbrev pub spared : List Style → List Waiting → List Style
 spared styles [] = styles
 spared styles (opener ∷ around) = spared (slice_set styles opener.index (Delimiter (length around))) around
 
--- the styles of the delimiters after one more piece: an opener counts as never closed until a closer matches it
+-- the styles of the delimiters after one more piece: an opener is `Unclosed` until a closer matches it
 abbrev pub styles_past : Kind → List Style → List Waiting → List Style
 styles_past pieces.FrontMark styles waiting = styles
 styles_past pieces.Gap styles waiting = styles
@@ -44,7 +44,7 @@ styles_past (pieces.Open c) styles waiting = styles ++ Unclosed ∷ []
 styles_past (pieces.Close c) styles waiting = closed styles (from_match c waiting)
 styles_past (pieces.Leaf token) styles waiting = styles
 
--- the openers that wait after it; a closer passes those inside the one that it matches
+-- the openers that wait after one more piece: a closer removes the opener that it matches and the openers inside it
 abbrev pub waiting_past : Kind → List Style → List Waiting → List Waiting
 waiting_past pieces.FrontMark styles waiting = waiting
 waiting_past pieces.Gap styles waiting = waiting

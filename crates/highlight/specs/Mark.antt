@@ -1,4 +1,4 @@
--- What a text is marked as.
+-- How a part of a text is marked.
 use Rattle.std.specs.Prelude.{ℕ, List, ◌++◌, codes}
 use Rattle.explain.specs.Words.{sentence_of}
 use Rattle.explain.specs.declared.reason.Reason.{Reason}
@@ -6,12 +6,12 @@ use Rattle.highlight.specs.Style.{class, colour}
 use Rattle.highlight.specs.declared.style.Style.{Style}
 use Rattle.highlight.specs.declared.style.Style.TheVariants.{NoPiece}
 
--- as a piece of this style, or as what is at fault for this reason
+-- a mark: as a piece of this style, or as a part that is wrong for this reason
 pub data Mark : Type 0 where
   Styled : Style → Mark
   Faulty : Reason → Mark
 
--- a fault's title is what the reason says
+-- the class of a mark; a part that is wrong also has a title, the message of the reason
 abbrev pub class_of : Mark → List ℕ
 class_of (Styled style) = class style
 class_of (Faulty reason) = codes "x title=\"" ++ (sentence_of reason ++ codes "\"")

@@ -1,4 +1,4 @@
--- What is written: a page for a browser, or a terminal's colours.
+-- The output: a page for a browser, or text with the colours of a terminal.
 use Rattle.std.specs.Prelude.{ℕ, ◌≡◌, ◌+◌, ◌==◌, List, [], ◌∷◌, ◌++◌, false, true, codes, length, if◌then◌else◌}
 use Rattle.std.specs.Prelude.{MatchOption, Option}
 use Rattle.std.specs.Fmt.{decimal}
@@ -13,51 +13,51 @@ use Rattle.highlight.specs.declared.format.Format.TheVariants.{Html, Term}
 
 -- ---- the text of a piece
 
--- what a line begins with, so that it can be linked to
+-- the anchor at the start of a line, to which a link can lead
 abbrev pub anchor : ℕ → List ℕ
 anchor line = codes "<a id=L" ++ (decimal line ++ codes "></a>")
 
--- a byte, escaped: `<` (60), `>` (62), `&` (38), `"` (34)
+-- a byte of the text, escaped if it is `<` (60), `>` (62), `&` (38) or `"` (34)
 abbrev pub escape : ℕ → List ℕ
 escape c =
     if c == 60 then codes "&lt;"
     else (if c == 62 then codes "&gt;" else (if c == 38 then codes "&amp;"
     else (if c == 34 then codes "&quot;" else c ∷ [])))
 
--- a byte that isn't escaped, and no line feed
+-- the byte is not escaped, and is not a line feed
 abbrev pub IsBare : ℕ → Type 0
 IsBare c = ((c == 10) ≡ false) × (escape c ≡ c ∷ [])
 
--- a text that begins on this line; each line feed (10) begins another
+-- a text that begins on this line, escaped, with an anchor after each line feed (10)
 abbrev pub escaped : ℕ → List ℕ → List ℕ
 escaped line [] = []
 escaped line (c ∷ rest) =
     if c == 10 then c ∷ (anchor (line + 1) ++ escaped (line + 1) rest) else escape c ++ escaped line rest
 
--- the line on which it ends
+-- the line on which a text ends
 abbrev pub line_after : ℕ → List ℕ → ℕ
 line_after line [] = line
 line_after line (c ∷ rest) = if c == 10 then line_after (line + 1) rest else line_after line rest
 
--- only a page has lines
+-- the line on which a text ends; lines are counted only for a page
 abbrev pub line_past : Format → ℕ → List ℕ → ℕ
 line_past Html line text = line_after line text
 line_past Term line text = line
 
--- ---- the marks around it
+-- ---- marks around the text
 
--- what has no class stands bare
+-- the text in a `<span>` of the class, or without one if the class is empty
 abbrev pub in_span : List ℕ → List ℕ → List ℕ
 in_span class text =
     if length class == 0 then text else codes "<span class=" ++ (class ++ (codes ">" ++ (text ++ codes "</span>")))
 
--- ESC is 27
+-- the text in the colour, or without one if the colour is empty; ESC is 27
 abbrev pub in_colour : List ℕ → List ℕ → List ℕ
 in_colour colour text =
     if length colour == 0 then text
     else (27 ∷ codes "[") ++ (colour ++ (codes "m" ++ (text ++ (27 ∷ codes "[0m"))))
 
--- of this class or in this colour; no mark has nothing in it
+-- the text with this class or in this colour; an empty text has no mark
 abbrev pub marked_text : Format → ℕ → List ℕ → List ℕ → List ℕ → List ℕ
 marked_text format line class colour [] = []
 marked_text Html line class colour (c ∷ text) = in_span class (escaped line (c ∷ text))
@@ -66,13 +66,14 @@ marked_text Term line class colour (c ∷ text) = in_colour colour (c ∷ text)
 abbrev pub marked_piece : Format → ℕ → Shown → List ℕ
 marked_piece format line piece = marked_text format line (class_of piece.0) (colour_of piece.0) piece.1
 
--- all of them, from this line on
+-- all the pieces, marked, from this line on
 abbrev pub marked_pieces : Format → ℕ → List Shown → List ℕ
 marked_pieces format line [] = []
 marked_pieces format line (piece ∷ more) =
     marked_piece format line piece ++ marked_pieces format (line_past format line piece.1) more
 
--- the text marked: its pieces one after the other, and what follows them, by the reason why that doesn't parse
+-- the body is the marked text: its pieces in order, and then what follows them, marked by the reason why that doesn't
+-- parse
 pub record IsMarked (format : Format) (text body : List ℕ) : Type 0 where
   pub all : List Piece
   pub rest : List ℕ
@@ -81,14 +82,14 @@ pub record IsMarked (format : Format) (text body : List ℕ) : Type 0 where
   pub explained : MatchOption answer (Parses first_position rest) (IsExplained first_position rest)
   pub is : body ≡ marked_pieces format 1 (all_shown answer all rest)
 
--- ---- what stands around them
+-- ---- the text before and after the marked text
 
--- texts, each ended by a line feed
+-- the lines, each of which ends with a line feed
 abbrev pub lines : List (List ℕ) → List ℕ
 lines [] = []
 lines (line ∷ more) = line ++ (10 ∷ lines more)
 
--- a browser leaves out the line feed after `<pre>`, so that one at the front of the text stays
+-- the head of a page; browsers ignore the line feed after `<pre>`, so that a line feed at the start of the text stays
 unfoldable pub page_head : List ℕ
 page_head =
     lines (codes "<!DOCTYPE html>"

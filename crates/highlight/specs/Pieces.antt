@@ -16,18 +16,18 @@ use Rattle.highlight.specs.Delimiters.{delimiter_styles}
 use Rattle.highlight.specs.declared.style.Style.{Style}
 use Rattle.highlight.specs.declared.style.Style.TheVariants as styles
 
--- the pieces that stand one after the other from the front of the source on, and the rest, where none stands
+-- the source consists of these pieces and then of `rest`, at which no piece begins
 abbrev pub AreAllPieces : Bool → List ℕ → List Piece → List ℕ → Type 0
 AreAllPieces first source [] rest = (source ≡ rest) × HasNoPiece first rest
 AreAllPieces first source (piece ∷ more) rest =
     (after : List ℕ) × (source ≡ piece.1 ++ after) × IsPiece first piece.0 piece.1 after
     × AreAllPieces false after more rest
 
--- a mark, and the bytes that have it
+-- a mark, and the bytes that it marks
 abbrev pub Shown : Type 0
 Shown = Mark × List ℕ
 
--- the mark `'` (39)
+-- whether the piece is the mark `'` (39)
 abbrev pub is_quote : Kind → Bool
 is_quote pieces.FrontMark = false
 is_quote pieces.Gap = false
@@ -47,14 +47,14 @@ abbrev pub more_styles : List Style → List Style
 more_styles [] = []
 more_styles (style ∷ more) = more
 
--- a token, right after `'` or not: the name there is a lifetime's
+-- the style of a token; `quote` says that it follows `'`, so that a name belongs to a lifetime
 abbrev pub style_after : Bool → Token → List ℕ → Style
 style_after true (tokens.Name raw name) text = styles.Lifetime
 style_after false (tokens.Name raw name) text = kind_style (pieces.Leaf (tokens.Name raw name)) text
 style_after quote (tokens.Mark c joint) text = kind_style (pieces.Leaf (tokens.Mark c joint)) text
 style_after quote (tokens.Literal whole) text = kind_style (pieces.Leaf (tokens.Literal whole)) text
 
--- a piece, with the styles of the delimiters from here on
+-- the style of a piece; `delimiters` has the styles of the delimiters from it on
 abbrev pub piece_style : List Style → Bool → Kind → List ℕ → Style
 piece_style delimiters quote pieces.FrontMark text = kind_style pieces.FrontMark text
 piece_style delimiters quote pieces.Gap text = kind_style pieces.Gap text
@@ -63,7 +63,7 @@ piece_style delimiters quote (pieces.Open c) text = next_style delimiters
 piece_style delimiters quote (pieces.Close c) text = next_style delimiters
 piece_style delimiters quote (pieces.Leaf token) text = style_after quote token text
 
--- the styles of the delimiters after it
+-- the styles of the delimiters after a piece
 abbrev pub styles_left : List Style → Kind → List Style
 styles_left delimiters pieces.FrontMark = delimiters
 styles_left delimiters pieces.Gap = delimiters
@@ -76,24 +76,24 @@ styles_left delimiters (pieces.Leaf token) = delimiters
 abbrev pub first_position : ℕ
 first_position = next_lo new_map
 
--- what is marked for a reason: what is at fault, or what stands before it where that is nothing, as at a text's end
+-- what is marked for an error: the part that is wrong or, if that is empty, as at the end of a text, the part before it
 abbrev pub fault_of : Explained → Stretch
 fault_of x = if x.at.start == x.at.end then x.before else x.at
 
--- for the reason so many characters are at fault after so many others; what stands around them is not read
+-- the parts of a text in which `size` characters are wrong after the first `before` ones; the others are not read
 abbrev pub faulty : Reason → ℕ → ℕ → List ℕ → List Shown
 faulty reason before size text =
     (Styled styles.Unread, encode_utf8_all (take before text))
     ∷ (Faulty reason, encode_utf8_all (take size (drop before text)))
     ∷ (Styled styles.Unread, encode_utf8_all (drop size (drop before text))) ∷ []
 
--- for no known reason the first character is
+-- the parts of a text of which only the first character is marked, without a reason
 abbrev pub stuck : List ℕ → List Shown
 stuck [] = []
 stuck (c ∷ rest) =
     (Styled styles.NoPiece, encode_utf8_all (c ∷ [])) ∷ (Styled styles.Unread, encode_utf8_all rest) ∷ []
 
--- the rest, where no piece stands, if there is one: for the reason why it doesn't parse, if that holds at its front
+-- the parts of the rest, at which no piece begins: by the reason why it doesn't parse, if this is about its start
 abbrev pub unread : Option Explained → List ℕ → List Shown
 unread None rest = stuck rest
 unread (Some x) rest =
@@ -101,7 +101,7 @@ unread (Some x) rest =
     then faulty x.reason ((fault_of x).span.lo - first_position) ((fault_of x).span.hi - (fault_of x).span.lo) rest
     else stuck rest
 
--- the pieces and the rest, each with its mark
+-- the pieces and the parts of the rest, each with its mark
 abbrev pub shown_from : Option Explained → List Style → Bool → List Piece → List ℕ → List Shown
 shown_from answer delimiters quote [] rest = unread answer rest
 shown_from answer delimiters quote (piece ∷ more) rest =

@@ -1,4 +1,4 @@
--- What a piece is shown as: its style by its kind and its bytes, and the class and the colour of each style.
+-- How pieces are shown: the style of a piece by its kind and its bytes, and the class and colour of each style.
 use Rattle.std.specs.Prelude.{ℕ, ◌%◌, Bool, true, false, ◌==◌, ◌||◌, ◌&&◌, List, [], ◌∷◌, codes}
 use Rattle.std.specs.Prelude.{nat_eq, nat_le, if◌then◌else◌, slice_index}
 use Rattle.std.specs.List.{list_any}
@@ -10,9 +10,9 @@ use Rattle.lexical.specs.Piece.{Kind}
 use Rattle.highlight.specs.declared.style.Style.{Style}
 use Rattle.highlight.specs.declared.style.Style.TheVariants as styles
 
--- ---- the style of a piece that is no delimiter
+-- ---- the style of a piece that is not a delimiter
 
--- the words that are no names unless raw
+-- the words that are names only if they are raw
 abbrev pub keywords : List (List ℕ)
 keywords =
     codes "Self" ∷ codes "abstract" ∷ codes "as" ∷ codes "async" ∷ codes "await" ∷ codes "become" ∷ codes "box"
@@ -27,11 +27,11 @@ keywords =
 unfoldable pub is_keyword : List ℕ → Bool
 is_keyword text = list_any (λ word. pointwise nat_eq word text) keywords
 
--- a name, by its text
+-- the style of a name, by its text
 abbrev pub name_style : Bool → List ℕ → Style
 name_style raw text = if raw then styles.RawName else (if is_keyword text then styles.Keyword else styles.Name)
 
--- a comment begins with `/` (47), which isn't white
+-- the style of a gap; a comment begins with `/` (47), which white space does not
 abbrev pub gap_style : List ℕ → Style
 gap_style text =
     if slice_index text 0 == 47
@@ -41,20 +41,21 @@ gap_style text =
 abbrev pub is_digit : ℕ → Bool
 is_digit c = nat_le 48 c && nat_le c 57
 
--- after the `e` of a number: a digit, perhaps after signs (43, 45) and `_` (95)
+-- whether an exponent follows the `e` of a number: a digit, perhaps after signs (43, 45) and `_` (95)
 abbrev pub has_exponent : List ℕ → Bool
 has_exponent [] = false
 has_exponent (c ∷ rest) = if is_digit c then true else
     (if (c == 43 || c == 45) || c == 95 then has_exponent rest else false)
 
--- after its digits and `_` a number has a dot (46), or an `e` (101, 69) and an exponent
+-- whether a number has a dot (46), or an `e` (101, 69) with an exponent, after its digits and `_`
 abbrev pub is_float : List ℕ → Bool
 is_float [] = false
 is_float (c ∷ rest) =
     if is_digit c || c == 95 then is_float rest
     else (if c == 46 then true else (if c == 101 || c == 69 then has_exponent rest else false))
 
--- by its first character: `"` (34), `r` (114), `b` (98), `c` (99), `'` (39), `(` (40), or a digit
+-- the style of a literal, by its first character: `"` (34), `r` (114), `b` (98), `c` (99), `'` (39), `(` (40), or a
+-- digit
 abbrev pub literal_style : List ℕ → Style
 literal_style text =
     if slice_index text 0 == 34 then styles.Str
@@ -65,7 +66,7 @@ literal_style text =
     else (if slice_index text 0 == 40 then styles.ErrorLiteral
     else (if is_float text then styles.Float else styles.Integer))))))
 
--- `'` (39) stands before the name of a lifetime
+-- the style of a token; the mark `'` (39) belongs to a lifetime
 abbrev pub token_style : Token → List ℕ → Style
 token_style (tokens.Name raw name) text = name_style raw text
 token_style (tokens.Mark c joint) text = if c == 39 then styles.Lifetime else styles.Mark
@@ -81,7 +82,7 @@ kind_style (pieces.Leaf token) text = token_style token text
 
 -- ---- classes and colours
 
--- six colours in turn
+-- the class of a delimiter, which repeats every six levels
 abbrev pub depth_class : ℕ → List ℕ
 depth_class depth =
     if depth % 6 == 0 then codes "d0" else (if depth % 6 == 1 then codes "d1" else (if depth % 6 == 2 then codes "d2"
@@ -92,7 +93,7 @@ depth_colour depth =
     if depth % 6 == 0 then codes "33" else (if depth % 6 == 1 then codes "35" else (if depth % 6 == 2 then codes "34"
     else (if depth % 6 == 3 then codes "36" else (if depth % 6 == 4 then codes "32" else codes "31"))))
 
--- the class of its `<span>` in a page, and of a fault its title too; white space and names have none
+-- the class of the `<span>` in a page, which for an error includes the title; white space and plain names have none
 abbrev pub class : Style → List ℕ
 class styles.Bare = []
 class styles.Keyword = codes "k"
@@ -118,7 +119,7 @@ class styles.Unclosed = codes "x title=\"this opener is never closed\""
 class styles.NoPiece = codes "x title=\"no token stands here\""
 class styles.Unread = codes "u"
 
--- the numbers of its colours on a terminal
+-- the numbers of the colours on a terminal
 abbrev pub colour : Style → List ℕ
 colour styles.Bare = []
 colour styles.Keyword = codes "1;35"

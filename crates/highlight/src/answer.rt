@@ -1,4 +1,4 @@
-//! What the program writes for a text.
+//! Writes a text with its pieces marked.
 ghost use Rattle.std.specs.Prelude.{◌≡◌, ◌++◌, ℕ, List, IsTrue, OnOk};
 ghost use Rattle.std.specs.Io.KnownBytes.{Appends};
 ghost use Rattle.highlight.specs.Page.{IsMarked, foot, head};
@@ -11,12 +11,12 @@ use messages::Failure;
 use std::alloc::Global;
 use std::io::Write;
 
-/// Writes the text with its pieces marked, a page between its head and its foot. All of it stands in
+/// Writes the text with its pieces marked; for a page, between the page's head and foot. The marked text is complete in
 /// memory before the first byte is written.
 ///
-/// What is written is exactly the format's function of the pieces of the text, and of the reason why
-/// what follows them doesn't parse. A reader who leaves out the tags and undoes the escapes sees the
-/// text; for a terminal, a text without ESC. After an error a beginning of what is to be written stands.
+/// The output depends only on the format, the pieces of the text, and the reason why what follows them doesn't parse.
+/// Without tags and with escapes undone, the output is the text; for a terminal this holds if the text has no ESC.
+/// After an error a prefix of the output may have been written.
 #[tactic(auto, using(crate::proofs::SeenLemmas::marked_shows))]
 pub fn write_marked<W: Write>(
     alloc: Global,

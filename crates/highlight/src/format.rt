@@ -1,21 +1,21 @@
-//! What the words ask for: what a text is written as, and which file it stands in.
+//! The command line: the format of the output, and the file.
 ghost use Rattle.std.specs.Prelude.{◌≡◌, MatchOption, None, Some, map, string_bytes};
 ghost use Rattle.highlight.specs.Request.{format_named, request_of};
 
-/// How the program is called.
+/// The usage line.
 pub const USAGE: &str = "highlight html|term [FILE]";
 
-/// What a text is written as.
+/// The format of the output.
 #[derive(Clone, Copy, Debug, PartialEq, Eq)]
 pub enum Format {
     /// A page for a browser.
     Html,
-    /// A terminal's colours.
+    /// Text with the colours of a terminal.
     Term,
 }
 
-/// The format and the path that the words after the program's name ask for. The first word names the format, the second
-/// the file. Without a second one the path is `-`, standard input. `None` for any other words.
+/// Returns the format and the path that the words of the command line name. The first word names the format and the
+/// second the file. Without a second word the path is `-`, standard input. Returns `None` for any other words.
 pub fn request_of(words: &[String]) -> Option<(Format, &str)>
     ensures { MatchOption result (request_of (map string_bytes words.now) ≡ None)
         (λ request. request_of (map string_bytes words.now) ≡ Some (request.0, request.1.now)) }
@@ -27,7 +27,7 @@ pub fn request_of(words: &[String]) -> Option<(Format, &str)>
     }
 }
 
-/// The format that a word names.
+/// Returns the format of that name, if there is one.
 fn format_named(word: &str) -> Option<Format>
     ensures { result ≡ format_named word.now }
 {

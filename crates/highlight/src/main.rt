@@ -1,9 +1,9 @@
-//! Writes source text with its pieces marked: as a page for a browser, or with a terminal's colours.
+//! Writes source text with its pieces marked, as a page for a browser or with the colours of a terminal.
 //!
-//! `highlight html FILE` writes the page, `highlight term FILE` the colours; without a file they read
-//! standard input. The status is 0 where all was written, also of a text with faults, which are
-//! marked. It is 2 where the words ask for nothing, a read or a write failed, the input isn't UTF-8 or too
-//! long, or memory ran out; a line on standard error says so, but nothing where nobody reads the output any more.
+//! `highlight html FILE` writes a page, and `highlight term FILE` writes colours. Both read standard input if no file
+//! is named. The status is 0 if everything was written, even if the text has syntax errors, which are marked. It is 2
+//! if the command line is wrong, if a read or a write failed, if the input isn't UTF-8 or is too long, or if memory ran
+//! out. Then a line on standard error says why, unless the output has no reader any more.
 #![tactic(auto)]
 
 mod answer;
@@ -29,7 +29,7 @@ fn main(rt: HostRuntime) -> ExitCode {
     }
 }
 
-/// Does what the words after the program's name ask for, and answers the status.
+/// Does what the command line demands, and returns the exit status.
 fn respond(rt: &HostRuntime, words: &[String]) -> ExitCode {
     let (path, outcome) = match request_of(words) {
         Some((format, path)) => (path, run(rt, format, path)),

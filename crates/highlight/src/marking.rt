@@ -1,4 +1,4 @@
-//! A text with its pieces marked.
+//! Marks the pieces of a text.
 ghost use Rattle.std.specs.Prelude.{◌≡◌, IfOk, List, MatchOption, [], true, ℕ, reverse};
 ghost use Rattle.std.specs.Prelude.{string_bytes};
 ghost use Rattle.std.specs.Str.{chars};
@@ -19,11 +19,11 @@ use messages::Failure;
 use proc_macro2::{PieceKind, PlacedPiece, pieces};
 use std::alloc::{AllocError, Global};
 
-/// The text with its pieces marked.
+/// Returns the text with its pieces marked.
 ///
-/// A closer that matches no opener is marked as a fault, and so is an opener that is never closed, as
-/// far as that is known where the text isn't read whole. Where no piece stands what is at fault is
-/// marked, with the reason why; what stands around it is not read.
+/// A closer that matches no opener is marked as an error, and so is an opener that is never closed. If the text could
+/// not be read to its end, openers that still wait are not marked, since their closers may follow. Where no piece
+/// begins, the part that is wrong is marked with the reason, and the text around it is marked as not read.
 pub fn marked(alloc: Global, format: Format, text: &str) -> Result<String, Failure>
     ensures { IfOk result (λ out. IsMarked format text.now (string_bytes out)) }
 {
@@ -48,7 +48,7 @@ pub fn marked(alloc: Global, format: Format, text: &str) -> Result<String, Failu
     }
 }
 
-/// The styles of the delimiters, the first last.
+/// Returns the styles of the delimiters in reverse order, so that the first is the last item.
 fn styles_of_delimiters(alloc: Global, text: &str) -> Result<Vec<Style>, AllocError>
     ensures { IfOk result (λ styles. (all : List Piece) × (rest : List ℕ)
         × AreAllPieces true (chars text.now) all rest
@@ -64,17 +64,17 @@ fn styles_of_delimiters(alloc: Global, text: &str) -> Result<Vec<Style>, AllocEr
     Ok(styles)
 }
 
-/// What is to be known to style the next piece.
+/// What is known before a piece and decides its style.
 #[derive(Drop)]
 struct Styling {
-    // The styles of the delimiters from here on, the first last.
+    // The styles of the remaining delimiters, in reverse order.
     delimiters: Vec<Style>,
-    // Whether the last piece was the `'` of a lifetime.
+    // Whether the piece before was the `'` of a lifetime.
     is_after_quote: bool,
 }
 
 impl Styling {
-    /// What the next piece is shown as.
+    /// Returns the style of the next piece.
     fn style_of(&mut self, next: PlacedPiece<'_>) -> Style
         ensures style { result ≡ piece_style (reverse self.old.delimiters.items) self.old.is_after_quote
             (kind_of next.entry.piece.kind (chars next.entry.text.now)) next.entry.text.now }
@@ -105,7 +105,7 @@ fn is_quote(kind: PieceKind<'_>) -> bool
     }
 }
 
-/// Why the text doesn't parse, if it doesn't.
+/// Returns why the text doesn't parse, if it doesn't.
 fn explained(alloc: Global, text: &str) -> Result<Option<Explained>, Failure>
     ensures { IfOk result (λ answer. MatchOption answer
         (Parses first_position (chars text.now)) (IsExplained first_position (chars text.now))) }

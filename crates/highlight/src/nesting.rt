@@ -1,4 +1,4 @@
-//! Which delimiters match.
+//! Which delimiters match each other.
 ghost use Rattle.std.specs.Prelude.{◌≡◌, ◌++◌, [], ◌∷◌, IsTrue, List, OnOk, ℕ, if◌then◌else◌, length, slice_set};
 ghost use Rattle.highlight.specs.declared.style.Style.TheVariants.{Unclosed};
 ghost use Rattle.lexical.specs.Delimiter.{is_closer};
@@ -11,10 +11,10 @@ use crate::style::Style;
 use proc_macro2::PieceKind;
 use std::alloc::{AllocError, Global};
 
-/// The delimiters before a byte offset of a text, with the style of each so far.
+/// The delimiters up to some byte offset of a text, with the style of each so far.
 #[derive(Drop)]
 pub struct Nesting {
-    // An opener counts as never closed until a closer matches it.
+    // The style of an opener is `Unclosed` until a closer matches it.
     styles: Vec<Style>,
     // The openers that no closer has matched yet, the innermost last.
     openers: Vec<Opener>,
@@ -25,7 +25,7 @@ pub struct Nesting {
 #[derive(Clone, Copy)]
 pub struct Opener {
     closer: char,
-    // How many delimiters stand before it.
+    // The number of delimiters before it.
     index: usize,
     around: Awaited,
 }
@@ -39,7 +39,7 @@ pub struct Awaited {
 }
 
 impl Nesting {
-    /// No delimiter.
+    /// Returns the state before the first delimiter.
     pub fn new(alloc: Global) -> Nesting
         ensures styles { result.styles.items ≡ [] }
         ensures waiting { waiting_of result.openers.items ≡ [] }
@@ -56,9 +56,9 @@ impl Nesting {
         }
     }
 
-    /// Takes the next piece, of which a delimiter alone counts.
+    /// Takes the next piece. Only delimiters change anything.
     ///
-    /// A closer matches the innermost opener that waits for it; those inside that one are never closed.
+    /// A closer matches the innermost opener that waits for it. The openers inside that one are never closed.
     #[inline]
     pub fn take(&mut self, kind: PieceKind<'_>) -> Result<(), AllocError>
         requires awaited { IsAwaited self.old.awaited self.old.openers.items }
@@ -115,7 +115,7 @@ impl Nesting {
         Ok(self.styles.push(style)?)
     }
 
-    /// Takes out the opener that the closer matches and those inside it, and answers the style of both.
+    /// Removes the opener that the closer matches and the openers inside it, and returns the style of the pair.
     fn matched(&mut self, closer: char) -> Style
         requires awaited { IsAwaited self.old.awaited self.old.openers.items }
         requires closer { IsTrue (is_closer closer) }
@@ -140,8 +140,8 @@ impl Nesting {
         Style::StrayCloser
     }
 
-    /// The styles of all delimiters. Where the text isn't read whole, the openers that wait may be
-    /// closed in what follows.
+    /// Returns the styles of all delimiters. If the text was not read to its end, the waiting openers count as closed,
+    /// since their closers may follow.
     pub fn into_styles(self, is_whole: bool) -> Vec<Style>
         ensures { result.items
             ≡ (if is_whole then self.styles.items else spared self.styles.items (waiting_of self.openers.items)) }
@@ -173,7 +173,7 @@ impl Awaited {
     }
 }
 
-/// Sets the style at the index, if one stands there.
+/// Sets the style at the index, if there is an item at it.
 fn set_style(styles: &mut Vec<Style>, index: usize, style: Style)
     ensures { styles.new.items ≡ slice_set styles.old.items index style }
 {

@@ -1,4 +1,4 @@
-//! What a piece is shown as.
+//! The styles of pieces.
 ghost use Rattle.std.specs.Prelude.{◌≡◌};
 ghost use Rattle.lexical.specs.Found.{kind_of};
 ghost use Rattle.std.specs.Str.{chars};
@@ -7,10 +7,10 @@ ghost use Rattle.highlight.specs.Style.{kind_style, literal_style};
 
 use proc_macro2::PieceKind;
 
-/// What a piece is shown as.
+/// How a piece is shown.
 #[derive(Clone, Copy, Debug, PartialEq, Eq)]
 pub enum Style {
-    /// White space, or the mark U+FEFF at the front.
+    /// White space, or the mark U+FEFF at the start of the text.
     Bare,
     Keyword,
     Name,
@@ -30,21 +30,21 @@ pub enum Style {
     BlockComment,
     Doc,
     Mark,
-    /// A delimiter that matches another, with how many pairs stand around them.
+    /// A delimiter of a pair, with the number of pairs around it.
     Delimiter(usize),
-    /// A closer with no opener of its kind open.
+    /// A closer without an open opener of its kind.
     StrayCloser,
     /// An opener that is never closed.
     Unclosed,
-    /// The first character of what begins no piece.
+    /// The first character of a text that begins with no piece.
     NoPiece,
-    /// What follows it.
+    /// The text after that character.
     Unread,
 }
 
 impl Style {
-    /// The class of its `<span>` in a page, and of a fault its title too. White space and names have
-    /// none.
+    /// Returns the class of the `<span>` in a page, which for an error includes the title. White space and plain names
+    /// have none.
     pub fn class(self) -> &'static str
         ensures { result.now ≡ class self }
     {
@@ -74,7 +74,7 @@ impl Style {
         }
     }
 
-    /// The numbers of its colours on a terminal. White space and names have none.
+    /// Returns the numbers of the colours on a terminal. White space and plain names have none.
     pub fn colour(self) -> &'static str
         ensures { result.now ≡ colour self }
     {
@@ -97,7 +97,7 @@ impl Style {
     }
 }
 
-/// The class of a delimiter, six colours in turn.
+/// Returns the class of a delimiter, which repeats every six levels.
 fn depth_class(depth: usize) -> &'static str
     ensures { result.now ≡ depth_class depth }
 {
@@ -111,7 +111,7 @@ fn depth_class(depth: usize) -> &'static str
     }
 }
 
-/// The colour of a delimiter.
+/// Returns the colour of a delimiter, which repeats every six levels.
 fn depth_colour(depth: usize) -> &'static str
     ensures { result.now ≡ depth_colour depth }
 {
@@ -125,7 +125,7 @@ fn depth_colour(depth: usize) -> &'static str
     }
 }
 
-/// What a piece that is no delimiter is shown as.
+/// Returns the style of a piece that is not a delimiter.
 pub fn style_of(kind: PieceKind<'_>, text: &str) -> Style
     ensures { result ≡ kind_style (kind_of kind.entry (chars text.now)) text.now }
 {
@@ -144,7 +144,7 @@ pub fn style_of(kind: PieceKind<'_>, text: &str) -> Style
     }
 }
 
-/// A comment begins with a slash, which isn't white.
+/// Returns the style of a gap. A comment begins with a slash, which white space does not.
 fn gap_style(text: &str) -> Style
     ensures { result ≡ gap_style text.now }
 {
@@ -171,7 +171,7 @@ fn literal_style(text: &str) -> Style
     }
 }
 
-/// Whether a dot, or an exponent and not a suffix, follows the digits of a number.
+/// Whether the digits of a number are followed by a dot or by an exponent, which is not a suffix.
 fn is_float(number: &str) -> bool
     ensures { result ≡ is_float number.now }
 {
@@ -189,8 +189,8 @@ fn is_float(number: &str) -> bool
     false
 }
 
-/// Whether the text is a word that is no name unless raw: a keyword of the edition 2024, or a reserved one. It is
-/// compared with those alone that begin as it does.
+/// Whether the text is a name only if it is raw: a keyword of the edition 2024, or a reserved word. It is compared only
+/// with the keywords that begin with the same letter.
 #[tactic(auto, using(crate::proofs::KeywordLemmas::no_keyword), unfolding(crate::specs::Style::is_keyword))]
 fn is_keyword(text: &str) -> bool
     ensures { result ≡ is_keyword text.now }

@@ -1,4 +1,4 @@
-//! What follows the pieces of a text, with what is at fault in it.
+//! The text that follows the last piece, and what is wrong in it.
 ghost use Rattle.std.specs.Prelude.{◌≡◌, ◌++◌, ◌-◌, OnOk, drop, string_bytes, take};
 ghost use Rattle.std.specs.Str.{chars, encode_utf8_all, IsUtf8};
 ghost use Rattle.highlight.specs.Page.{marked_pieces};
@@ -11,8 +11,9 @@ use lexical::parts::before;
 use pm_span::parts::bounds;
 use std::alloc::{AllocError, Global};
 
-/// Appends the rest of a text, where no piece stands. What is at fault is marked with the reason why the rest doesn't
-/// parse; the first character alone where that reason is of what follows, as where U+FEFF stands first.
+/// Appends the rest of a text, at which no piece begins. The part that is wrong is marked with the reason why the rest
+/// doesn't parse. If that reason is about something later, only the first character is marked, as for U+FEFF that comes
+/// first.
 pub fn push_unread(
     alloc: Global,
     sheet: &mut Sheet,
@@ -45,7 +46,8 @@ pub fn push_unread(
 /// The position of a text's first character.
 const FIRST: u32 = 1;
 
-/// What is marked for a reason: what is at fault, or what stands before it where that is nothing, as at a text's end.
+/// Returns what is marked for an error: the part that is wrong or, if that is empty, as at the end of a text, the part
+/// before it.
 fn fault_of(why: &Explained) -> Stretch
     ensures { result ≡ fault_of why.now }
 {
@@ -56,7 +58,7 @@ fn fault_of(why: &Explained) -> Stretch
     }
 }
 
-/// Appends a text of which for the reason so many characters are at fault after so many others.
+/// Appends a text in which, for this reason, `size` characters are wrong after the first `before` ones.
 fn push_faulty(
     alloc: Global,
     sheet: &mut Sheet,
@@ -76,7 +78,7 @@ fn push_faulty(
     Ok(())
 }
 
-/// Appends a text of which the first character is at fault, for no known reason.
+/// Appends a text of which only the first character is marked, without a reason.
 fn push_stuck(sheet: &mut Sheet, text: &str) -> Result<(), AllocError>
     ensures { OnOk result (string_bytes sheet.new.out ≡ string_bytes sheet.old.out
         ++ marked_pieces sheet.old.format sheet.old.line (stuck (chars text.now))) }
@@ -90,7 +92,7 @@ fn push_stuck(sheet: &mut Sheet, text: &str) -> Result<(), AllocError>
     Ok(())
 }
 
-/// The first `count` characters of the text, or all where it has fewer, and what follows them.
+/// Splits the text after its first `count` characters, or at its end if it has fewer.
 fn split_chars(text: &str, count: u32) -> (&str, &str)
     ensures front { result.0.now ≡ encode_utf8_all (take count (chars text.now)) }
     ensures rest { chars result.1.now ≡ drop count (chars text.now) }

@@ -1,4 +1,4 @@
-//! Appends pieces to what is written, marked.
+//! Appends marked pieces to the output.
 ghost use Rattle.std.specs.Prelude.{◌≡◌, ◌+◌, ◌++◌, [], OnOk, codes, encode_utf8, string_bytes};
 ghost use Rattle.std.specs.Prelude.{◌<◌, ◌≤◌, ℕ, IfOk, false, length, slice_index, true};
 ghost use Rattle.std.specs.Str.{IsUtf8};
@@ -11,18 +11,18 @@ use crate::style::Style;
 use explain::Reason;
 use std::alloc::{AllocError, Global};
 
-/// What is written so far.
+/// The output so far.
 #[derive(Drop)]
 pub struct Sheet {
     /// The text with its marks.
     pub out: String,
-    /// The line on which the next piece begins, from 1.
+    /// The line on which the next piece begins, counted from 1.
     pub line: usize,
     format: Format,
 }
 
 impl Sheet {
-    /// Nothing, at line 1.
+    /// Returns an empty output, at line 1.
     pub fn new(alloc: Global, format: Format) -> Sheet
         ensures out { string_bytes result.out ≡ [] }
         ensures line { result.line ≡ 1 }
@@ -46,7 +46,7 @@ impl Sheet {
         self.push_marked(style.class(), style.colour(), text)
     }
 
-    /// Appends what is at fault for the reason, with what that says.
+    /// Appends a part of the text that is wrong, with the message of the reason.
     pub fn push_faulty(
         &mut self,
         alloc: Global,
@@ -63,7 +63,7 @@ impl Sheet {
         self.push_marked(class.as_str(), Style::NoPiece.colour(), text)
     }
 
-    /// Appends the text in this class or in this colour, but no mark with nothing in it.
+    /// Appends the text with this class or in this colour. An empty text gets no mark.
     #[tactic(auto, using(crate::proofs::MarkLemmas::marks))]
     fn push_marked(&mut self, class: &str, colour: &str, text: &str) -> Result<(), AllocError>
         ensures shown { OnOk result (string_bytes self.new.out
@@ -81,7 +81,7 @@ impl Sheet {
         }
     }
 
-    /// Appends the text in a `<span>` of the class, or bare where the class is empty.
+    /// Appends the text in a `<span>` of the class, or without one if the class is empty.
     fn push_span(&mut self, class: &str, text: &str) -> Result<(), AllocError>
         ensures shown { OnOk result (string_bytes self.new.out
             ≡ string_bytes self.old.out ++ in_span class.now (escaped self.old.line text.now)) }
@@ -99,7 +99,7 @@ impl Sheet {
         Ok(())
     }
 
-    /// Appends the text in the colour, or bare where the colour is empty.
+    /// Appends the text in the colour, or without one if the colour is empty.
     fn push_coloured(&mut self, colour: &str, text: &str) -> Result<(), AllocError>
         ensures shown { OnOk result (string_bytes self.new.out
             ≡ string_bytes self.old.out ++ in_colour colour.now text.now) }
@@ -116,7 +116,7 @@ impl Sheet {
         self.out.push_str("\x1b[0m")
     }
 
-    /// Appends the text itself, escaped, with an anchor after each line feed.
+    /// Appends the text, escaped, with an anchor after each line feed.
     fn push_escaped(&mut self, text: &str) -> Result<(), AllocError>
         ensures shown { OnOk result (string_bytes self.new.out
             ≡ string_bytes self.old.out ++ escaped self.old.line text.now) }
@@ -131,7 +131,7 @@ impl Sheet {
         Ok(())
     }
 
-    /// Appends what stands before the first byte that is escaped, all at once, and answers the text from there on.
+    /// Appends the part of the text before the first byte that is escaped, and returns the rest.
     fn push_bare<'a>(&mut self, text: &'a str) -> Result<&'a str, AllocError>
         ensures shown { IfOk result (λ rest. string_bytes self.new.out ++ escaped self.old.line rest.now
             ≡ string_bytes self.old.out ++ escaped self.old.line text.now) }
@@ -146,7 +146,7 @@ impl Sheet {
         Ok(&text[size..])
     }
 
-    /// Appends a character.
+    /// Appends a character, escaped if it must be.
     #[tactic(auto, using(crate::proofs::EscapeLemmas::of_character))]
     fn push_character(&mut self, c: char) -> Result<(), AllocError>
         ensures shown { OnOk result (string_bytes self.new.out
@@ -164,7 +164,7 @@ impl Sheet {
         }
     }
 
-    /// Begins a line, with its anchor. A text with more lines than can be counted has no page in memory.
+    /// Begins a line, with its anchor. More lines than can be counted count as running out of memory.
     fn push_line_feed(&mut self) -> Result<(), AllocError>
         ensures shown { OnOk result (string_bytes self.new.out
             ≡ string_bytes self.old.out ++ (codes "\n" ++ anchor (self.old.line + 1))) }
@@ -181,7 +181,7 @@ impl Sheet {
     }
 }
 
-/// How many bytes stand before the first that is escaped, or before the end.
+/// Returns how many bytes precede the first byte that is escaped, or the end.
 fn bare_size(bytes: &[u8]) -> usize
     ensures within { result ≤ length bytes.now }
     ensures bare { (k : ℕ) → k < result → IsBare (slice_index bytes.now k) }
@@ -197,7 +197,7 @@ fn bare_size(bytes: &[u8]) -> usize
     size
 }
 
-/// Whether the byte isn't appended as it is.
+/// Whether the byte is not appended as it is.
 fn is_escaped(byte: u8) -> bool
     ensures bare { result ≡ false → IsBare byte }
     ensures ascii { result ≡ true → byte < 128 }

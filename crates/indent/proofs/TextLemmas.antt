@@ -1,4 +1,4 @@
--- Texts are the same where their bytes are.
+-- Two texts are equal exactly if their bytes are.
 use Rattle.std.proofs.Common.{◌≡◌, ◌↔◌, ◌∙◌, Bool, IsTrue, List, nat_eq, sym, ap, ℕ}
 use Rattle.std.specs.Cmp.Lexicographic.{pointwise}
 use Rattle.std.specs.Prelude.{String, string_bytes}

@@ -1,4 +1,4 @@
-//! What the program writes for a text.
+//! Writes a text with its lines indented, or checks that they are.
 ghost use Rattle.std.specs.Prelude.{◌≡◌, ◌↔◌, IfErr, IfOk, IsTrue, List, OnOk, Option, ℕ, string_bytes};
 ghost use Rattle.std.specs.Str.{chars};
 ghost use Rattle.explain.specs.Explained.{Parses};
@@ -15,10 +15,10 @@ use relayout::{RelayoutError, relayout};
 use std::alloc::Global;
 use std::io::Write;
 
-/// Writes the text with its lines indented. Its tokens and comments stay, whatever the indentation is.
+/// Writes the text with its lines indented. Its tokens and comments stay the same, whatever the indentation is.
 ///
-/// Fails with `Fault`, which has line and column, `MapFull` and `Memory` before anything is written, and with `Write`;
-/// then a beginning of the text may stand.
+/// Returns `Fault`, which has line and column, `MapFull` or `Memory` before anything is written. Returns `Write` if a
+/// write fails: a prefix of the text may have been written then.
 pub fn print_text<W: Write>(
     alloc: Global,
     text: &str,
@@ -37,9 +37,9 @@ pub fn print_text<W: Write>(
     }
 }
 
-/// Whether the text is the same with its lines indented.
+/// Returns whether indenting its lines leaves the text as it is.
 ///
-/// Fails with `Fault`, `MapFull` and `Memory`.
+/// Returns `Fault`, `MapFull` or `Memory` as an error, for the same reasons as `print_text`.
 pub fn is_indented(alloc: Global, text: &str, step: Step) -> Result<bool, Failure>
     ensures ok { IfOk result (λ same. (out : List ℕ) × IsIndented (chars text.now) out
         × (IsTrue same ↔ (out ≡ chars text.now))) }
@@ -49,7 +49,7 @@ pub fn is_indented(alloc: Global, text: &str, step: Step) -> Result<bool, Failur
     Ok(indented.as_str() == text)
 }
 
-/// The text with its lines indented. No trees are built to learn whether it parses.
+/// Returns the text with its lines indented. It finds out whether the text parses without building trees.
 fn indent(alloc: Global, text: &str, step: Step) -> Result<String, Failure>
     ensures ok { IfOk result (λ out. IsIndented (chars text.now) (chars (string_bytes out))) }
     ensures err { IfErr result (λ failure. (known : Option (List ℕ)) → MayFail (chars text.now) known known failure) }
@@ -62,7 +62,7 @@ fn indent(alloc: Global, text: &str, step: Step) -> Result<String, Failure>
     }
 }
 
-/// The failure of a text that doesn't parse: the line and column of its fault. Only here a map is needed to find them.
+/// Returns the error for a text that doesn't parse, with its line and column. Only this needs a map.
 fn fault_of(alloc: Global, text: &str) -> Failure
     requires { (position : ℕ) × FaultAt first (chars text.now) position }
     ensures { (known : Option (List ℕ)) → MayFail (chars text.now) known known result }
@@ -74,7 +74,7 @@ fn fault_of(alloc: Global, text: &str) -> Failure
     }
 }
 
-/// The text with its lines indented, if it parses. It fails only where memory runs out.
+/// Returns a text that parses with its lines indented. The only error is that memory runs out.
 fn indent_parsed(alloc: Global, text: &str, step: Step) -> Result<String, Failure>
     requires { Parses first (chars text.now) }
     ensures ok { IfOk result (λ out. IsIndented (chars text.now) (chars (string_bytes out))) }

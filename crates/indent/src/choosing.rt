@@ -1,4 +1,4 @@
-//! Which white space indents a text.
+//! Chooses the white space that indents a text.
 ghost use Rattle.std.specs.Prelude.{IfOk, OnOk};
 ghost use Rattle.std.specs.List.{All};
 ghost use Rattle.indent.specs.Indented.{KeepsLines};
@@ -7,19 +7,19 @@ use lexical::{PieceKind, PlacedPiece, pieces};
 use relayout::White;
 use std::alloc::{AllocError, Global};
 
-/// How far each open group indents a line.
+/// By how much each open group indents a line.
 #[derive(Clone, Copy, Debug, PartialEq, Eq)]
 pub enum Step {
-    /// By a tab.
+    /// By one tab.
     Tab,
-    /// By so many spaces.
+    /// By this number of spaces.
     Spaces(u8),
 }
 
-/// For each run of white space of a text, what is to stand in its place so that its lines are indented by the groups
-/// that are open.
+/// Returns the choice for each run of white space of a text, so that its lines are indented by the groups that are
+/// open.
 ///
-/// A closer that a line begins with, or that stands after such ones, counts as closed at the line's front.
+/// Closers at the start of a line count as closed before the line.
 pub fn choices(alloc: Global, text: &str, step: Step) -> Result<Vec<White>, AllocError>
     ensures { IfOk result (λ choices. All KeepsLines choices.items) }
 {
@@ -37,7 +37,7 @@ pub fn choices(alloc: Global, text: &str, step: Step) -> Result<Vec<White>, Allo
     }
 }
 
-/// How many groups are open after the piece.
+/// Returns how many groups are open after the piece.
 fn open_after(next: PlacedPiece<'_>, open: usize) -> usize {
     match next.piece.kind {
         PieceKind::Opener(_) => open.saturating_add(1),
@@ -46,7 +46,8 @@ fn open_after(next: PlacedPiece<'_>, open: usize) -> usize {
     }
 }
 
-/// Chooses what stands in the place of a run, if there is one, before this text, where so many groups are open.
+/// Adds the choice for a run of white space, if it is not empty. `rest` follows the run, and `open` groups are open
+/// there.
 fn push_choice(
     choices: &mut Vec<White>,
     run: &str,
@@ -68,7 +69,7 @@ fn push_choice(
     Ok(())
 }
 
-/// How many closers a line begins with.
+/// Returns how many closers are at the start of the line.
 fn closers(line: &str) -> usize {
     let mut count: usize = 0;
     for c in line.chars() {
@@ -81,7 +82,7 @@ fn closers(line: &str) -> usize {
     count
 }
 
-/// The white space at the front of a line on this level.
+/// Returns the white space that begins a line on this level.
 fn indentation(level: usize, step: Step) -> White
     ensures { KeepsLines result }
 {

@@ -1,14 +1,14 @@
 //! Indents a Rust file by its delimiters, inside macros too.
 //!
-//! `indent [--check] [--width N | --tabs] [FILE]` reads the file, or standard input where it is `-` or there is none,
-//! and writes the text with the front of each line as wide as N columns, 4 if not said, or a tab, for each group that
-//! is open there; a closer that a line begins with counts as closed. White space at the ends of lines goes. A line that
-//! begins inside a literal or a comment stays as it is, and so does all that is no white space at the front or the end
-//! of a line. With `--check` nothing but the file's name is written, and that only where the text would change.
+//! `indent [--check] [--width N | --tabs] [FILE]` reads the file, or standard input if the file is `-` or not named,
+//! and writes the text with its lines indented. Each group that is open at the start of a line indents it by N columns,
+//! 4 by default, or by a tab. Closers at the start of a line count as closed. White space at the ends of lines is
+//! removed. A line that begins inside a literal or a comment keeps its indentation, and everything else stays as it is.
+//! With `--check` only the file's name is written, and only if the text would change.
 //!
-//! The status is 0, with `--check` 1 where the text would change, and 2 where the words ask for nothing, the text has a
-//! fault, a read or a write failed, the text isn't UTF-8 or is too long, or memory ran out. A line on standard error
-//! says why.
+//! The status is 0, or 1 if `--check` finds that the text would change. It is 2 if the command line is wrong, if the
+//! text has a syntax error, isn't UTF-8 or is too long, if a read or a write failed, or if memory ran out. Then a line
+//! on standard error says why.
 #![tactic(auto)]
 
 mod answer;
@@ -31,7 +31,7 @@ fn main(rt: HostRuntime) -> ExitCode {
     }
 }
 
-/// Does what the words after the program's name ask for, and answers the status.
+/// Does what the command line demands, and returns the exit status.
 fn run(rt: &HostRuntime) -> Result<u8, Failure> {
     let words = words(rt.alloc(), env::args(rt), USAGE)?;
     let options = options_of(rt.alloc(), words.as_slice())?;
@@ -49,7 +49,7 @@ fn run(rt: &HostRuntime) -> Result<u8, Failure> {
     }
 }
 
-/// Indents the file, or checks it, and answers the status.
+/// Indents the file, or checks it, and returns the exit status.
 fn indent_file(rt: &HostRuntime, options: &Options) -> Result<u8, Failure> {
     let text = read_text(rt, options.path.as_str())?;
     let mut writer = rt.stdout();

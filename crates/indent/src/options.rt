@@ -1,27 +1,28 @@
-//! What the program is asked for.
+//! The options of the command line.
 
 use crate::choosing::Step;
 use messages::Failure;
 use std::alloc::Global;
 
-/// How the program is called.
+/// The usage line.
 pub const USAGE: &str = "indent [--check] [--width N | --tabs] [FILE]";
 
-/// What the program is asked for.
+/// The options and the file of the command line.
 #[derive(Drop)]
 pub struct Options {
-    /// How far each open group indents a line.
+    /// By how much each open group indents a line.
     pub step: Step,
-    /// Whether the text is checked, and not written.
+    /// Whether the text is only checked.
     pub check: bool,
-    /// The path of the file, `-` for standard input.
+    /// The path of the file. `-` is standard input.
     pub path: String,
 }
 
-/// What the words ask for: options anywhere, of which a later one wins, and a path, `-` where there is none.
+/// Returns the options of the command line. They may come in any order, and of several for the indentation the last
+/// counts. The path is `-` if none is given.
 ///
-/// Fails with `Usage` where a word begins with `-` that is no option, `--width` is not followed by a number up to 255,
-/// or there are several paths, and with `Memory`.
+/// Returns `Usage` if a word begins with `-` and is no option, if no number up to 255 follows `--width`, or if there
+/// are several paths. Returns `Memory` if memory runs out.
 pub fn options_of(alloc: Global, words: &[String]) -> Result<Options, Failure> {
     let mut step = Step::Spaces(4);
     let mut check = false;
@@ -49,7 +50,7 @@ pub fn options_of(alloc: Global, words: &[String]) -> Result<Options, Failure> {
     Ok(Options { step, check, path })
 }
 
-/// The number of columns that the word says.
+/// Returns the number of columns that the word gives.
 fn width_of(word: &str) -> Result<u8, Failure> {
     match word.parse() {
         Ok(width) => Ok(width),
@@ -57,7 +58,7 @@ fn width_of(word: &str) -> Result<u8, Failure> {
     }
 }
 
-/// Whether the word, which is no option, begins like one.
+/// Whether the word begins like an option, without being `-`.
 fn is_unknown(word: &str) -> bool {
     word != "-" && word.starts_with('-')
 }

@@ -1,4 +1,4 @@
-//! What is chosen for a text's white space, beside what the code of the start chose.
+//! Compares the chosen white space with that of a simpler implementation, for random texts.
 ghost use Rattle.std.specs.Prelude.{◌<◌};
 
 use crate::choosing::{Step, choices as choices_now};
@@ -8,10 +8,10 @@ use relayout::White;
 use std::alloc::{AllocError, Global};
 use std::test::Fail;
 
-/// How many texts are made.
+/// The number of texts.
 const TEXTS: u32 = 4_000;
 
-/// What they are made of.
+/// The parts of which the texts consist.
 const PARTS: &[&str] = &[
     " ",
     " ",
@@ -53,7 +53,7 @@ const PARTS: &[&str] = &[
     "1.5",
 ];
 
-/// A source of random numbers.
+/// A generator of random numbers.
 #[derive(Drop)]
 struct Random {
     /// The last number, which isn't 0.
@@ -61,7 +61,7 @@ struct Random {
 }
 
 impl Random {
-    /// A number below the bound, which isn't 0.
+    /// Returns a number below the bound, which isn't 0.
     fn below(&mut self, bound: u64) -> u64
         requires { 0 < bound }
         ensures { result < bound }
@@ -72,7 +72,7 @@ impl Random {
         self.state % bound
     }
 
-    /// A text of some parts.
+    /// Returns a text of some parts.
     fn text(&mut self, alloc: Global) -> Result<String, AllocError> {
         let mut text = String::new(alloc);
         for _ in 0..self.below(24) {
@@ -104,16 +104,16 @@ fn the_same_is_chosen_as_by_the_code_of_the_start(rt: HostRuntime) -> Result<(),
     Ok(())
 }
 
-// ---- the code of the start, as it was
+// ---- the simpler implementation
 
 /// The white space before a piece.
 #[derive(Clone, Copy, Debug, PartialEq, Eq)]
 enum Run {
-    // None.
+    // No white space.
     Nothing,
-    // Some, in which no line ends.
+    // White space without a line end.
     WithinLine,
-    // Some, in which a line ends.
+    // White space with a line end.
     EndsLine,
 }
 
@@ -146,7 +146,7 @@ fn is_white(next: PlacedPiece<'_>) -> bool {
     }
 }
 
-/// The run with more white space.
+/// Returns the run with more white space.
 fn with_white(run: Run, more: &str) -> Run {
     if run == Run::EndsLine || more.contains('\n') {
         Run::EndsLine
@@ -155,7 +155,7 @@ fn with_white(run: Run, more: &str) -> Run {
     }
 }
 
-/// How many groups are open after the piece.
+/// Returns how many groups are open after the piece.
 fn open_after(next: PlacedPiece<'_>, open: usize) -> usize {
     match next.piece.kind {
         PieceKind::Opener(_) => open.saturating_add(1),
@@ -164,7 +164,7 @@ fn open_after(next: PlacedPiece<'_>, open: usize) -> usize {
     }
 }
 
-/// Chooses what stands in the place of a run, if there is one, before this text, where so many groups are open.
+/// Adds the choice for a run of white space, if there is one. `rest` follows the run, and `open` groups are open there.
 fn push_choice(
     choices: &mut Vec<White>,
     run: Run,
@@ -180,7 +180,7 @@ fn push_choice(
     Ok(())
 }
 
-/// How many closers a line begins with.
+/// Returns how many closers are at the start of the line.
 fn closers(line: &str) -> usize {
     let mut count: usize = 0;
     for c in line.chars() {
@@ -193,7 +193,7 @@ fn closers(line: &str) -> usize {
     count
 }
 
-/// The white space at the front of a line on this level.
+/// Returns the white space that begins a line on this level.
 fn indentation(level: usize, step: Step) -> White {
     match step {
         Step::Tab => White::Lines {

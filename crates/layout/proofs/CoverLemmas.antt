@@ -50,7 +50,7 @@ abbrev pub laid_pieces : List Laid → List ℕ → List Piece
 laid_pieces [] last = gap_pieces last []
 laid_pieces (x ∷ xs) last = gap_pieces x.0 (event_piece x.1 ∷ laid_pieces xs last)
 
--- their text
+-- the text of the gap's pieces is the gap
 onto_gap : (gap : List ℕ) (ps : List Piece) (r : List ℕ) → onto (gap_pieces gap ps) r ≡ gap ++ onto ps r
 onto_gap [] ps r = refl
 onto_gap (c ∷ gap) ps r = ap (λ x. c ∷ x) (onto_gap gap ps r)
@@ -67,15 +67,15 @@ onto_laid (x ∷ xs) last =
     ∙ (ap (λ t. x.0 ++ (t ++ onto (laid_pieces xs last) [])) (event_is x.1)
     ∙ ap (λ t. x.0 ++ (event_text x.1 ++ t)) (onto_laid xs last))
 
--- ---- what is promised of each event
+-- ---- what is known of each event
 
--- a built token, or a delimiter that is shown
+-- a built token, or a delimiter with marks
 abbrev pub IsWritten : Event → Type 0
 IsWritten (One token lo hi) = IsBuiltToken token
 IsWritten (Opens d lo) = is_shown d ≡ true
 IsWritten (Closes d hi) = is_shown d ≡ true
 
--- each of the events is one
+-- each of the events is a built token or a delimiter with marks
 abbrev pub AreWritten : List Event → Type 0
 AreWritten [] = Unit {0}
 AreWritten (e ∷ es) = IsWritten e × AreWritten es
@@ -90,13 +90,13 @@ written_flat (group d lo hi f k) es built w more =
     let deep = and_parts (well_spaced f) (well_spaced k) both.1 in
     (both.0, written_flat f _ built.1 deep.0 (both.0, written_flat k es built.2 deep.1 more))
 
--- ---- how what follows begins
+-- ---- how the text after a piece begins
 
--- a class that has no white character
+-- the class has no white character
 abbrev OutWhite : (ℕ → Bool) → Type 0
 OutWhite class = (c : ℕ) → is_white c ≡ true → class c ≡ false
 
--- past a gap, if there is none
+-- what follows a token does not begin in the class, if what follows the gap does not where the gap is empty
 out_gap : (class : ℕ → Bool) → OutWhite class → (gap : List ℕ) (ps : List Piece) → IsGap gap
     → (gap ≡ [] → first_passes class (onto ps []) ≡ false) → first_passes class (onto (gap_pieces gap ps) []) ≡ false
 out_gap class out [] ps white none = none refl
@@ -124,13 +124,13 @@ event_some (One token lo hi) written = token_some token written
 event_some (Opens d lo) written = (shown_some d written).0
 event_some (Closes d hi) written = (shown_some d written).1
 
--- a text that isn't empty begins as it goes on
+-- the first character of a text that is not empty is also the first character of a longer text
 first_of_front : (class : ℕ → Bool) (p r : List ℕ) → is_some p ≡ true → first_passes class p ≡ false
     → first_passes class (p ++ r) ≡ false
 first_of_front class [] r some none = absurd (both_ways false refl some)
 first_of_front class (c ∷ p) r some none = none
 
--- whether the first two of these are the dots of a range, which the literal doesn't go on with
+-- whether a plain literal precedes the two dots of a range
 abbrev ranges : Event → List Laid → Bool
 ranges before [] = false
 ranges before (x ∷ xs) = is_plain before && begins_range x.1 (events_of xs)
@@ -140,7 +140,7 @@ no_range : (token : Token) (lo hi : ℕ) (xs : List Laid) → is_plain (One toke
 no_range token lo hi [] other = refl
 no_range token lo hi (x ∷ xs) other = and_left (is_plain (One token lo hi)) _ other
 
--- after a token that isn't Joint, and no literal before a range, no character follows that would go on with it
+-- the text after a token does not extend it, if the token is not Joint and is no plain literal before a range
 calm_after : (token : Token) (lo hi : ℕ) (xs : List Laid) (last : List ℕ) → is_joint (One token lo hi) ≡ false
     → ranges (One token lo hi) xs ≡ false
     → AreWritten (events_of xs) → AreGaps xs → IsGap last → may_follow (One token lo hi) xs ≡ true
@@ -168,7 +168,7 @@ calm_after token lo hi (x ∷ xs) last alone other written gaps end kept =
         ]
     not_parted before (c ∷ gap) next later none alone other kept = absurd (cc)
 
--- the dots of a range, the first of which is Joint
+-- the text of a range's dots: nothing is between them, since the first is Joint
 dots_text : (e : Event) (xs : List Laid) (last : List ℕ) → begins_range e (events_of xs) ≡ true
     → may_follow e xs ≡ true → (r : List ℕ) × (onto (event_piece e ∷ laid_pieces xs last) [] ≡ 46 ∷ 46 ∷ r)
 dots_text (One (Name raw name) lo hi) xs last range next = absurd (both_ways false refl range)
@@ -194,7 +194,7 @@ dots_text (One (Literal text) lo hi) xs last range next = absurd (both_ways fals
 dots_text (Opens d lo) xs last range next = absurd (both_ways false refl range)
 dots_text (Closes d hi) xs last range next = absurd (both_ways false refl range)
 
--- a literal stands before what may follow it
+-- a literal is a token before what may follow it
 literal_there : (text : List ℕ) (lo hi : ℕ) (xs : List Laid) (last : List ℕ) → IsBuiltToken (Literal text)
     → AreWritten (events_of xs) → AreGaps xs → IsGap last → may_follow (One (Literal text) lo hi) xs ≡ true
     → keeps_apart xs ≡ true → Stands (Literal text) (onto (laid_pieces xs last) [])
@@ -218,7 +218,7 @@ literal_there text lo hi (x ∷ xs) last built written gaps end next kept =
         literal_stands text _ built (white_parts (Literal text) c
         (and_parts (is_white c) (list_all is_white gap) white).0)
 
--- ---- each piece stands
+-- ---- each piece is a piece before what follows it
 
 stand_gaps : (gap : List ℕ) (b : Bool) (ps : List Piece) → IsGap gap → ((c : Bool) → StandBefore c ps [])
     → StandBefore b (gap_pieces gap ps) []
@@ -250,7 +250,7 @@ plain_inside (x ∷ xs) last gaps end h = by_gap x.0 x.1 gaps.0 h
 
 -- ---- Joint marks
 
--- an identifier may stand after `'` where it is kept apart from what follows it
+-- an identifier may follow `'` if it is kept apart from what follows it
 quoted : (e : Event) (xs : List Laid) (last : List ℕ) → AreWritten (events_of xs) → AreGaps xs
     → IsGap last → may_follow e xs ≡ true → follows_quote (next_event (e ∷ events_of xs)) ≡ true
     → IsPiece false (event_piece e).0 (event_piece e).1 (onto (laid_pieces xs last) [])
@@ -282,7 +282,7 @@ quoted (One (Literal text) lo hi) xs last written gaps end kept fit h =
 quoted (Opens d lo) xs last written gaps end kept fit h = absurd (both_ways false refl fit)
 quoted (Closes d hi) xs last written gaps end kept fit h = absurd (both_ways false refl fit)
 
--- and each other mark before the tokens that fit it
+-- each mark but `'` may be Joint before the tokens that fit it
 joined : (c : ℕ) (e : Event) (xs : List Laid) (last : List ℕ) → is_mark c ≡ true → (c ≡ 39 → ⊥)
     → follows_joint c (next_event (e ∷ events_of xs)) ≡ true
     → IsPiece false (event_piece e).0 (event_piece e).1 (onto (laid_pieces xs last) [])
@@ -297,7 +297,7 @@ joined c (One (Literal text) lo hi) xs last m other fit h =
 joined c (Opens d lo) xs last m other fit h = absurd (both_ways false refl fit)
 joined c (Closes d hi) xs last m other fit h = absurd (both_ways false refl fit)
 
--- a Joint mark stands before what is laid out after it
+-- a Joint mark is a token before what is laid out after it
 joint_fits : (c lo hi : ℕ) (xs : List Laid) (last : List ℕ) → is_mark c ≡ true
     → fits (Mark c true) (next_event (events_of xs)) ≡ true → AreWritten (events_of xs)
     → AreGaps xs → IsGap last → may_follow (One (Mark c true) lo hi) xs ≡ true
@@ -326,7 +326,7 @@ joint_fits c lo hi (x ∷ xs) last m fit written gaps end next kept h =
           joined c e xs last m (eqb-false c 39 other) (sym (cond-false (c == 39) _ _ other) ∙ fit) h.0
     ]
 
--- ---- all of them
+-- ---- all pieces
 
 stand_event : (b : Bool) (e : Event) (xs : List Laid) (last : List ℕ) → AreWritten (e ∷ events_of xs)
     → AreGaps xs → IsGap last → spaced (e ∷ events_of xs) ≡ true
@@ -370,7 +370,7 @@ stand_laid b (x ∷ xs) last written gaps end w kept =
     stand_gaps x.0 b (event_piece x.1 ∷ laid_pieces xs last) gaps.0
     (λ c. (stand_event c x.1 xs last written gaps.1 end w apart.0 apart.1 more, more))
 
--- ---- what they say
+-- ---- the tokens that the pieces mean
 
 said_gaps : (gap : List ℕ) (ps : List Piece) → said (gap_pieces gap ps) ≡ said ps
 said_gaps [] ps = refl

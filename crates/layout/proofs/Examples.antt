@@ -1,4 +1,4 @@
--- Where white space has to stand: one pair of each kind that must be parted, and one that need not.
+-- Where white space is needed: one pair of each kind that must be parted, and one that need not be parted.
 use Rattle.std.proofs.Common.{◌≡◌, true, false, [], ◌∷◌, codes, refl}
 use Rattle.unicode_ident.proofs.Computing.{unicode_ident}
 use Rattle.lexical.specs.Token.{Token, Name, Mark, Literal}
@@ -29,7 +29,7 @@ number_dot : must_part (one (Literal (codes "1"))) (one (Mark 46 false)) [] ≡ 
 unfolding unicode_ident
 number_dot = refl
 
--- but before a range
+-- a number need not be parted from the dots of a range
 number_range : must_part (one (Literal (codes "1"))) (one (Mark 46 true)) (one (Mark 46 false) ∷ []) ≡ false
 unfolding unicode_ident
 number_range = refl
@@ -52,7 +52,7 @@ marks = refl
 mark_name : must_part (one (Mark 43 false)) (one (Name false (codes "a"))) [] ≡ false
 mark_name = refl
 
--- no gap may stand after a Joint mark
+-- no gap is allowed after a Joint mark
 joint : may_part (one (Mark 43 true)) (codes " ") (one (Mark 61 false)) [] ≡ false
 joint = refl
 

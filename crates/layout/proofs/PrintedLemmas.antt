@@ -22,7 +22,7 @@ use Rattle.layout.specs.Layout.{AreGaps, may_part, may_follow, keeps_apart, IsLa
 
 -- ---- the layout
 
--- trees with the gaps that are printed before them, and then others
+-- trees with the gaps that printing puts before them, and then `xs`
 abbrev pub laid_after : Bool → Forest → List Laid → List Laid
 laid_after gap nil xs = xs
 laid_after gap (leaf token lo hi f) xs = (space gap, One token lo hi) ∷ laid_after (parts token) f xs
@@ -60,9 +60,9 @@ laid_gaps gap (leaf token lo hi f) xs more = (space_gap gap, laid_gaps (parts to
 laid_gaps gap (group d lo hi f k) xs more =
     (space_gap gap, laid_gaps (is_brace d) f _ (space_gap (is_brace d), laid_gaps true k xs more))
 
--- ---- its gaps may stand where they do
+-- ---- the printed gaps are allowed
 
--- no token goes on with a closer
+-- no closer extends a literal
 literal_closer : (b : Bool) (d : Delimiter)
     → first_passes (if b then parts_number else is_ident_continue) (closing d) ≡ false
 unfolding unicode_ident
@@ -94,7 +94,7 @@ no_joint_last c fit = by_quote (c == 39) fit
     by_quote true e = both_ways false refl e
     by_quote false e = both_ways false refl e
 
--- whatever token stands last, and whatever delimiter, what follows may stand there
+-- `xs` may follow any token that is not Joint, and any delimiter
 abbrev MayEnd : List Laid → Type 0
 MayEnd xs = (before : Event) → is_joint before ≡ false → may_follow before xs ≡ true
 
@@ -106,7 +106,7 @@ closer_may (One token lo hi) false d end later alone =
 closer_may (Opens c lo) false d hi later alone = refl
 closer_may (Closes c lo) false d hi later alone = refl
 
--- after a token comes the gap that is printed there
+-- the gap that printing puts after a token is allowed
 token_may : (token : Token) (lo hi : ℕ) (f : Forest) (xs : List Laid) → fits token (next_token f) ≡ true → MayEnd xs
     → may_follow (One token lo hi) (laid_after (parts token) f xs) ≡ true
 token_may (Name raw name) lo hi nil xs fit more = more (One (Name raw name) lo hi) refl
@@ -122,7 +122,7 @@ token_may (Literal text) lo hi nil xs fit more = more (One (Literal text) lo hi)
 token_may (Literal text) lo hi (leaf t a b f) xs fit more = refl
 token_may (Literal text) lo hi (group d a b f k) xs fit more = refl
 
--- after a delimiter any gap may
+-- any gap is allowed after a delimiter
 delimiter_may : (before : Event) (gap : Bool) (f : Forest) (xs : List Laid)
     → ((next : Event) (later : List Event) → must_part before next later ≡ false) → is_joint before ≡ false
     → may_follow before xs ≡ true → may_follow before (laid_after gap f xs) ≡ true

@@ -1,4 +1,4 @@
--- A literal of letters, digits and `_` alone stands before the dots of a range.
+-- A plain literal is still a token before the dots of a range.
 use Rattle.std.proofs.Common.{◌≡◌, ℕ, Bool, true, false, ◌||◌, List, [], ◌∷◌, ◌++◌, refl, sym, ap, ◌∙◌}
 use Rattle.std.proofs.Common.{inl, inr, subst, append_assoc, append-nil}
 use Rattle.std.specs.List.{list_all}
@@ -35,13 +35,13 @@ undotted_dot : undotted 46 ≡ false
 unfolding unicode_ident
 undotted_dot = refl
 
--- no dot is in such a text
+-- no dot is among characters that may all continue an identifier
 out_of_plain : (p front back : List ℕ) (c : ℕ) → list_all is_ident_continue p ≡ true → p ≡ front ++ (c ∷ back) → c ≡ 46
     → ⊥
 out_of_plain p front back c plain e dot =
     both_ways _ no_dot (sym (ap is_ident_continue dot) ∙ passes_at is_ident_continue p front c back plain e)
 
--- and so no float with one
+-- a float with a dot is not made of characters that may all continue an identifier
 no_dotted : (q d s : List ℕ) → list_all is_ident_continue (q ++ d) ≡ true → Dotted q (d ++ s) → ⊥
 no_dotted q d s all is =
     let after = is.second in
@@ -53,7 +53,7 @@ no_dotted q d s all is =
 sub_undotted : (passes : ℕ → Bool) → Sub passes is_ident_continue → Sub passes undotted
 sub_undotted passes on c is = or_left (is_ident_continue c) _ (on c is)
 
--- a float without a dot has none
+-- a float with an exponent but no dot has no dot in its exponent either
 on_exponential : (q t : List ℕ) → Exponential q t → list_all undotted q ≡ true
 on_exponential q t is =
     let underscore = sub_undotted _ underscore_continues in
@@ -93,7 +93,7 @@ no_range_dot p r x bk t plain digits free e = elim (fronts_compared p (46 ∷ 46
         let dot : d ≡ 46 = cc in
         out_of_plain p x m d plain whole dot
 
--- no float newly stands
+-- if no float begins the literal alone, none begins the literal with a range after it
 none_range : (p r : List ℕ) → list_all is_ident_continue p ≡ true → HasNone (Stands rule.float) (p ++ [])
     → HasNone (Stands rule.float) (p ++ (46 ∷ 46 ∷ r))
 none_range p r plain none q t e is = elim (fronts_compared p (46 ∷ 46 ∷ r) q t e) [

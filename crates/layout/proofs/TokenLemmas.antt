@@ -1,4 +1,4 @@
--- Tokens stand before every text that begins with no character that would go on with them.
+-- A token is still a token before each text whose first character does not extend it.
 use Rattle.std.proofs.Common.{◌≡◌, ◌≢◌, ℕ, Bool, true, false, not, ◌||◌, ◌&&◌, ◌==◌, List, [], ◌∷◌, ◌++◌, codes}
 use Rattle.std.proofs.Common.{refl, sym, ap, ◌∙◌, inl, inr}
 use Rattle.std.specs.List.{list_all, list_any}
@@ -30,7 +30,7 @@ use Rattle.layout.specs.Layout.{parts_name, parts_number, parts_from}
 
 -- ---- white characters
 
--- none goes on with a number
+-- no white character extends a number
 white_number : (c : ℕ) → is_white c ≡ true → parts_number c ≡ false
 white_number c is = not-true _ (white_dead c is)
 
@@ -43,11 +43,11 @@ white_continue c is = (or_parts_of (is_ident_continue c) _ (white_number c is))
 
 -- ---- names
 
--- what goes on with an identifier parts from a name
+-- a character that may continue an identifier must be parted from a name
 pub continue_parts : Sub is_ident_continue parts_name
 continue_parts c is = or_left _ _ is
 
--- so does what bars a `'` before it
+-- a character that may not follow `'` and a name must be parted from the name
 pub bars_parts : (raw : Bool) → Sub (bars_quote raw) parts_name
 bars_parts raw c is = elim (or_cases (c == 39) ((c == 35) && not raw) is) [
   | inl quote ↦ sub_one parts_name 39 listed_quote c quote
@@ -137,7 +137,7 @@ pub literal_stands : (text s : List ℕ) → IsBuiltToken (Literal text)
     → first_passes (parts_from (Literal text)) s ≡ false → Stands (Literal text) s
 literal_stands text s built ends = any_before text s ends (whole_any text built)
 
--- ---- white characters go on with no token
+-- ---- white characters extend no token
 
 white_name : (c : ℕ) → is_white c ≡ true → parts_name c ≡ false
 white_name c is = or_from _ _ (white_continue c is) (white_sign c is)

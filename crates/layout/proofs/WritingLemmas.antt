@@ -68,12 +68,12 @@ gap_white Space = refl
 gap_white (Line n) = and_from (is_white 10) _ refl (spaces_white n)
 gap_white (Blank n) = and_from (is_white 10) _ refl (and_from (is_white 10) _ refl (spaces_white n))
 
--- whether the gap may stand between what was written before it, if anything was, and what comes
+-- whether the gap is allowed after what was written before it, if anything was, and before `next`
 abbrev pub may_stand : Option Event → List ℕ → Event → List Event → Bool
 may_stand None gap next later = true
 may_stand (Some before) gap next later = may_part before gap next later
 
--- the gap that is written may, where the range that it counts on comes
+-- the gap that is written is allowed, if `range` says the truth about the events
 fitting_may : (before : Option Event) (chosen : Gap) (e : Event) (later : List Event) (range : Bool)
     → (range ≡ true → begins_range e later ≡ true)
     → may_stand before (gap_text (fitting before chosen (event_text e) range)) e later ≡ true
@@ -109,7 +109,7 @@ fitting_may (Some before) chosen e later range comes =
     by_cases b (Blank n) false true true false j g p comes = not_from_false (is_joint b) j
     by_cases b (Blank n) false true false range j g p comes = not_from_false (is_joint b) j
 
--- the range comes that a step says
+-- if the next token of a forest is a dot, so is the next event
 dot_first : (after : Forest) (later : List Step) → is_dot_token (next_token after) ≡ true
     → begins_with_dot (events_left (steps_onto after later)) ≡ true
 dot_first nil later is = absurd (both_ways false refl is)
@@ -139,20 +139,20 @@ range_comes (Past tree after) new follows is =
     (and_from (is_dot (tree_event tree)) _ dot.1
     (ap (λ steps. begins_with_dot (events_left steps)) follows.1 ∙ dot_first after follows.0 both.1))
 
--- ---- what was written so far
+-- ---- what is written so far
 
--- whether these may come after what was written, if anything was
+-- whether `xs` may follow what was written, if anything was
 abbrev pub may_begin : Option Event → List Laid → Bool
 may_begin None xs = true
 may_begin (Some before) xs = may_follow before xs
 
--- whatever layout of the events that are left follows, the whole is a layout of the stream
+-- what is written so far and any layout of the events that are left make a layout of the stream
 abbrev pub LeadsOn : Forest → List ℕ → Option Event → List Event → Type 0
 LeadsOn stream done before left =
     (xs : List Laid) (last : List ℕ) → events_of xs ≡ left → AreGaps xs → IsGap last → may_begin before xs ≡ true
     → keeps_apart xs ≡ true → IsLayout stream (done ++ laid_onto xs last)
 
--- before the first
+-- before the first step, any layout of all events is a layout of the stream
 pub leads_first : (stream : Forest) → LeadsOn stream [] None (flattening stream)
 leads_first stream = λ xs last events gaps end may kept. record {
   laid = xs;
@@ -168,12 +168,12 @@ pub leads_start : (stream : Forest) (text : List ℕ) (all : List Step) → text
     → LeadsOn stream text None (events_left all)
 leads_start stream text all none is = rw (none, is, events_left-steps stream) (leads_first stream)
 
--- no step is left
+-- no step is left once there is no next one
 pub none_taken : (next : Option Given) (old new : List Step) → next ≡ None
     → MatchOption next ((old ≡ []) × (new ≡ [])) (λ s. old ≡ step_of s ∷ new) → old ≡ []
 none_taken next old new is h = (rw is at h).0
 
--- after one more
+-- one more step keeps the invariant
 pub leads_next : (stream : Forest) (done now front : List ℕ) (before after : Option Event) (chosen : Gap) (step : Step)
     (left new : List Step)
     → LeadsOn stream done before (events_left left) → left ≡ step ∷ new → FollowedBy step new
@@ -197,7 +197,7 @@ leads_next stream done now front before after chosen step left new h first follo
     begins None gap e xs may = refl
     begins (Some b) gap e xs may = may
 
--- after the last
+-- after the last step and its gap, what is written is a layout
 pub leads_last : (stream : Forest) (done now : List ℕ) (before : Option Event) (last : Gap) (left : List Event)
     → LeadsOn stream done before left → left ≡ [] → now ≡ done ++ gap_text last → IsLayout stream now
 leads_last stream done now before last left h none text =
@@ -209,7 +209,7 @@ leads_last stream done now before last left h none text =
 
 -- ---- what the calls write
 
--- what a text is, once it is a string
+-- the characters of a string are those of the text that it encodes
 pub string_chars : {Z : Type 0} (s : String Z) (text : List ℕ) → string_bytes s ≡ encode_utf8_all text
     → chars (string_bytes s) ≡ text
 string_chars s text e =

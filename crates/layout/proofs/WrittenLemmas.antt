@@ -1,4 +1,4 @@
--- A text that is written with a chooser's gaps, place by place.
+-- A text that is written gap by gap as a chooser gives the gaps.
 use Rattle.std.proofs.Common.{◌≡◌, ℕ, List, [], ◌∷◌, ◌++◌, Option, Some, None}
 use Rattle.std.proofs.Common.{refl, ap, subst, append_assoc, append-nil}
 use Rattle.std.specs.Prelude.{map}
@@ -10,14 +10,14 @@ use Rattle.layout.specs.Writing.{event_of, gap_text}
 use Rattle.layout.specs.Written.{Choice, IsWritten, Spot, depth_at, depth_past, fitted, places_from, written_at}
 use Rattle.layout.specs.declared.gaps.Gap.{Gap}
 
--- whatever gaps the chooser gives for the places that are left, with them the text is what they make
+-- what is written so far, and any gaps that the chooser gives for the steps that are left, make the text
 abbrev pub WritesOn : {C : Type 0} → (C → Choice → C → Type 0) → C → Forest → List ℕ → Option Step → ℕ
     → List Step → C → Type 0
 WritesOn {C} gives first stream done before depth left now =
     (choices : List Choice) (last : C) → map (λ c. c.place) choices ≡ places_from before depth left
     → FoldsTo gives now choices last → IsWritten gives first last stream (done ++ flat_map written_at choices)
 
--- before the first
+-- before the first step nothing is written
 pub writes_first : {C : Type 0} (gives : C → Choice → C → Type 0) (first : C) (stream : Forest) (text : List ℕ)
     (all : List Step) → text ≡ [] → all ≡ steps stream → WritesOn gives first stream text None 0 all first
 writes_first gives first stream text all none is = rw (none, is) (λ choices last each given. record {
@@ -27,7 +27,7 @@ writes_first gives first stream text all none is = rw (none, is) (λ choices las
   whole = refl;
 })
 
--- after one more
+-- one more step keeps the invariant
 pub writes_next : {C : Type 0} (gives : C → Choice → C → Type 0) (first old new : C) (stream : Forest)
     (done now : List ℕ) (before : Option Step) (depth : ℕ) (step : Step) (left later : List Step) (gap : Gap)
     → WritesOn gives first stream done before depth left old → left ≡ step ∷ later
@@ -44,7 +44,7 @@ writes_next gives first old new stream done now before depth step left later gap
     subst (IsWritten gives first last stream) (simp append_assoc refl)
     (before_it (record { place = place; gap = gap } ∷ choices) last (ap (λ x. place ∷ x) each) (new, gave, given)))
 
--- after the last
+-- after the last gap, what is written is the text
 pub writes_last : {C : Type 0} (gives : C → Choice → C → Type 0) (first old new : C) (stream : Forest)
     (done now : List ℕ) (before : Option Step) (depth : ℕ) (left : List Step) (gap : Gap)
     → WritesOn gives first stream done before depth left old → left ≡ []

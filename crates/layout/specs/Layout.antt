@@ -12,38 +12,39 @@ use Rattle.pm_stream.specs.Delimited.{opening, closing}
 use Rattle.pm_stream.specs.Events.{Event, One, Opens, Closes}
 use Rattle.pm_stream.specs.Forest.{Forest, flattening}
 
--- ---- where white space has to stand
+-- ---- where white space is needed
 
--- whether the character, right after a name, would go on with it, or make a literal or a lifetime of it
+-- whether the character right after a name would extend the name, or make a literal or a lifetime of it
 abbrev pub parts_name : ℕ → Bool
 parts_name c = is_ident_continue c || list_any (λ d. d == c) (codes "\"#'")
 
--- whether it would go on with a number
+-- whether the character right after a number would extend the number
 abbrev pub parts_number : ℕ → Bool
 parts_number c = is_ident_continue c || ((c == 46) || is_sign c)
 
--- whether it would go on with a literal: with one between quotes as its suffix
+-- whether the character right after a literal would extend it; it may be the suffix of a literal in quotes
 abbrev pub parts_literal : List ℕ → ℕ → Bool
 parts_literal text = if first_passes is_ascii_digit text then parts_number else is_ident_continue
 
--- whether it would go on with the token: with a mark that is Alone another mark
+-- whether the character right after a token would extend the token; any mark extends a mark
 abbrev pub parts_from : Token → ℕ → Bool
 parts_from (Name raw name) = parts_name
 parts_from (Mark c joint) = is_mark
 parts_from (Literal text) = parts_literal text
 
--- what a token, an opener and a closer are written as
+-- the text of a token, an opener or a closer
 abbrev pub event_text : Event → List ℕ
 event_text (One token lo hi) = token_text token
 event_text (Opens d lo) = opening d
 event_text (Closes d hi) = closing d
 
--- whether the text would go on with it
+-- whether the text right after the event would extend its token; nothing extends an opener or a closer
 abbrev pub goes_on : Event → List ℕ → Bool
 goes_on (One token lo hi) text = first_passes (parts_from token) text
 goes_on (Opens d lo) text = false
 goes_on (Closes d hi) text = false
 
+-- whether the event is a Joint mark
 abbrev pub is_joint : Event → Bool
 is_joint (One (Name raw name) lo hi) = false
 is_joint (One (Mark c joint) lo hi) = joint
@@ -51,7 +52,7 @@ is_joint (One (Literal text) lo hi) = false
 is_joint (Opens d lo) = false
 is_joint (Closes d hi) = false
 
--- the mark `.`
+-- whether the event is the mark `.`
 abbrev pub is_dot : Event → Bool
 is_dot (One (Name raw name) lo hi) = false
 is_dot (One (Mark c joint) lo hi) = c == 46
@@ -59,15 +60,17 @@ is_dot (One (Literal text) lo hi) = false
 is_dot (Opens d lo) = false
 is_dot (Closes d hi) = false
 
+-- whether the first of the events is the mark `.`
 abbrev pub begins_with_dot : List Event → Bool
 begins_with_dot [] = false
 begins_with_dot (event ∷ events) = is_dot event
 
--- whether the two dots of a range stand there, `.` Joint and `.`
+-- whether the two dots of a range begin here: `.` Joint and then `.`
 abbrev pub begins_range : Event → List Event → Bool
 begins_range event events = is_joint event && (is_dot event && begins_with_dot events)
 
--- a literal of letters, digits and `_` alone, which no range goes on with
+-- whether the event is a plain literal, whose characters may all continue an identifier; a range's dots do not extend
+-- it
 abbrev pub is_plain : Event → Bool
 is_plain (One (Name raw name) lo hi) = false
 is_plain (One (Mark c joint) lo hi) = false
@@ -75,12 +78,12 @@ is_plain (One (Literal text) lo hi) = list_all is_ident_continue text
 is_plain (Opens d lo) = false
 is_plain (Closes d hi) = false
 
--- `must-part`: whether white space has to stand between the two, of which the second comes before these
+-- `must-part`: whether white space must be between `before` and `next`, where `later` follows `next`
 abbrev pub must_part : Event → Event → List Event → Bool
 must_part before next later = goes_on before (event_text next) && not (is_plain before && begins_range next later)
 
--- whether the gap may stand between the two, of which the second comes before these: none after a Joint mark, and some
--- where white space has to part them
+-- whether the gap is allowed between `before` and `next`, where `later` follows `next`: it is empty after a Joint mark,
+-- and it is not empty where the two must be parted
 abbrev pub may_part : Event → List ℕ → Event → List Event → Bool
 may_part before [] next later = is_joint before || not (must_part before next later)
 may_part before (c ∷ gap) next later = not (is_joint before)
@@ -91,36 +94,37 @@ may_part before (c ∷ gap) next later = not (is_joint before)
 abbrev pub Laid : Type 0
 Laid = List ℕ × Event
 
--- their text, and then the rest
+-- the text of the events with the gaps before them, and then `rest`
 abbrev pub laid_onto : List Laid → List ℕ → List ℕ
 laid_onto [] rest = rest
 laid_onto (x ∷ xs) rest = x.0 ++ (event_text x.1 ++ laid_onto xs rest)
 
--- they themselves, without gaps
+-- the events without the gaps
 abbrev pub events_of : List Laid → List Event
 events_of [] = []
 events_of (x ∷ xs) = x.1 ∷ events_of xs
 
--- white characters, or nothing
+-- each character is white; there may be none
 abbrev pub IsGap : List ℕ → Type 0
 IsGap gap = IsTrue (list_all is_white gap)
 
--- each gap is one
+-- each of the gaps has white characters only
 abbrev pub AreGaps : List Laid → Type 0
 AreGaps [] = Unit {0}
 AreGaps (x ∷ xs) = IsGap x.0 × AreGaps xs
 
--- whether the gap before the first may stand after this one
+-- whether the gap right after `before` is allowed there
 abbrev pub may_follow : Event → List Laid → Bool
 may_follow before [] = true
 may_follow before (x ∷ xs) = may_part before x.0 x.1 (events_of xs)
 
--- whether each gap may stand where it does
+-- whether each gap is allowed where it is
 abbrev pub keeps_apart : List Laid → Bool
 keeps_apart [] = true
 keeps_apart (x ∷ xs) = may_follow x.1 xs && keeps_apart xs
 
--- `layout`: the text is the stream's tokens and delimiters in order, with gaps that may stand there, and one at the end
+-- `layout`: the text is the stream's tokens and delimiters in order, with an allowed gap before each, and a gap at the
+-- end
 pub record IsLayout (stream : Forest) (text : List ℕ) : Type 0 where
   pub laid : List Laid
   pub last : List ℕ

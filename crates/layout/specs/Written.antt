@@ -10,69 +10,69 @@ use Rattle.layout.specs.Writing.{ReadsBack, event_before, event_of, fitting, gap
 use Rattle.layout.specs.declared.gaps.Gap.{Gap}
 use Rattle.layout.specs.declared.gaps.Place.{Place}
 
--- ---- places
+-- ---- where gaps are
 
--- where a gap is wanted: after this step, if any, before this one, if any, and in so many groups
+-- where a gap is: the step before it and the step after it, if there are any, and the number of groups around it
 pub record Spot : Type 0 where
   pub before : Option Step
   pub after : Option Step
   pub depth : ℕ
 
--- what a chooser is told of it
+-- where the gap is that a chooser gets as a `Place`
 abbrev pub spot_of : Place → Spot
 spot_of place = record { before = step_before place.before; after = step_before place.after; depth = place.depth }
 
--- in how many groups a step is taken, where it comes in so many
+-- the depth of the gap before the step, when `depth` groups are open; a gap before a closer counts as outside its group
 abbrev pub depth_at : ℕ → Step → ℕ
 depth_at depth (Enter g after) = depth
 depth_at depth (Leave g after) = depth - 1
 depth_at depth (Token tree after) = depth
 
--- and in how many the next, as far as a `usize` counts
+-- how many groups are open after the step, when `depth` are open before it; a `usize` limits the number
 abbrev pub depth_past : ℕ → Step → ℕ
 depth_past depth (Enter g after) = min (depth + 1) (2 ^ 64 - 1)
 depth_past depth (Leave g after) = depth - 1
 depth_past depth (Token tree after) = depth
 
--- the places before these steps and after the last
+-- where the gaps are before these steps and after the last
 abbrev pub places_from : Option Step → ℕ → List Step → List Spot
 places_from before depth [] = record { before = before; after = None; depth = depth } ∷ []
 places_from before depth (step ∷ steps) =
     record { before = before; after = Some step; depth = depth_at depth step }
     ∷ places_from (Some step) (depth_past depth step) steps
 
--- the places of a stream in order: one before each token, opener and closer, and one at the end
+-- where a stream's gaps are, in order: one before each token, opener and closer, and one at the end
 abbrev pub places : Forest → List Spot
 places stream = places_from None 0 (steps stream)
 
 -- ---- choices
 
--- the gap that is given for a place
+-- a gap that a chooser gives, and where it is
 pub record Choice : Type 0 where
   pub place : Spot
   pub gap : Gap
 
--- what a chooser is asked and answers
+-- the choice that consists of a chooser's argument and its result
 abbrev pub choice_of : Place → Gap → Choice
 choice_of place gap = record { place = spot_of place; gap = gap }
 
--- the gap that is written for it: none after a Joint mark, a space where none is given and the tokens must be parted,
--- and else the one that is given
+-- the gap that is written for a chosen one: nothing after a Joint mark, a space if nothing is chosen and the tokens
+-- must be parted, and the chosen one otherwise
 abbrev pub fitted : Option Step → Option Step → Gap → Gap
 fitted before None gap = gap
 fitted before (Some step) gap = fitting (event_before before) gap (event_text (event_of step)) (steps_range step)
 
--- the token, opener or closer that follows
+-- the text of the token, opener or closer after a gap, if there is one
 abbrev pub text_after : Option Step → List ℕ
 text_after None = []
 text_after (Some step) = event_text (event_of step)
 
--- both
+-- the text of a gap and of what follows it
 abbrev pub written_at : Choice → List ℕ
 written_at c = gap_text (fitted c.place.before c.place.after c.gap) ++ text_after c.place.after
 
--- a text is what the stream and the gaps that a chooser gave make: it was asked once for each place of the stream, in
--- order, which took it from its old state to its new one, and what is written at each is the text
+-- the text consists of the stream and the gaps that a chooser gives. The chooser is called once for each gap of the
+-- stream, in order, which takes it from its old state to its new one
 pub record IsWritten {C : Type 0} (gives : C → Choice → C → Type 0) (old new : C) (stream : Forest) (text : List ℕ)
     : Type 0 where
   pub choices : List Choice
@@ -80,7 +80,7 @@ pub record IsWritten {C : Type 0} (gives : C → Choice → C → Type 0) (old n
   pub given : FoldsTo gives old choices new
   pub whole : text ≡ flat_map written_at choices
 
--- a text of that kind is written, which is a layout of the stream and reads back to it
+-- a wanted text is written; it is a layout of the stream and reads back to it
 pub record Writes (wanted : List ℕ → Type 0) (stream : Forest) (old new : Option (List ℕ)) : Type 0 where
   pub text : List ℕ
   pub made : wanted text

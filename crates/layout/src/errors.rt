@@ -1,4 +1,4 @@
-//! Why a stream is not written.
+//! The error of `text_with` and `write_with`.
 ghost use Rattle.std.specs.Prelude.{◌≡◌};
 ghost use Rattle.layout.specs.Message.{kind_of};
 
@@ -9,15 +9,15 @@ use std::{fmt, io};
 /// Why a stream is not written.
 #[derive(Debug, Drop)]
 pub enum LayoutError {
-    /// The stream isn't `well-spaced`, so that no text reads back to it. Nothing is written.
+    /// The stream isn't `well-spaced`, so no text reads back to it. Nothing is written.
     NotWellSpaced,
     /// Memory ran out.
     Memory(AllocError),
-    /// The writer failed. A beginning of the text may be written.
+    /// The writer failed. A prefix of the text may have been written.
     Write(io::Error),
 }
 
-/// What `==` compares.
+/// The kind of an error, which is what `==` compares.
 #[derive(Clone, Copy, PartialEq, Eq)]
 enum Kind {
     NotWellSpaced,
@@ -26,7 +26,7 @@ enum Kind {
 }
 
 impl LayoutError {
-    /// Its kind, and that of the writer's error.
+    /// Returns the kind of the error, which includes the kind of a writer's error.
     fn kind(&self) -> Kind
         ensures { result ≡ kind_of self.now }
     {
@@ -47,7 +47,7 @@ impl PartialEq for LayoutError {
 
     ghost laws = { on_per kind_of laws-law };
 
-    /// Whether both are of one kind, and the errors of their writers too.
+    /// Whether both errors are of the same kind, and their writers' errors too.
     fn eq(&self, other: &LayoutError) -> bool {
         self.kind() == other.kind()
     }

@@ -1,4 +1,4 @@
-//! Gaps of white space, and who chooses them.
+//! Gaps of white space, and the trait of types that choose them.
 ghost use Rattle.std.specs.Prelude.{◌≡◌, ◌<◌, ◌++◌, OnOk, ⊤};
 ghost use Rattle.std.specs.Str.{chars};
 ghost use Rattle.std.specs.Char.{is_ascii_digit};
@@ -22,25 +22,25 @@ use std::alloc::AllocError;
 /// White space between two tokens.
 #[derive(Clone, Copy)]
 pub enum Gap {
-    /// None.
+    /// No white space.
     Nothing,
-    /// A space.
+    /// One space.
     Space,
-    /// A line's end, and so many spaces.
+    /// A line end and this number of spaces.
     Line(usize),
-    /// A line's end, an empty line, and so many spaces.
+    /// A line end, an empty line and this number of spaces.
     Blank(usize),
 }
 
-/// Where a gap is wanted.
+/// Where in a stream a gap is, as a chooser sees it.
 #[derive(Clone, Copy)]
 pub struct Place<'a> {
-    /// What stands before it: a token, an opener or a closer, with the trees that follow it in the same list. `None`
-    /// at the beginning.
+    /// The token, opener or closer before the gap, with the trees that follow it in the same list. `None` at the
+    /// beginning of the stream.
     pub before: Option<Step<'a>>,
-    /// What comes after it, and `None` at the end.
+    /// The token, opener or closer after the gap. `None` at the end of the stream.
     pub after: Option<Step<'a>>,
-    /// In how many groups it stands.
+    /// The number of groups around the gap. A gap before a closer counts as outside the closer's group.
     pub depth: usize,
 }
 
@@ -49,13 +49,14 @@ pub trait Chooser {
     // Relates the chooser before a call, the place with the gap that it gave, and the chooser after it.
     ghost gap_gives: { Self → Choice → Self → Type 0 } = { λ _ _ _. ⊤ };
 
-    /// The gap that is wished here. It is asked once for each place, in order.
+    /// Returns the gap that the chooser wants at this place. It is called once for each gap of a stream, in order.
     fn gap(&mut self, place: Place<'_>) -> Gap
         ensures { gap_gives self.old (choice_of place.entry result) self.new };
 }
 
-/// The gap that is written where this one is chosen: none after a Joint mark, and a space where none is chosen and
-/// the text that comes with the next step would go on with what stands before it.
+/// Returns the gap that is written where `chosen` is chosen. Nothing is written after a Joint mark. A space is written
+/// if nothing is chosen and the text of the next step would extend the token before, unless that text begins a range
+/// after a plain literal.
 #[inline(always)]
 pub(crate) fn fitting(before: Option<Step<'_>>, chosen: Gap, next: Step<'_>) -> Gap
     ensures { result ≡ fitting (before_of before.entry) chosen (event_text (event_of (step_of next.entry)))
@@ -76,7 +77,7 @@ pub(crate) fn fitting(before: Option<Step<'_>>, chosen: Gap, next: Step<'_>) -> 
     Gap::Nothing
 }
 
-/// Whether the step is past a literal of letters, digits and `_` alone.
+/// Whether the step is a plain literal: each of its characters may continue an identifier, as in `0` and `0x1F`.
 fn is_plain(step: Step<'_>) -> bool
     ensures { result ≡ is_plain (event_of (step_of step.entry)) }
 {
@@ -86,14 +87,14 @@ fn is_plain(step: Step<'_>) -> bool
     }
 }
 
-/// Whether an identifier may go on with each character.
+/// Whether each character may continue an identifier.
 fn is_all_continue(text: &str) -> bool
     ensures { result ≡ list_all is_ident_continue (chars text.now) }
 {
     text.chars().all(|c| unicode_ident::is_xid_continue(c))
 }
 
-/// Whether the step is past the first of the two dots of a range.
+/// Whether the step is the first of the two dots of a range.
 fn begins_range(step: Step<'_>) -> bool
     ensures { result ≡ steps_range (step_of step.entry) }
 {
@@ -103,7 +104,7 @@ fn begins_range(step: Step<'_>) -> bool
     }
 }
 
-/// Whether the tree is `.` Joint.
+/// Whether the tree is a Joint `.` mark.
 fn is_joint_dot(tree: &TokenTree) -> bool
     ensures { result ≡ is_joint_dot tree.now }
 {
@@ -113,7 +114,7 @@ fn is_joint_dot(tree: &TokenTree) -> bool
     }
 }
 
-/// Whether the first of the trees is `.`.
+/// Whether the first of the trees is a `.` mark.
 fn is_dot_next(trees: &[TokenTree]) -> bool
     ensures { result ≡ is_dot_token (next_token (forest trees.now)) }
 {
@@ -123,7 +124,7 @@ fn is_dot_next(trees: &[TokenTree]) -> bool
     }
 }
 
-/// Whether the step is past a Joint mark.
+/// Whether the step is a Joint mark.
 #[inline(always)]
 fn is_joint(step: Step<'_>) -> bool
     ensures { result ≡ is_joint (event_of (step_of step.entry)) }
@@ -134,7 +135,7 @@ fn is_joint(step: Step<'_>) -> bool
     }
 }
 
-/// Whether what the next step writes would go on with the token that the step is past.
+/// Whether the text of the next step would extend the token of this step.
 #[inline(always)]
 fn goes_on(step: Step<'_>, next: Step<'_>) -> bool
     ensures { result ≡ goes_on (event_of (step_of step.entry)) (event_text (event_of (step_of next.entry))) }
@@ -165,7 +166,7 @@ fn first_of(step: Step<'_>) -> Option<char>
     }
 }
 
-/// And that of a token, or of a group's opener.
+/// The first character of a token, or of a group's opener.
 #[inline(always)]
 fn first_of_tree(tree: &TokenTree) -> Option<char>
     ensures { result ≡ front_char (event_text (tree_event tree.now)) }
@@ -179,14 +180,14 @@ fn first_of_tree(tree: &TokenTree) -> Option<char>
     }
 }
 
-/// Whether the character, right after a name, would go on with it, or make a literal or a lifetime of it.
+/// Whether the character right after a name would extend the name, or make a literal or a lifetime of it.
 fn parts_name(c: char) -> bool
     ensures { result ≡ parts_name c }
 {
     unicode_ident::is_xid_continue(c) || c == '"' || c == '\'' || c == '#'
 }
 
-/// Whether the character would go on with the literal of this text.
+/// Whether the character right after the literal of this text would extend it.
 fn parts_literal(text: &str, c: char) -> bool
     ensures { result ≡ parts_literal (chars text.now) c }
 {
@@ -227,7 +228,7 @@ pub(crate) fn push_gap(text: &mut TextBuilder, gap: Gap) -> Result<(), AllocErro
     }
 }
 
-/// Writes so many spaces.
+/// Writes `count` spaces.
 fn push_spaces(text: &mut TextBuilder, count: usize) -> Result<(), AllocError>
     ensures { OnOk result (text.new ≡ text.old ++ spaces count) }
 {
@@ -239,7 +240,7 @@ fn push_spaces(text: &mut TextBuilder, count: usize) -> Result<(), AllocError>
     text.push_text(few_spaces(left))
 }
 
-/// Less than eight spaces.
+/// Returns `count` spaces, which are fewer than eight.
 fn few_spaces(count: usize) -> &'static str
     requires { count < 8 }
     ensures { result.now ≡ spaces count }

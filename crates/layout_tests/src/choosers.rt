@@ -14,7 +14,7 @@ impl Chooser for Always {
     }
 }
 
-/// A line for each token, as far in as groups are open, and what was told of the places.
+/// Chooses a line for each token, indented by the number of open groups. It counts its calls, and those at an end.
 #[derive(Drop)]
 struct Lines {
     asked: usize,
@@ -32,12 +32,12 @@ impl Chooser for Lines {
     }
 }
 
-/// The stream that a text parses to.
+/// Returns the stream to which a text parses.
 pub fn stream_of(rt: &(impl Abort + AllocGlobal), text: &str) -> Result<TokenStream, Fail> {
     Ok(TokenStream::from_str(text, &mut SourceMap::new(rt.alloc()))?)
 }
 
-/// The stream's text with the chooser's gaps. It is well spaced.
+/// Returns the stream's text with the chooser's gaps. The stream must be well spaced.
 pub fn laid_out<C: Chooser>(
     rt: &(impl Abort + AllocGlobal),
     stream: &TokenStream,
@@ -52,7 +52,7 @@ pub fn laid_out<C: Chooser>(
     }
 }
 
-/// Asserts the stream's text with this gap everywhere.
+/// Asserts what the stream's text is with this gap everywhere.
 fn check_gap(
     rt: &(impl Abort + AllocGlobal),
     stream: &TokenStream,
@@ -84,7 +84,7 @@ fn places_are_told_in_order(rt: HostRuntime) -> Result<(), Fail> {
     Ok(())
 }
 
-/// The stream of a mark that is Joint.
+/// Returns the stream of one Joint mark.
 fn joint_mark(rt: &(impl Abort + AllocGlobal)) -> Result<TokenStream, Fail> {
     assert!(rt; proc_macro2::Punct::is_punct_char('+'));
     let mark = proc_macro2::Punct::new('+', Spacing::Joint);

@@ -1,9 +1,9 @@
-// Texts with doc comments in the place of doc attributes.
+// Texts whose doc attributes become doc comments.
 use relayout::{RelayoutError, with_doc_comments};
 use std::process::Abort;
 use std::test::Fail;
 
-/// A text with attributes, and with comments.
+/// Texts with attributes, each with the text with comments.
 const COMMENTS: &[(&str, &str)] = &[
     ("#[doc = \" a\"]\nfn f() {}", "/// a\nfn f() {}"),
     ("# ![doc = \"/a\"]\n\n", "//!/a\n\n"),
@@ -15,8 +15,8 @@ const COMMENTS: &[(&str, &str)] = &[
     ),
 ];
 
-/// Texts that stay as they are: the attribute isn't spelled so, or other text stands on its line, or no comment of one
-/// line gives what it says.
+/// Texts that stay as they are: the attribute is spelled in another way, other text is on its line, or no comment of
+/// one line can hold its text.
 const KEPT: &[&str] = &[
     "",
     "/// a\n",

@@ -1,5 +1,5 @@
-//! Tests of layouts: what choosers give is written, random streams come back from random gaps, and doc attributes of a
-//! text become comments.
+//! Tests of layouts. Texts have the gaps that choosers give, random streams come back from texts with random gaps, and
+//! doc attributes of a text become comments.
 #![tactic(auto)]
 
 #[cfg(test)]

@@ -1,4 +1,4 @@
-// Random streams, each with the tightest, the loosest and random gaps: all its texts come back.
+// Random streams, each with the tightest gaps, the loosest gaps and random gaps. They come back from all these texts.
 ghost use Rattle.std.specs.Prelude.{◌<◌, length};
 
 use crate::choosers::{Always, laid_out, stream_of};
@@ -8,12 +8,12 @@ use std::alloc::{AllocError, Global};
 use std::process::Abort;
 use std::test::Fail;
 
-/// How many texts are made, and how many of them parse.
+/// The number of texts that are made.
 const TEXTS: u32 = 4000;
 
 const PARSED: u32 = 2080;
 
-/// What texts are made of.
+/// The pieces of which texts are made.
 const PIECES: &[&str] = &[
     "a", "r", "b", "br", "cr", "_", "e5", "fn", "\u{e9}", "r#a", "'a", "'r", "0", "12u8", "0x1F",
     "1.0", "2.", "1e3", "0e", "'a'", "b'a'", "\"\"", "\"a\"s", "b\"\"", "r\"\"", "r#\"\"#",
@@ -21,7 +21,7 @@ const PIECES: &[&str] = &[
     "[", "]", "{", "}", " ", " ", " ", "\n",
 ];
 
-/// A source of random numbers, which chooses gaps at random.
+/// A generator of random numbers, which chooses gaps at random.
 #[derive(Drop)]
 struct Random {
     /// The last number, which isn't 0.
@@ -29,7 +29,7 @@ struct Random {
 }
 
 impl Random {
-    /// A text of up to 12 pieces.
+    /// Returns a text of up to 12 pieces.
     fn text(&mut self, alloc: Global) -> Result<String, AllocError> {
         let mut text = String::new(alloc);
         for _ in 0..self.below(13) {
@@ -38,14 +38,14 @@ impl Random {
         Ok(text)
     }
 
-    /// One of these values, of which there are some.
+    /// Returns one of the values, of which there is at least one.
     fn one_of<T: Copy>(&mut self, values: &[T]) -> T
         requires { 0 < length values.now }
     {
         values[self.below(values.len() as u64) as usize]
     }
 
-    /// A number below the bound, which isn't 0.
+    /// Returns a number below the bound, which isn't 0.
     fn below(&mut self, bound: u64) -> u64
         requires { 0 < bound }
         ensures { result < bound }
@@ -79,7 +79,8 @@ fn check<C: Chooser>(
     Ok(())
 }
 
-/// Asserts that the stream comes back from its text with the tightest gaps, the loosest, and random ones twice.
+/// Asserts that the stream comes back from its text with the tightest gaps, with the loosest, and twice with random
+/// ones.
 fn check_gaps(
     rt: &(impl Abort + AllocGlobal),
     stream: &TokenStream,
@@ -91,7 +92,7 @@ fn check_gaps(
     check(rt, stream, random)
 }
 
-/// Makes a text, and asserts so of its stream if it parses. Answers whether it does.
+/// Makes a text and, if it parses, asserts that its stream comes back. Returns whether it parses.
 fn check_text(rt: &(impl Abort + AllocGlobal), random: &mut Random) -> Result<bool, Fail> {
     let text = random.text(rt.alloc())?;
     match TokenStream::from_str(text.as_str(), &mut SourceMap::new(rt.alloc())) {

@@ -1,10 +1,10 @@
-// The tightest texts of short streams: where neighbours have to stay apart, and where they may touch.
+// The tightest texts of short streams: which neighbours must be parted, and which may touch.
 use crate::choosers::{Always, laid_out, stream_of};
 use layout::Gap;
 use std::process::Abort;
 use std::test::Fail;
 
-/// A source, and its text with no gap but where one has to stand.
+/// A source, and its stream's text with no gaps except those that must be there.
 const TIGHTEST: &[(&str, &str)] = &[
     ("fn f ( ) { }", "fn f(){}"),
     ("a . b", "a.b"),
@@ -40,7 +40,7 @@ const TIGHTEST: &[(&str, &str)] = &[
     ("a /// b\n c", "a #[doc=\" b\"]c"),
 ];
 
-/// Asserts the tightest text of the source's stream, and that it comes back.
+/// Asserts what the tightest text of the source's stream is, and that the stream comes back from it.
 fn check_tightest(rt: &(impl Abort + AllocGlobal), source: &str, want: &str) -> Result<(), Fail> {
     let stream = stream_of(rt, source)?;
     let text = laid_out(rt, &stream, &mut Always(Gap::Nothing))?;

@@ -1,4 +1,4 @@
--- What the lexer's steps answer is what the finders find.
+-- The steps of the lexer return what the finders find.
 use Rattle.std.proofs.Common.{◌≡◌, ℕ, ◌+◌, Bool, true, false, not, ◌&&◌, ◌==◌, cond, codes, List, [], ◌∷◌, ◌++◌, length}
 use Rattle.std.proofs.Common.{drop, Option, Some, None, refl, sym, ap, ◌∙◌, subst, arith, append_assoc, eqb-true}
 use Rattle.std.specs.Borrow.{Bor}
@@ -31,28 +31,28 @@ use Rattle.lexical.proofs.PieceLemmas.{from_start, piece_from_found}
 
 -- ---- what is found
 
--- one character that passes, where none of the fronts begins
+-- a character that passes is found, if none of the prefixes begins there
 pub one_found_not_at : (fronts : List (List ℕ)) (passes : ℕ → Bool) (text rest : List ℕ) (c : ℕ) → text ≡ c ∷ rest
     → begins_any fronts text ≡ false → passes c ≡ true
     → find (NotAt fronts (One passes)) text ≡ Some (c ∷ [], rest)
 unfolding find
 one_found_not_at fronts passes text rest c e plain h = cond-false _ _ _ plain ∙ one_found passes c text rest e h
 
--- the first character, by what it starts
+-- the first character is found, by what it says about the piece
 pub first_found : (s : PieceStart) {text rest : List ℕ} {c : ℕ} → text ≡ c ∷ rest → s ≡ piece_start c
     → find (One (is_of s)) text ≡ Some (c ∷ [], rest)
 first_found s {text} {rest} {c} e h = one_found (is_of s) c text rest e (of_start s c h)
 
--- a lone quote
+-- a lone quote is found exactly if `follows_quote` holds after it
 pub quote_found : {text rest : List ℕ} {c : ℕ} → text ≡ c ∷ rest → starts.Quote ≡ piece_start c
     → find_lone_quote text ≡ cond (follows_quote rest) (Some (39 ∷ [], rest)) None
 unfolding find
 quote_found {rest = rest} {c = c} e h =
     ap find_lone_quote (e ∙ ap (λ d. d ∷ rest) (eqb-true c 39 (of_start starts.Quote c h)))
 
--- ---- what a step answers
+-- ---- what a step returns
 
--- the kind and the cursor after it, by what was found
+-- the kind and the cursor after the piece are what was found
 pub read_as : (kind : List ℕ → List ℕ → Kind) (o : Answer) (answer : Found) (at end : Cursor) (k : PieceKind)
     (front : List ℕ)
     → answer ≡ tagged kind o → o ≡ Some (front, chars end.rest.now) → end.chars_before ≡ at.chars_before + length front
@@ -60,19 +60,19 @@ pub read_as : (kind : List ℕ → List ℕ → Kind) (o : Answer) (answer : Fou
 read_as kind o answer at end k front tags found count same lends =
     record { front = front; found = rw (tags, found, same); count = count; lends = lends }
 
--- the same, where one character was found
+-- the kind and the cursor after one character are what was found
 pub read_one : (kind : List ℕ → List ℕ → Kind) (o : Answer) (answer : Found) (at after : Cursor) (k : PieceKind) (c : ℕ)
     → answer ≡ tagged kind o → o ≡ Some (c ∷ [], chars after.rest.now) → after.chars_before ≡ at.chars_before + 1
     → kind_of k (c ∷ []) ≡ kind (c ∷ []) (chars after.rest.now) → LendsText k → IsFound answer at (k, after)
 read_one kind o answer at after k c = read_as kind o answer at after k (c ∷ [])
 
--- the first of two was found
+-- if the first of two was found, it is what was found
 pub read_first : (answer o u : Found) (at : Cursor) (x : PieceKind × Cursor) → answer ≡ or_found o u → IsFound o at x
     → IsFound answer at x
 read_first answer o u at x e h =
     record { front = h.front; found = e ∙ ap (λ o. or_found o u) h.found; count = h.count; lends = h.lends }
 
--- the second of two was found, if the first was not
+-- if the first of two was not found, the second is what was found
 pub second : {o answer u : Found} → o ≡ None → answer ≡ or_found o u → answer ≡ u
 second {u = u} none e = e ∙ ap (λ o. or_found o u) none
 
@@ -80,18 +80,18 @@ pub same_answers : {answer other : Found} (at : Cursor) (result : Option (PieceK
     → Answers other at result → Answers answer at result
 same_answers at result e h = subst (λ o. Answers o at result) (sym e) h
 
--- a text that starts so
+-- a text is read by what its first character says
 pub at_start : (first : Bool) (s : PieceStart) {text rest : List ℕ} {c : ℕ} → text ≡ c ∷ rest → s ≡ piece_start c
     → found first text ≡ found_from first s text
 at_start first s {text} {rest} {c} e is = from_start first text c rest s e (sym is)
 
--- a literal
+-- a literal that was read is what was found
 pub literal_read : (rule : Rule) (at end : Cursor) → Passes rule at end
     → IsFound (found_literal rule (chars at.rest.now)) at (kinds.Literal, end)
 literal_read rule at end h = read_as literal_kind (find rule (chars at.rest.now)) _ at end kinds.Literal h.front refl
     h.found h.count refl tt
 
--- an identifier, whose name follows `r#` or nothing
+-- an identifier that was read is what was found. Its name follows `r#` or nothing
 pub name_read : (raw : Bool) (at inside end : Cursor) (name : Bor (List ℕ))
     → chars at.rest.now ≡ raw_front raw ++ chars inside.rest.now
     → begins_with (codes "r#") (chars at.rest.now) ≡ raw → begins_any literal_prefixes (chars at.rest.now) ≡ false
@@ -113,7 +113,7 @@ name_read raw at inside end name split begins plain h between utf8 =
     by_raw true p q e = ap (λ x. Leaf (Name true (drop 2 x))) (sym e)
     by_raw false p q e = ap (λ x. Leaf (Name false x)) (sym e)
 
--- none, where nothing that a raw one may be called follows `r#`
+-- no identifier is found, if no allowed name follows `r#`
 pub name_lacks : (at inside : Cursor) → begins_any literal_prefixes (chars at.rest.now) ≡ false
     → Passes (Exactly (codes "r#")) at inside
     → find raw_name (chars inside.rest.now) ≡ None → found_identifier (chars at.rest.now) ≡ None
@@ -122,7 +122,7 @@ name_lacks at inside plain h none =
     let begins = ap (begins_with (codes "r#")) (past_text (codes "r#") at inside h).0 in
     rw (begins, plain, then_reads (Exactly (codes "r#")) raw_name at inside None h none)
 
--- a mark
+-- a mark that was read is what was found
 pub mark_read : (answer : Found) (at after : Cursor) (c : ℕ) (k : PieceKind)
     → answer ≡ tagged mark_kind (find mark (chars at.rest.now))
     → chars at.rest.now ≡ c ∷ chars after.rest.now → after.chars_before ≡ at.chars_before + 1
@@ -134,7 +134,7 @@ mark_read answer at after c k tags split one plain among other is =
     (and_from _ _ among (not_from_false _ other)))
     one (ap (λ k. kind_of k (c ∷ [])) is) (subst LendsText (sym is) tt)
 
--- ---- what a caller sees
+-- ---- what a caller of the lexer learns
 
 pub is_in : (rule : Rule) (A : Form) → Finds (find rule) A → (at end : Cursor) (text : List ℕ) → at.rest.now ≡ text
     → Passes rule at end
@@ -150,7 +150,7 @@ is_at rule A finds at end text bytes e h size =
     let whole = ap chars (sym e) ∙ is.0 in
     record { front = h.front; rest = chars end.rest.now; whole = whole; stands = is.1; size = size h.front whole }
 
--- what was read stands at the cursor
+-- what was read is a piece at the cursor
 pub read_stands : (first : Bool) (at : Cursor) (x : PieceKind × Cursor) (text : List ℕ) → chars at.rest.now ≡ text
     → (h : IsFound (found first (chars at.rest.now)) at x)
     → (text ≡ h.front ++ chars x.1.rest.now) × IsPiece first (kind_of x.0 h.front) h.front (chars x.1.rest.now)

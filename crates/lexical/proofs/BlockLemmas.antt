@@ -1,4 +1,4 @@
--- Block comments: what is found is all up to where so many of them end.
+-- Block comments: the finder finds the text up to the end of the outermost open one.
 use Rattle.std.proofs.Common.{◌≡◌, ℕ, zero, suc, false, List, [], ◌∷◌, ◌++◌, codes, Some, None, IfSome, refl, sym, ap}
 use Rattle.std.proofs.Common.{◌∙◌, arith, append_assoc}
 use Rattle.std.proofs.lemmas.Bool.{cond_both, or_from}
@@ -8,7 +8,7 @@ use Rattle.lexical.specs.Finder.{Answer, Finds, behind}
 use Rattle.lexical.proofs.FinderLemmas.{IsSplit, behind_sound}
 use Rattle.lexical.proofs.TextLemmas.{begins_splits}
 
--- ---- what the finder does at each sign and character
+-- ---- the finder at each sign and character
 
 pub behind_nothing : (o : Answer) → behind [] o ≡ o
 behind_nothing None = refl
@@ -34,7 +34,7 @@ unfolding find_ends
 at_other outer c [] h = refl
 at_other outer c (d ∷ text) h = grind (arith, h)
 
--- ---- what ends so many comments is found
+-- ---- each text that ends this many comments is found
 
 body_found : {body after : List ℕ} (outer : ℕ) → BlockBody body after
     → find_ends (suc outer) (body ++ after) ≡ behind body (find_ends (suc outer) after)
@@ -60,7 +60,7 @@ ends_found zero p r h = rw h refl
 ends_found (suc outer) p r h = rw
     (h.whole, append_assoc, body_found outer h.first, closed_found outer h.back r h.second) refl
 
--- ---- what is found ends so many
+-- ---- each text that is found ends this many comments
 
 closed : (outer : ℕ) (p r : List ℕ) → Ends outer p r → Closed outer (codes "*/" ++ p) r
 closed zero p r h = ap (λ x. codes "*/" ++ x) h

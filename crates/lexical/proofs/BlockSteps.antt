@@ -1,4 +1,4 @@
--- Steps within block comments.
+-- Steps inside block comments.
 use Rattle.std.proofs.Common.{◌≡◌, ℕ, zero, suc, ◌+◌, ◌-◌, ◌<◌, ◌≤◌, Bool, true, not, ◌||◌, ◌==◌, List, [], ◌∷◌, ◌++◌}
 use Rattle.std.proofs.Common.{codes, None, refl, sym, arith, add-one}
 use Rattle.std.specs.Str.{chars}
@@ -13,7 +13,7 @@ use Rattle.lexical.proofs.BlockLemmas.{behind_nothing, behind_behind, at_close, 
 use Rattle.lexical.proofs.RuleSteps.{lacks_text, past_text, steps}
 use Rattle.lexical.proofs.UnitSteps.{leads_past}
 
--- past a sign
+-- a step past a `*/` leaves one comment fewer open
 pub closes : (depth : ℕ) (at to : Cursor) → 0 < depth → Passes (Exactly (codes "*/")) at to
     → Leads (Ends depth) at (Ends (depth - 1)) to
 unfolding find
@@ -31,7 +31,7 @@ opens (suc outer) at to some h =
     leads_past (Exactly (codes "/*")) tt (Ends (suc outer)) (Ends (suc outer + 1)) at to h
     (λ p r is. rw (is, add-one) (at_open outer r))
 
--- past a character where none begins
+-- a step past a character at which no sign begins leaves as many comments open
 pub passes : (depth c : ℕ) (at to : Cursor) → 0 < depth → chars at.rest.now ≡ c ∷ chars to.rest.now
     → to.chars_before ≡ at.chars_before + 1
     → find (Exactly (codes "*/")) (chars at.rest.now) ≡ None → find (Exactly (codes "/*")) (chars at.rest.now) ≡ None
@@ -43,7 +43,7 @@ passes (suc outer) c at to some e one closed opened =
     (or_from _ _ (lacks_text (codes "*/") (chars at.rest.now) closed) refl) in
     record { front = c ∷ []; found = rw e (at_other outer c (chars to.rest.now) (rw e at plain)); count = one }
 
--- past characters where none can
+-- a character at which no sign can begin
 abbrev other : ℕ → Bool
 other c = not (c == 42 || c == 47)
 
@@ -61,18 +61,18 @@ runs zero at to some h = absurd (omega arith)
 runs (suc outer) at to some h =
     leads_past (Run other) tt (Ends (suc outer)) (Ends (suc outer)) at to h (λ p r is. run_ends outer p r is.each)
 
--- where the text ends
+-- at the end of the text an open comment has no end
 pub ends_at_end : (depth : ℕ) (text : List ℕ) → 0 < depth → text ≡ [] → find (Ends depth) text ≡ None
 unfolding find find_ends
 ends_at_end zero text some e = absurd (omega arith)
 ends_at_end (suc outer) text some e = rw e refl
 
--- where none is open any more
+-- if no comment is open, the end is here
 pub ends_none : (depth : ℕ) (at : Cursor) → depth ≤ 0 → Passes (Ends depth) at at
 unfolding find find_ends
 ends_none zero at none = record { front = []; found = refl; count = omega arith }
 ends_none (suc outer) at none = absurd (omega arith)
 
--- ---- all of them
+-- ---- all steps
 
 pub ruleset block_steps = (steps, past_text, closes, opens, passes)

@@ -1,4 +1,4 @@
--- Classes of characters among the bytes of a text.
+-- Counts the ASCII characters of a class among the bytes of a text.
 use Rattle.std.proofs.Common.{◌≡◌, ℕ, ◌+◌, ◌<◌, ◌≤◌, Bool, true, false, List, [], ◌∷◌, ◌++◌, length, take, drop, refl}
 use Rattle.std.proofs.Common.{sym, ap, ◌∙◌, subst, arith, length-append, Some, None}
 use Rattle.std.specs.List.{list_all}
@@ -20,7 +20,7 @@ use Rattle.lexical.proofs.RunLemmas.{GoesOn, run_stop}
 use Rattle.lexical.proofs.Scan.{run_boundary, run_front, bytes_of, run_over}
 use Rattle.lexical.proofs.TextLemmas.{all_pass, ascii_bytes}
 
--- kinds that are those of the class at each byte
+-- `kinds` are those of the class, if both agree on all bytes, which computes
 pub same_class : {given class : Class} (kinds : ℕ) → given ≡ class
     → agree_below (has_kind kinds) (ascii_in class) 256 ≡ true
     → (byte : ℕ) → byte < 256 → has_kind kinds byte ≡ ascii_in given byte
@@ -35,7 +35,7 @@ ascii_past class c high = and_left _ _ (le-ltb c 128 high)
 pub all_low : (class : Class) (cs : List ℕ) → list_all (ascii_in class) cs ≡ true → all_ascii cs ≡ true
 all_low class = all_pass _ _ (λ c is. (and_parts _ _ is).0)
 
--- so many bytes are of the run
+-- facts about the n bytes of the run
 module _ (class : Class) (at : Cursor) (bytes : List ℕ) (same : bytes ≡ at.rest.now) (utf8 : IsUtf8 bytes)
     (n : ℕ) (is_length : n ≡ length (while_front (ascii_in class) bytes)) where
   text_utf8 : IsUtf8 at.rest.now
@@ -47,7 +47,7 @@ module _ (class : Class) (at : Cursor) (bytes : List ℕ) (same : bytes ≡ at.r
   pub ascii_boundary : IsCharBoundary at.rest.now n
   ascii_boundary = run_boundary (ascii_in class) false (ascii_past class) at.rest.now text_utf8 n size
 
-  -- and as many characters are
+  -- these bytes are as many characters
   pub ascii_count : length (chars (take n at.rest.now)) ≡ n
   ascii_count =
       let front = while_front (ascii_in class) (chars at.rest.now) in
@@ -63,7 +63,7 @@ module _ (class : Class) (at : Cursor) (bytes : List ℕ) (same : bytes ≡ at.r
   ascii_run to rest count =
       run_over (ascii_in class) false (ascii_past class) at to text_utf8 n size rest (omega (arith, count, ascii_count))
 
--- ---- a run that goes on
+-- ---- a run that continues
 
 goes_past : (test : ℕ → Bool) (at end to : Cursor) (p : List ℕ) → GoesOn test at end
     → chars end.rest.now ≡ p ++ chars to.rest.now
@@ -94,7 +94,7 @@ past_one class at end to goes h =
     goes_past (is_in class) at end to h.front goes is.0 h.count
     (ap (list_all (is_in class)) is.1.1 ∙ and_from _ _ is.1.2 refl)
 
--- where no character of the class stands, the run ends
+-- if no character of the class is next, the run ends
 none_stands : (test : ℕ → Bool) (text : List ℕ) → find (One test) text ≡ None → first_passes test text ≡ false
 unfolding find
 none_stands test [] none = refl
@@ -106,7 +106,7 @@ pub past_all : (class : Class) (at end : Cursor) → GoesOn (is_in class) at end
 past_all class at end goes none =
     run_stop (is_in class) at end goes (none_stands (is_in class) (chars end.rest.now) none)
 
--- past a character, and then past others, less is left
+-- after one character and a run of others, less text is left
 pub less_left : (class : Class) (end mid to : Cursor) → Passes (One (is_in class)) end mid
     → Passes (Run (ascii_in class)) mid to
     → length (chars to.rest.now) < length (chars end.rest.now)

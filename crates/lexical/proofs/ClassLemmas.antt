@@ -1,4 +1,4 @@
--- Classes of characters: on ASCII, and which are apart.
+-- Classes of characters: on ASCII, and which classes have no character in common.
 use Rattle.std.proofs.Common.{◌≡◌, ℕ, ◌<◌, ◌⊎◌, Bool, true, false, not, cond, ◌||◌, ◌==◌, List, [], ◌∷◌, codes, refl}
 use Rattle.std.proofs.Common.{sym, ap, arith, ◌∙◌, subst, inl, inr, eqb-true}
 use Rattle.std.specs.Prelude.{if◌then◌else◌, get_or, map}
@@ -29,9 +29,9 @@ ident_start_ascii c low = agree_below_at is_ident_start (λ x. is_ascii_alphabet
 pub ident_continue_ascii : (c : ℕ) → c < 128 → is_ident_continue c ≡ (is_ascii_alphanumeric c || (c == 95))
 ident_continue_ascii c low = is_xid_continue-ascii c low
 
--- ---- one of a list
+-- ---- a character of a list
 
--- what holds of each in a list holds of what is in it
+-- a statement about all characters of a list holds for a character in the list
 pub any_of : (P : ℕ → Type 0) (ds : List ℕ) (c : ℕ) → AllByRecursion P ds → list_any (λ d. d == c) ds ≡ true → P c
 any_of P [] c all any = absurd (both_ways _ refl any)
 any_of P (d ∷ ds) c all any = elim (or_cases _ _ any) [
@@ -39,11 +39,11 @@ any_of P (d ∷ ds) c all any = elim (or_cases _ _ any) [
   | inr there ↦ any_of P ds c all.1 there
 ]
 
--- one class of characters is in another
+-- whether one class of characters is part of another
 abbrev pub Sub : (ℕ → Bool) → (ℕ → Bool) → Type 0
 Sub passes class = (c : ℕ) → passes c ≡ true → class c ≡ true
 
--- the characters of a list
+-- the characters of a list are in a class, if all of them pass
 pub sub_listed : (class : ℕ → Bool) (ds : List ℕ) → list_all class ds ≡ true
     → Sub (λ c. list_any (λ d. d == c) ds) class
 sub_listed class [] all c any = absurd (both_ways _ refl any)
@@ -54,7 +54,7 @@ sub_listed class (d ∷ ds) all c any =
       | inr there ↦ sub_listed class ds parts.1 c there
     ]
 
--- ---- how a piece starts
+-- ---- what the first character of a piece says
 
 pub start_white : (c : ℕ) → is_white c ≡ true → piece_start c ≡ starts.White
 start_white c white = cond-true _ _ _ white
@@ -68,7 +68,7 @@ start_letter c letter =
 pub digit_below : (c : ℕ) → is_ascii_digit c ≡ true → c < 128
 digit_below c h = grind arith
 
--- what passes each digit
+-- a class contains the digits, if it does so on ASCII, which computes
 pub sub_digits : (class : ℕ → Bool) → agree_below (λ x. not (is_ascii_digit x) || class x) (λ x. true) 128 ≡ true
     → Sub is_ascii_digit class
 sub_digits class all c h =
@@ -91,11 +91,11 @@ pub start_closer : (c : ℕ) → is_closer c ≡ true → piece_start c ≡ star
 unfolding unicode_ident
 start_closer c h = any_of (λ d. piece_start d ≡ starts.Closer) (codes ")]}") c (refl, (refl, (refl, tt))) h
 
--- how a piece starts with a mark
+-- what a mark says as the first character of a piece
 abbrev mark_start : ℕ → PieceStart
 mark_start c = if c == 47 then starts.Slash else if c == 39 then starts.Quote else starts.Mark
 
--- a mark, but `'`
+-- a mark except `'` says that a mark or a comment begins there
 pub start_mark : (c : ℕ) → is_mark c ≡ true → (c == 39) ≡ false
     → (piece_start c ≡ starts.Mark) ⊎ (piece_start c ≡ starts.Slash)
 unfolding unicode_ident
@@ -122,9 +122,9 @@ pub start_front_mark : piece_start 0xFEFF ≡ starts.FrontMark
 unfolding unicode_ident
 start_front_mark = refl
 
--- ---- what a start tells
+-- ---- what `PieceStart` says about the character
 
--- of which class the character is, at each start
+-- the class of characters that a `PieceStart` means
 abbrev pub is_of : PieceStart → ℕ → Bool
 is_of starts.White c = is_white c
 is_of starts.Letter c = is_ident_start c
@@ -151,7 +151,7 @@ of_start s c h =
     (of_choice c (c == 39) _ _ (λ h. h) (of_choice c (c == 34) _ _ (λ h. h)
     (of_choice c (c == 0xFEFF) _ _ (λ h. h) (of_choice c (is_mark c) _ _ (λ h. h) refl))))))))))
 
--- characters that start otherwise differ
+-- characters that say different things are different
 other_start : (s t : PieceStart) (c d : ℕ) → s ≡ piece_start c → t ≡ piece_start d → (s ≡ t → ⊥) → (c == d) ≡ false
 other_start s t c d h e differs =
     false_from_ne_true _ (λ same. differs (h ∙ (ap piece_start (eqb-true c d same) ∙ sym e)))
@@ -159,7 +159,7 @@ other_start s t c d h e differs =
 pub mark_not_quote : (c : ℕ) → starts.Mark ≡ piece_start c → (c == 39) ≡ false
 mark_not_quote c h = other_start starts.Mark starts.Quote c 39 h (sym start_quote) (λ e. cc)
 
--- no comment begins with a mark that isn't `/`
+-- no comment begins with a mark except `/`
 pub mark_plain : (c : ℕ) (text rest : List ℕ) → text ≡ c ∷ rest → starts.Mark ≡ piece_start c
     → begins_any comment_fronts text ≡ false
 mark_plain c text rest e h =
@@ -168,7 +168,7 @@ mark_plain c text rest e h =
 
 -- ---- the table
 
--- what each byte begins, by computing
+-- the table has what each byte says, which computes
 table_is : STARTS ≡ map byte_starts (range_with_len 0 256)
 unfolding unicode_ident
 table_is = refl
@@ -177,7 +177,7 @@ pub byte_start_is : (byte : ℕ) → byte < 256 → get_or STARTS byte starts.Wh
 byte_start_is byte low = ap (λ xs. get_or xs byte starts.White) table_is
     ∙ get_or-map-range_with_len byte_starts 0 256 byte byte starts.White low (omega arith)
 
--- a byte that tells something is ASCII, and tells of itself as a character
+-- a byte that says something is ASCII, and says the same as a character
 pub told_low : (s : PieceStart) (b : ℕ) → s ≡ byte_starts b → (s ≡ starts.Other → ⊥) → (b < 128) × (s ≡ piece_start b)
 told_low s b h tells = elim (cases_lt b 128) [
   | inl low ↦ (low, h ∙ cond-true _ _ _ (lt-ltb b 128 low))

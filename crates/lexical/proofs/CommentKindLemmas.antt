@@ -1,4 +1,4 @@
--- How comments begin and end, and what kind of piece they are.
+-- How comments begin and end, and which kind of piece they are.
 use Rattle.std.proofs.Common.{◌≡◌, ℕ, Bool, true, false, ◌&&◌, ◌-◌, List, [], ◌∷◌, ◌++◌, codes, length, take, drop}
 use Rattle.std.proofs.Common.{Some, inl, inr, refl, sym, ap, ◌∙◌, arith, append-nil, length-append}
 use Rattle.std.specs.Str.{encode_utf8_all}
@@ -21,18 +21,18 @@ use Rattle.lexical.proofs.TextLemmas.{ascii_bytes, begins_each, ends_splits, end
 
 -- ---- comments
 
--- no text begins with a line comment and a block comment
+-- no text begins both with a line comment and with a block comment
 pub clear_comment : Clear comment
 clear_comment = assumption
 
 pub finds_comment : Finds (find comment) Comment
 finds_comment = exact comment clear_comment
 
--- what a front and more begins with
+-- a piece with a fixed prefix is that prefix and a rest
 pub front_is : {A : Form} {front p r : List ℕ} (h : Then (Exactly front) A p r) → p ≡ front ++ h.back
 front_is h = h.whole ∙ ap (λ x. x ++ h.back) h.first
 
--- a comment begins with `/`, and where it stands no mark does
+-- a comment begins with `/`, and a comment prefix begins there before any text
 pub comment_first : (p r : List ℕ) → Comment p r
     → (q : List ℕ) × (p ≡ 47 ∷ q) × ((s : List ℕ) → begins_any comment_fronts (p ++ s) ≡ true)
 comment_first p r (inl h) = (47 ∷ h.back, front_is h, λ s. ap (λ x. begins_any comment_fronts (x ++ s)) (front_is h))
@@ -40,7 +40,7 @@ comment_first p r (inr h) = (42 ∷ h.back, front_is h, λ s. ap (λ x. begins_a
 
 -- ---- how doc comments begin
 
--- three ASCII characters, the last no CR, and what follows them
+-- the first three characters of a doc comment are ASCII, and the third is no CR
 pub record DocFront (p : List ℕ) : Type 0 where
   pub front : List ℕ
   pub whole : p ≡ front ++ drop 3 p
@@ -73,13 +73,13 @@ doc_front p h = elim (or_cases (is_inner p) _ h) [
 pub closing_block : (p r : List ℕ) → begins_with (codes "/*") p ≡ true → closing p r ≡ codes "*/"
 closing_block p r block = rw block refl
 
--- before LF a line loses the CR at its end
+-- before LF the end of a line comment is the CR that it ends with, if any
 pub closing_line : (p r : List ℕ) → is_doc p ≡ true → begins_with (codes "/*") p ≡ false
     → begins_with (codes "\n") r ≡ true → closing p r ≡ last_return (drop 3 p)
 closing_line p r doc line feed = let last = (doc_front p doc).last in
     rw (line, feed, and-true (ends_with 13 p), last) refl
 
--- elsewhere nothing
+-- otherwise the end of a line comment is empty
 pub closing_none : (p r : List ℕ) → begins_with (codes "/*") p ≡ false
     → (ends_with 13 p && begins_with (codes "\n") r) ≡ false → closing p r ≡ []
 closing_none p r line none = rw (line, none) refl
@@ -107,7 +107,7 @@ text_is p r text e =
     omega (arith, ap length e, length-drop 3 p, length-append text (closing p r)) in
     ap (take (length p - 3 - length (closing p r))) e ∙ take_at text (closing p r) _ size
 
--- what follows the three characters is the text and what closes it
+-- the text after the first three characters is the doc text and the end
 pub doc_back : (p r : List ℕ) → Comment p r → is_doc p ≡ true → drop 3 p ≡ doc_text p r ++ closing p r
 doc_back p r h doc = let closed = doc_closed p r h doc in closed.1
     ∙ ap (λ x. x ++ closing p r) (sym (text_is p r closed.0 closed.1))

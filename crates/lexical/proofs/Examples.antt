@@ -1,4 +1,4 @@
--- Examples of pieces, by computation.
+-- Examples of pieces, proved by computation.
 use Prim.Native.String.{String}
 use Rattle.std.proofs.Common.{◌≡◌, Bool, true, false, List, ℕ, [], ◌∷◌, ◌++◌, codes, Some, None, refl}
 use Rattle.std.specs.List.{AllByRecursion}
@@ -14,7 +14,7 @@ use Rattle.lexical.specs.Rule.{find}
 use Rattle.lexical.specs.PieceFinder.{found}
 use Rattle.lexical.proofs.PieceLemmas.{piece_from_found, none_from_found}
 
--- a text that is a piece of a kind before another, and a text that no piece begins
+-- a piece of a kind before some text, or a text at which no piece begins
 data Example : Type 0 where
   Piece : Kind → String → String → Example
   NoPiece : String → Example
@@ -23,7 +23,7 @@ abbrev Holds : Example → Type 0
 Holds (Piece kind p r) = IsPiece false kind (codes p) (codes r)
 Holds (NoPiece text) = HasNoPiece false (codes text)
 
--- what is found there computes to that
+-- whether the finder computes to what the example says
 abbrev Computes : Example → Type 0
 Computes (Piece kind p r) = found false (codes p ++ codes r) ≡ Some (kind, codes p, codes r)
 Computes (NoPiece text) = found false (codes text) ≡ None
@@ -39,7 +39,7 @@ each_holds (NoPiece text ∷ more) each = (none_from_found false _ each.0, each_
 computed : (examples : List Example) → AllByRecursion Computes examples → AllHold examples
 computed examples each = record { each = each_holds examples each }
 
--- the examples of names, of marks with whether they are Joint, and of literals
+-- examples of names, of marks (Joint or not) and of literals
 abbrev name : Bool → String → String → String → Example
 name raw text p r = Piece (Leaf (Name raw (codes text))) p r
 
@@ -56,10 +56,10 @@ gaps = computed _ assumption
 
 marks : AllHold (
     mark 43 true "+" "="
-    -- none is Joint before a comment or a space
+    -- no mark is Joint before a comment or a space
     ∷ mark 43 false "+" "/**/-"
     ∷ mark 126 false "~" " // c"
-    -- and each is before `'`, whatever stands there
+    -- each mark is Joint before `'`, whatever follows
     ∷ mark 43 true "+" "'b'"
     ∷ [])
 unfolding unicode_ident found find
@@ -67,17 +67,17 @@ marks = computed _ assumption
 
 -- ---- identifiers
 
--- one ends before a mark, and may begin with a letter past ASCII
+-- a name ends before a mark, and may begin with a letter past ASCII
 names : AllHold (name false "a" "a" "+" ∷ name false "é" "é" "(" ∷ [])
 unfolding unicode_ident found find find_many
 names = computed _ assumption
 
--- a front of a name is none
+-- a prefix of a name is no name
 not_a_front : IsPiece false (Leaf (Name false (codes "a"))) (codes "a") (codes "b") → ⊥
 unfolding unicode_ident
 not_a_front h = both_ways (is_ident_continue 98) h.1.0.0.second.stops refl
 
--- nothing stands where a literal with letters only begins, nor at the end
+-- no piece is where only a prefix of a literal begins, nor at the end
 no_names : AllHold (NoPiece "b\"" ∷ NoPiece "" ∷ [])
 unfolding unicode_ident found find find_many
 no_names = computed _ assumption
@@ -85,7 +85,7 @@ no_names = computed _ assumption
 raw_names : AllHold (
     name true "a" "r#a" "+"
     ∷ name true "dyn" "r#dyn" ""
-    -- the prefixes are asked of the whole text, and not of the name after `r#`
+    -- literal prefixes count at the start of the whole text, not after `r#`
     ∷ name true "b" "r#b" "\"x\""
     ∷ NoPiece "r#_"
     ∷ NoPiece "r#1"
@@ -100,9 +100,9 @@ lone_quotes : AllHold (
     mark 39 true "'" "a "
     ∷ mark 39 true "'" "_"
     ∷ mark 39 true "'" "r#prefix#lifetime"
-    -- the identifier after it is read without the prefixes
+    -- the identifier after a lone quote may begin like a literal
     ∷ mark 39 true "'" "b\"x\""
-    -- and is none where `r#` begins and no raw one stands
+    -- no lone quote is before `r#` if no raw identifier begins there
     ∷ NoPiece "'r#1"
     ∷ NoPiece "' a"
     ∷ NoPiece "'prefix#lifetime"
@@ -115,7 +115,7 @@ lone_quotes = computed _ assumption
 
 -- ---- delimiters
 
--- an opener stands, but where `(/*ERROR*/)` begins that literal
+-- `(` is an opener, except in `(/*ERROR*/)`, which is a literal
 delimiters : AllHold (
     Piece (Open 40) "(" "/*ERROR*/ )"
     ∷ literal "(/*ERROR*/)" "x"
@@ -147,7 +147,7 @@ plain_comments : AllHold (
 unfolding unicode_ident found find find_many find_ends
 plain_comments = computed _ assumption
 
--- block comments that do not end
+-- block comments that are not closed
 unclosed : AllHold (NoPiece "/*/" ∷ NoPiece "/*/*/" ∷ NoPiece "/* /* */ x" ∷ [])
 unfolding unicode_ident found find find_many find_ends
 unclosed = computed _ assumption
@@ -157,7 +157,7 @@ doc_comments : AllHold (
     ∷ Piece (Doc true (codes " doc")) "//! doc" ""
     ∷ Piece (Doc false (codes "\r\n")) "/**\r\n*/" ""
     ∷ Piece (Doc true []) "/*!*/" ""
-    -- a bare CR in what would be their text
+    -- a doc comment is rejected if its text has a CR with no LF after it
     ∷ NoPiece "///\r"
     ∷ NoPiece "///\r\r\n"
     ∷ NoPiece "/** a\r*/"
@@ -169,13 +169,13 @@ doc_comments = computed _ assumption
 
 strings : AllHold (
     literal "\"a\\n\"" "+"
-    -- the suffix is the longest name, and not `b"`
+    -- the suffix is the longest name, and not the start of another literal
     ∷ literal "\"a\"b" "\"x\""
-    -- `"`, a backslash, CR LF, four spaces, `x"`
+    -- a backslash before CR LF, with white space after it
     ∷ literal "\"\\\r\n    x\"" ""
-    -- and CR among the spaces
+    -- a CR among the white space
     ∷ NoPiece "\"\\\r\n  \rx\""
-    -- seven digits, no character, `_` first, no digits
+    -- seven digits; no character; `_` first; no digits
     ∷ NoPiece "\"\\u{0000000}\""
     ∷ NoPiece "\"\\u{999999}\""
     ∷ NoPiece "\"\\u{_0}\""
@@ -184,7 +184,7 @@ strings : AllHold (
 unfolding unicode_ident found find find_many
 strings = computed _ assumption
 
--- no byte past ASCII, and no zero in a string of C
+-- no character past ASCII in a byte string, and no zero in a C string
 bytes_and_c_strings : AllHold (
     NoPiece "b\"é\""
     ∷ NoPiece "c\"\\0\""
@@ -197,7 +197,7 @@ bytes_and_c_strings = computed _ assumption
 raw_strings : AllHold (
     literal "cr##\"Hello \"world\"!\"##" ""
     ∷ literal "r#\"\"#r" ""
-    -- too few hashes
+    -- too few hash signs
     ∷ NoPiece "br##\"\"#"
     ∷ [])
 unfolding unicode_ident found find find_many
@@ -208,7 +208,7 @@ single_quotes : AllHold (
     ∷ literal "'\\''" ""
     ∷ literal "' '" ""
     ∷ literal "b'\\''u8" ""
-    -- what only an escape may give: a quote, a line end, a tab
+    -- characters that need an escape: a quote, a line end, a tab
     ∷ NoPiece "'''x"
     ∷ NoPiece "'\n'"
     ∷ NoPiece "'\r'"
@@ -217,7 +217,7 @@ single_quotes : AllHold (
     ∷ NoPiece "b'\n'"
     ∷ NoPiece "b'\r'"
     ∷ NoPiece "b'\t'"
-    -- a backslash and a line end give no character
+    -- a backslash and a line end are no character
     ∷ NoPiece "'\\\n'"
     -- two characters, and a byte past ASCII
     ∷ NoPiece "'\r\n'"
@@ -230,7 +230,7 @@ single_quotes = computed _ assumption
 
 dots : AllHold (
     literal "1." ""
-    -- a dot before a name is none of the number
+    -- a dot before a name does not belong to the number
     ∷ literal "1" ".f32"
     ∷ literal "1" "._0"
     ∷ literal "1" "..2"
@@ -241,11 +241,11 @@ dots = computed _ assumption
 
 exponents : AllHold (
     literal "1_0_.5__e_+_6_f64" " "
-    -- what looks like an exponent is a suffix where no digit follows the sign
+    -- a suffix that looks like an exponent without digits after its sign
     ∷ literal "1.0e" "+-5"
     ∷ literal "0E" "--0"
     ∷ literal "0.0ECMA" ""
-    -- a plain number may have one
+    -- a number without a dot may have an exponent
     ∷ literal "1e5" ""
     ∷ [])
 unfolding unicode_ident found find number
@@ -256,9 +256,9 @@ integers : AllHold (
     ∷ literal "0o0A" ""
     ∷ literal "0x1e" "+5"
     ∷ literal "0b1" ".0"
-    -- only a small letter makes a prefix
+    -- only a lower case letter makes a prefix
     ∷ literal "0X1" ""
-    -- a digit that is too large bars the integer, and it does not fall back to a decimal one
+    -- a digit that is too large for the base makes no decimal integer instead
     ∷ NoPiece "0b12"
     ∷ NoPiece "0x_"
     ∷ NoPiece "0xg"
@@ -266,14 +266,14 @@ integers : AllHold (
 unfolding unicode_ident found find number
 integers = computed _ assumption
 
--- before U+0301, which goes on with an identifier and begins none
+-- numbers before U+0301, which continues an identifier but begins none
 accents : AllHold (
-    -- no float stands, and the integer ends before the dot
+    -- no float begins there, and the integer ends before the dot
     literal "1" ".5́"
     ∷ NoPiece "5́"
-    -- with an exponent no float stands either, and the suffix of the integer takes all
+    -- no float with an exponent begins there, and the suffix of the integer takes everything
     ∷ literal "1e5́" ""
-    -- where an exponent stands it is taken, also where no float stands then
+    -- an exponent is read if there is one, even if then no float is there
     ∷ literal "1" ".0e5́"
     ∷ [])
 unfolding unicode_ident found find number
@@ -281,12 +281,12 @@ accents = computed _ assumption
 
 -- why no line may be broken after a mark or a number
 broken_lines : AllHold (
-    -- `1` and two dots; where the line ends after the first dot, that is the number's
+    -- `1` and two dots: if the line ends after the first dot, that dot belongs to the number
     literal "1." "\n.2"
-    -- `1`, `.`, `5e`, `+`, and the name `_5` with U+0301
+    -- five pieces: `1`, `.`, `5e`, `+` and the name `_5` with U+0301
     ∷ literal "1" ".5e+_5́"
     ∷ literal "5e" "+_5́"
-    -- where the line ends after `5e`, no exponent stands there and a float does
+    -- if the line ends after `5e`, no exponent is there, but a float is
     ∷ literal "1.5e" "\n+_5́"
     ∷ [])
 unfolding unicode_ident found find number

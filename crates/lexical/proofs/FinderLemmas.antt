@@ -1,4 +1,4 @@
--- Each word on forms has a finder.
+-- Each way to make a form has a finder.
 use Rattle.std.proofs.Common.{◌≡◌, ℕ, Bool, true, false, not, ◌==◌, List, [], ◌∷◌, ◌++◌, Some, None, IfSome, IsTrue}
 use Rattle.std.proofs.Common.{refl, sym, ap, ap₂, ◌∙◌, subst, arith, append_assoc, append-nil, eqb-true, eq-eqb}
 use Rattle.std.specs.List.{list_all}
@@ -10,11 +10,11 @@ use Rattle.lexical.specs.Finder.{Answer, Finder, Finds, while_front, while_rest,
 use Rattle.lexical.specs.Finder.{find_then, find_if, find_not_at, find_not_before, find_where, find_one, find_run}
 use Rattle.lexical.specs.Finder.{find_text}
 
--- what was found is of the form
+-- whether the text is split into a piece of the form and a rest
 abbrev pub IsSplit : Form → List ℕ → List ℕ × List ℕ → Type 0
 IsSplit A text x = (text ≡ x.0 ++ x.1) × A x.0 x.1
 
--- ---- what every finder gives
+-- ---- facts about every finder
 
 pub found_is : (f : Finder) (A : Form) → Finds f A → (text p r : List ℕ) → f text ≡ Some (p, r)
     → (text ≡ p ++ r) × A p r
@@ -26,12 +26,12 @@ none_is f A h text e p r whole is = cc (h.complete p r is)
 pub none_found : (f : Finder) (A : Form) → Finds f A → (text : List ℕ) → HasNone A text → f text ≡ None
 none_found f A h text none = grind (arith, h.sound text, none)
 
--- at most one split of a text is a piece of the form
+-- at most one prefix of a text is a piece of the form
 pub one_split : (f : Finder) (A : Form) → Finds f A → (p q r s : List ℕ) → A p r → A q s → p ++ r ≡ q ++ s
     → (p ≡ q) × (r ≡ s)
 one_split f A h p q r s is other e = some_pair_parts p q r s (sym (h.complete p r is) ∙ (ap f e ∙ h.complete q s other))
 
--- forms with the same pieces
+-- a finder of one form finds another one that has the same pieces
 pub finds_same : (f : Finder) (A B : Form) → Finds f A → ((p r : List ℕ) → A p r → B p r)
     → ((p r : List ℕ) → B p r → A p r) → Finds f B
 finds_same f A B h to from = record {
@@ -41,7 +41,7 @@ finds_same f A B h to from = record {
 
 -- ---- `Next`, `Then`
 
--- what was found, behind a front
+-- an answer with a prefix put before it is a piece of the second form
 pub behind_sound : (A B : Form) (front text : List ℕ) → ((p r : List ℕ) → text ≡ p ++ r → A p r → B (front ++ p) r)
     → (o : Answer) → IfSome o (IsSplit A text) → IfSome (behind front o) (IsSplit B (front ++ text))
 behind_sound A B front text step None is = tt
@@ -69,7 +69,7 @@ finds_next f g A B h j = record {
 pub finds_then : (f g : Finder) (A B : Form) → Finds f A → Finds g B → Finds (find_then f g) (Then A B)
 finds_then f g A B h j = finds_next f (λ front. g) A (λ front. B) h (λ front. j)
 
--- ---- a form where this holds
+-- ---- a form with a condition
 
 pub finds_if : (holds : Bool) (f : Finder) (A : Form) → Finds f A
     → Finds (find_if holds f) (λ p r. IsTrue holds × A p r)
@@ -125,7 +125,7 @@ pub while_rest_none : (passes : ℕ → Bool) (r : List ℕ) → first_passes pa
 while_rest_none passes [] stops = (refl, refl)
 while_rest_none passes (c ∷ r) stops = (cond-false _ _ _ stops, cond-false _ _ _ stops)
 
--- past characters that pass the run goes on
+-- after characters that pass, the run continues
 pub while_more : (passes : ℕ → Bool) (q r : List ℕ) → list_all passes q ≡ true
     → (while_front passes (q ++ r) ≡ q ++ while_front passes r) × (while_rest passes (q ++ r) ≡ while_rest passes r)
 while_more passes [] r all = (refl, refl)
@@ -161,7 +161,7 @@ finds_text [] = record {
   complete =
       λ p r is. subst (λ q. find_text [] (q ++ r) ≡ Some (q, r)) (sym is) refl;
 }
--- its first character and then the others
+-- a text is its first character and then the others
 finds_text (c ∷ front) = finds_same (find_text (c ∷ front)) (Then (One (λ d. d == c)) (Exactly front))
     (Exactly (c ∷ front))
     (finds_then (find_one (λ d. d == c)) (find_text front) (One (λ d. d == c)) (Exactly front) (finds_one (λ d. d == c))

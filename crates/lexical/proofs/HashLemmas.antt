@@ -12,11 +12,11 @@ use Rattle.lexical.specs.declared.cursor.Cursor.{Cursor}
 use Rattle.lexical.proofs.RuleSteps.{passed, IsBetween}
 use Rattle.lexical.proofs.TextLemmas.{all_pass, encode_all_ascii}
 
--- all the hash signs
+-- all hash signs there
 abbrev pub signs : Rule
 signs = Run (λ c. c == 35)
 
--- the text of the hash signs that were passed
+-- the bytes of the hash signs that were passed are their characters
 pub signs_text : (at to : Cursor) (h : Passes signs at to) (bytes : List ℕ) → IsUtf8 bytes
     → IsBetween (chars bytes) at to
     → (chars bytes ≡ bytes) × (bytes ≡ h.front) × (all_ascii bytes ≡ true)
@@ -30,7 +30,7 @@ signs_text at to h bytes utf8 between =
 
 -- ---- units
 
--- a character that is allowed is one, where what closes the string doesn't begin
+-- a character that is allowed is a unit, if the text that closes the string does not begin there
 pub raw_one : (allowed : ℕ → Bool) (hashes text rest : List ℕ) (c : ℕ) → text ≡ c ∷ rest
     → (c ≡ 34 → begins_with hashes rest ≡ false)
     → c ≢ 13 → allowed c ≡ true → find (raw_unit allowed (34 ∷ hashes)) text ≡ Some (c ∷ [], rest)

@@ -1,4 +1,4 @@
--- Words of 8 bytes, byte by byte: what is done to a word is done to each of its bytes.
+-- Words of 8 bytes, byte by byte: an operation on a word is an operation on each of its bytes.
 use Rattle.std.proofs.Common.{◌≡◌, ℕ, zero, suc, ◌+◌, ◌-◌, ◌*◌, ◌/◌, ◌%◌, ◌^◌, ◌<◌, ◌≤◌, Bool, true, false, cond}
 use Rattle.std.proofs.Common.{List, [], ◌∷◌, length, length-drop, drop-drop, take, drop, get_or, nat_lt, nat_eq}
 use Rattle.std.proofs.Common.{refl, sym, ap, ap₂, ◌∙◌, subst, arith, w64}
@@ -15,11 +15,11 @@ use Rattle.lexical.specs.Finder.{while_front}
 use Rattle.lexical.specs.Word.{name_stop, word_of}
 use Rattle.lexical.specs.declared.bytes.Class.TheVariants.{IdentifierContinue}
 
--- each of them is a byte
+-- whether each number of the list is a byte
 abbrev pub AreBytes : List ℕ → Type 0
 AreBytes bytes = (i : ℕ) → get_or bytes i 0 < 256
 
--- whether bytes come from bytes
+-- whether the function maps bytes to bytes
 abbrev pub fits : (ℕ → ℕ) → Bool
 fits f = agree_below (λ b. nat_lt (f b) 256) (λ b. true) 256
 
@@ -63,7 +63,7 @@ same_each f g same (b ∷ bytes) small =
     ap₂ (λ x y. x * 256 + y) (same_each f g same bytes (λ i. small (suc i)))
     (eqb-true (f b) (g b) (agree_below_at (λ b. nat_eq (f b) (g b)) (λ b. true) 256 b same (small 0)))
 
--- the word of 8 bytes that are all this one
+-- the word of n bytes that all equal k
 abbrev pub repeated : ℕ → ℕ → ℕ
 repeated k zero = 0
 repeated k (suc n) = repeated k n * 256 + k
@@ -72,7 +72,7 @@ pub each_is : (k : ℕ) (bytes : List ℕ) → word_of (λ b. k) bytes ≡ repea
 each_is k [] = refl
 each_is k (b ∷ bytes) = ap (λ x. x * 256 + k) (each_is k bytes)
 
--- all bits of a word turned over
+-- the word with all bits inverted
 pub not_each : (f : ℕ → ℕ) → fits f ≡ true → (bytes : List ℕ) → AreBytes bytes
     → word_of f bytes + word_of (λ b. 255 - f b) bytes ≡ repeated 255 (length bytes)
 not_each f h [] small = refl
@@ -94,7 +94,7 @@ read (a ∷ b ∷ c ∷ d ∷ e ∷ f ∷ g ∷ h ∷ x ∷ bytes) l = absurd (o
 
 -- ---- names
 
--- what becomes of a byte
+-- the operations on a byte
 abbrev pub low : ℕ → ℕ
 low b = bit_and b 127
 
@@ -116,7 +116,7 @@ on b = bit_xor (bit_xor (letter b) (digit b)) (underscore b)
 abbrev stop : ℕ → ℕ
 stop b = bit_and (bit_or (255 - on b) b) 128
 
--- and so of a word
+-- the operations on a word
 abbrev pub low_word : ℕ → ℕ
 low_word word = bit_and word 0x7F7F_7F7F_7F7F_7F7F
 
@@ -137,7 +137,7 @@ stops_are : agree_below (λ b. nat_eq (stop b) (name_stop b)) (λ b. true) 256 �
 unfolding unicode_ident
 stops_are = refl
 
--- of 8 bytes
+-- the operations on a word of these 8 bytes
 module _ (bytes : List ℕ) (l : length bytes ≡ 8) (are : AreBytes bytes) (word : ℕ)
     (is : word ≡ from_le_bytes w64 bytes) where
   constant : (k n : ℕ) → n ≡ repeated k 8 → n ≡ word_of (λ b. k) bytes
@@ -190,9 +190,9 @@ module _ (bytes : List ℕ) (l : length bytes ≡ 8) (are : AreBytes bytes) (wor
       ∙ and_each (λ b. bit_or (255 - on b) b) (λ b. 128) refl refl bytes are
       ∙ same_each stop name_stop stops_are bytes are
 
--- ---- the lowest bit of a word that is set
+-- ---- the lowest bit that is set
 
--- so many bits have so many bytes
+-- the number of bits of n bytes
 abbrev pub eights : ℕ → ℕ
 eights zero = zero
 eights (suc n) = suc (suc (suc (suc (suc (suc (suc (suc (eights n))))))))
@@ -233,7 +233,7 @@ at_top k y =
     ∙ ap suc (even _ (y * 2 + 1) _ (omega arith)
     ∙ ap suc (odd _ y _ (omega arith))))))))
 
--- whether a name goes on with the byte
+-- whether an ASCII name continues with the byte
 abbrev pub continues : ℕ → Bool
 continues = ascii_in IdentifierContinue
 
@@ -246,7 +246,7 @@ one_more : (on : Bool) (b word k : ℕ) (front : List ℕ) → count_trailing_ze
 one_more true b word k front rest = ap (λ n. n / 8) (past_byte k word) ∙ eight_more (count_trailing_zeros k word) _ rest
 one_more false b word k front rest = ap (λ n. n / 8) (at_top k word)
 
--- where the first byte stands that doesn't pass, from the lowest bit that is set
+-- the lowest bit that is set gives the index of the first byte that does not pass
 pub first_stop : (test : ℕ → Bool) (bytes : List ℕ)
     → count_trailing_zeros (eights (length bytes)) (word_of (λ b. cond (test b) 0 128) bytes) / 8
     ≡ length (while_front test bytes)
@@ -254,7 +254,7 @@ unfolding count_trailing_zeros
 first_stop test [] = refl
 first_stop test (b ∷ bytes) = one_more (test b) b _ _ _ (first_stop test bytes)
 
--- by what was read of 8 bytes
+-- the word gives the number of bytes that continue a name
 pub name_in_word : (bytes : List ℕ) → length bytes ≡ 8 → AreBytes bytes → (word : ℕ) → word ≡ from_le_bytes w64 bytes
     → trailing_zeros w64 (stop_word word) / 8 ≡ length (while_front continues bytes)
 name_in_word bytes l are word is =
@@ -263,7 +263,7 @@ name_in_word bytes l are word is =
     (λ n. count_trailing_zeros (eights n) (word_of name_stop bytes) / 8 ≡ length (while_front continues bytes)) l
     (first_stop continues bytes)
 
--- where none is set
+-- if no bit is set, all 8 bytes continue a name
 pub name_past_word : (bytes : List ℕ) → length bytes ≡ 8 → AreBytes bytes → (word : ℕ) → word ≡ from_le_bytes w64 bytes
     → stop_word word ≡ 0 → 8 ≡ length (while_front continues bytes)
 name_past_word bytes l are word is none =
@@ -276,15 +276,15 @@ name_in_word_ends word some =
     let at = bit_at-trailing_zeros w64 (stop_word word) (omega (arith, some)) (omega (arith, le)) in
     omega (arith, at.0)
 
--- no sum is too large
+-- no sum overflows
 pub small_word_low : (word : ℕ) → small_word word < 2 ^ 63
 small_word_low word =
     let le = and_le_r word 0x7F7F_7F7F_7F7F_7F7F in
     or_lt 63 (low_word word) 0x2020_2020_2020_2020 (omega (arith, le)) (omega arith)
 
--- ---- a run, counted in a front of the bytes
+-- ---- a run, counted in a prefix of the bytes
 
--- what is counted there, and what goes on
+-- what is counted in the prefix, and whether the run continues after it
 counted_or_not : (test : ℕ → Bool) (n b : ℕ) (bytes : List ℕ) (on : Bool) → test b ≡ on
     → (length (while_front test (take n bytes)) ≤ length bytes)
     × (length (while_front test (take n bytes))
@@ -308,7 +308,7 @@ counted_front test zero bytes = (omega arith, omega arith)
 counted_front test (suc n) [] = (omega arith, omega arith)
 counted_front test (suc n) (b ∷ bytes) = counted_or_not test n b bytes (test b) refl (counted_front test n bytes)
 
--- after so many bytes that pass, by what was counted in the next word
+-- the run after n bytes that pass, with what was counted in the next word
 module _ (test : ℕ → Bool) (bytes inside word : List ℕ) (n more : ℕ) (rest : inside ≡ drop n bytes)
     (front : word ≡ take 8 inside)
     (counted : more ≡ length (while_front test word)) (within : n ≤ length bytes)

@@ -1,4 +1,4 @@
--- Words of 8 bytes: which of them go on with a line.
+-- Words of 8 bytes: which bytes continue a line.
 use Rattle.std.proofs.Common.{◌≡◌, ℕ, ◌+◌, ◌-◌, ◌/◌, ◌^◌, ◌<◌, true, cond, List, length, nat_eq}
 use Rattle.std.proofs.Common.{refl, sym, ap, ap₂, ◌∙◌, subst, arith, w64}
 use Rattle.std.specs.Int.{from_le_bytes, trailing_zeros}
@@ -13,7 +13,7 @@ use Rattle.lexical.specs.Word.{is_line_ascii, word_of}
 use Rattle.lexical.proofs.LaneLemmas.{AreBytes, add_each, and_each, each_is, eights, first_stop, low, low_word}
 use Rattle.lexical.proofs.LaneLemmas.{not_each, or_each, read, repeated, same_each, xor_each}
 
--- what becomes of a byte: the highest bit is set unless it is the other
+-- the operations on a byte. The highest bit is set unless the byte equals the other one
 abbrev apart : ℕ → ℕ → ℕ
 apart other b = bit_xor (low b) other + 127
 
@@ -23,7 +23,7 @@ on b = bit_and (apart 10 b) (apart 13 b)
 abbrev stop : ℕ → ℕ
 stop b = bit_and (bit_or (255 - on b) b) 128
 
--- and so of a word
+-- the operations on a word
 abbrev pub apart_word : ℕ → ℕ → ℕ
 apart_word others word = bit_xor (low_word word) others + 0x7F7F_7F7F_7F7F_7F7F
 
@@ -39,7 +39,7 @@ line_stop b = cond (is_line_ascii b) 0 128
 stops_are : agree_below (λ b. nat_eq (stop b) (line_stop b)) (λ b. true) 256 ≡ true
 stops_are = refl
 
--- of 8 bytes
+-- the operations on a word of these 8 bytes
 module _ (bytes : List ℕ) (l : length bytes ≡ 8) (are : AreBytes bytes) (word : ℕ)
     (is : word ≡ from_le_bytes w64 bytes) where
   constant : (k n : ℕ) → n ≡ repeated k 8 → n ≡ word_of (λ b. k) bytes
@@ -77,7 +77,7 @@ module _ (bytes : List ℕ) (l : length bytes ≡ 8) (are : AreBytes bytes) (wor
       ∙ and_each (λ b. bit_or (255 - on b) b) (λ b. 128) refl refl bytes are
       ∙ same_each stop line_stop stops_are bytes are
 
-  -- by what was read of them
+  -- the word gives the number of bytes that continue the line
   pub line_in_word : trailing_zeros w64 (stop_word word) / 8 ≡ length (while_front is_line_ascii bytes)
   line_in_word =
       ap (λ w. count_trailing_zeros 64 w / 8) stops_is
@@ -86,7 +86,7 @@ module _ (bytes : List ℕ) (l : length bytes ≡ 8) (are : AreBytes bytes) (wor
       l
       (first_stop is_line_ascii bytes)
 
-  -- where no bit is set
+  -- if no bit is set, all 8 bytes continue the line
   pub line_past_word : stop_word word ≡ 0 → 8 ≡ length (while_front is_line_ascii bytes)
   line_past_word none =
       ap (λ n. n / 8) (sym (trailing_of_zero 64)) ∙ ap (λ w. count_trailing_zeros 64 w / 8) (sym none) ∙ line_in_word

@@ -1,4 +1,4 @@
--- Literals are found, and how they start.
+-- The finder of literals, and how literals begin.
 use Rattle.std.proofs.Common.{◌≡◌, ℕ, Bool, true, false, not, ◌==◌, ◌⊎◌, List, [], ◌∷◌, ◌++◌, codes, is_some, Some}
 use Rattle.std.proofs.Common.{None, refl, sym, ap, ◌∙◌, inl, inr, eqb-true}
 use Rattle.std.specs.List.{list_all, AllByRecursion}
@@ -32,9 +32,9 @@ pub finds_literal : Finds find_literal Literal
 unfolding Literal Str number find
 finds_literal = exact (Either quoted_literal number) (clear_quoted, clear_number, refl)
 
--- ---- how a literal starts
+-- ---- how a literal begins
 
--- a text begins with a letter, and so as literals do
+-- whether the text begins with a letter and a literal prefix
 pub record StartsLetter (text : List ℕ) : Type 0 where
   pub first : ℕ
   pub rest : List ℕ
@@ -53,7 +53,7 @@ rule_starts : (rule : Rule) → begins (begins_any literal_prefixes) rule ≡ tr
 rule_starts rule h p r is = prefixed_starts (p ++ r)
     (any_begins_more literal_prefixes p r (begins_one literal_prefixes rule h p r is))
 
--- what opens a raw string, hash signs, a quote and more
+-- a raw string is its opening letters, hash signs, a quote and more
 pub raw_text : (front : List ℕ) (allowed : ℕ → Bool) (p r : List ℕ) → Raw front allowed p r
     → (hashes : List ℕ) × (tail : List ℕ) × (p ≡ front ++ (hashes ++ (34 ∷ tail)))
     × (list_all (λ c. c == 35) hashes ≡ true)
@@ -63,7 +63,7 @@ raw_text front allowed p r h =
     let tail = inner.whole ∙ ap (λ x. inner.front ++ x) (front_is quotes) in
     (inner.front, quotes.back, front_is h ∙ ap (λ x. front ++ x) tail, inner.first.0.each)
 
--- how a raw string goes on after the letters that open it
+-- the texts that can follow the opening letters of a raw string
 abbrev pub raw_fronts : List (List ℕ)
 raw_fronts = codes "\"" ∷ codes "#\"" ∷ codes "##" ∷ []
 
@@ -89,11 +89,11 @@ raw_starts kind p r h =
     prefixed_starts (p ++ r) (any_begins_more literal_prefixes p r
     (ap (begins_any literal_prefixes) at.2 ∙ raw_prefixed kind (at.0 ++ (34 ∷ at.1)) (hashes_begin at.0 at.1 at.3)))
 
--- a piece begins with one of the characters
+-- whether the piece begins with one of the characters
 abbrev pub BeginsWithOne : List ℕ → List ℕ → Type 0
 BeginsWithOne characters p = (c : ℕ) × (q : List ℕ) × (p ≡ c ∷ q) × (is_one_of characters c ≡ true)
 
--- the characters that literals begin with
+-- the characters with which literals begin
 abbrev pub literal_fronts : List ℕ
 literal_fronts = codes "\"'bcr0123456789"
 
@@ -106,7 +106,7 @@ literal_front p r h = elim h [
       (at.0, at.1, at.2, sub_digits (is_one_of literal_fronts) refl at.0 at.3)
 ]
 
--- one between quotes starts with `"`, as a character, or with a letter
+-- whether a literal between quotes begins with `"`, as a character literal, or with a letter
 abbrev pub QuotedStarts : List ℕ → List ℕ → Type 0
 QuotedStarts p r = ((rest : List ℕ) × (p ++ r ≡ 34 ∷ rest)) ⊎ (Character p r ⊎ StartsLetter (p ++ r))
 
@@ -121,7 +121,7 @@ quoted_starts p r =
     (λ is. inr (inl is))
     (λ is. inr (inr (rule_starts byte refl p r is)))
 
--- ---- a lone quote is no character
+-- ---- a lone quote begins no character literal
 
 quote_bars : (c : ℕ) (tail : List ℕ) → follows_quote (c ∷ 39 ∷ tail) ≡ false
 unfolding unicode_ident find
@@ -137,7 +137,7 @@ escape_bars : (tail : List ℕ) → find_lone_quote (39 ∷ 92 ∷ tail) ≡ Non
 unfolding unicode_ident find
 escape_bars tail = refl
 
--- a character has a backslash after its first quote, or one character and a quote
+-- a character literal has a backslash after its first quote, or one character and a quote
 no_lone_quote : (p r : List ℕ) → Character p r → find_lone_quote (p ++ r) ≡ None
 unfolding unicode_ident find
 no_lone_quote p r h =

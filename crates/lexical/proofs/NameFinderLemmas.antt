@@ -1,4 +1,4 @@
--- Identifiers as they are written, and what a lone quote may stand before.
+-- Identifiers as they are written, and which texts may follow a lone quote.
 use Rattle.std.proofs.Common.{◌≡◌, ℕ, Bool, true, false, not, List, ◌++◌, Some, None, IfSome, is_some, IsTrue, codes}
 use Rattle.std.proofs.Common.{refl, sym, ap, ◌∙◌, append_assoc}
 use Rattle.std.proofs.lemmas.Bool.{both_ways, or_parts, cond_both, not_from_false}
@@ -20,7 +20,7 @@ pub clear_written : (raw : Bool) → Clear (written raw)
 clear_written true = (tt, (tt, tt))
 clear_written false = (tt, tt)
 
--- what is written is `r#` or nothing, and the name
+-- an identifier as it is written is `r#` or nothing, and the name
 pub written_named : (raw : Bool) (p r : List ℕ) → Stands (written raw) p r
     → (name : List ℕ) × (p ≡ raw_front raw ++ name) × Named raw name r
 written_named true p r h = (h.back, h.whole ∙ ap (λ x. x ++ h.back) h.first, h.second)
@@ -36,7 +36,7 @@ pub named_begins : (raw : Bool) (name r : List ℕ) → Named raw name r
 named_begins true name r h = refl
 named_begins false name r h = (or_parts _ _ h.1).0
 
--- both begin with a character that identifiers may begin with
+-- raw and plain identifiers begin with a character that may begin an identifier
 pub named_start : (raw : Bool) (name r : List ℕ) → Named raw name r
     → first_passes is_ident_start (raw_front raw ++ (name ++ r)) ≡ true
 unfolding unicode_ident
@@ -44,7 +44,7 @@ named_start true name r h = refl
 named_start false name r h = ap (first_passes is_ident_start)
     (ap (λ x. x ++ r) (h.0.whole ∙ ap (λ x. x ++ h.0.back) h.0.first.1)) ∙ h.0.first.2
 
--- ---- what follows a lone quote
+-- ---- the text after a lone quote
 
 pub follows_sound : (text : List ℕ) → follows_quote text ≡ true → FollowsQuote text
 follows_sound text =
@@ -59,7 +59,7 @@ follows_sound text =
         let whole = is.0 ∙ (ap (λ q. q ++ x.1) named.1 ∙ append_assoc (raw_front raw) named.0 x.1) in
         record { raw = raw; name = named.0; rest = x.1; whole = whole; named = named.2; unbarred = is.1.1 }
 
--- after an identifier that is found, whatever literal begins there
+-- if an identifier is found, the character after it decides whether a lone quote may be before it
 pub unbarred_found : (raw : Bool) (text p r : List ℕ) → begins_with (codes "r#") text ≡ raw
     → find (written raw) text ≡ Some (p, r)
     → follows_quote text ≡ not (first_passes (bars_quote raw) r)

@@ -1,4 +1,4 @@
--- Numbers are found, by how their text begins.
+-- The finder of numbers, by how their text begins.
 use Rattle.std.proofs.Common.{◌≡◌, ℕ, true, false, ◌==◌, List, [], ◌∷◌, Option, Some, None, refl, sym, ap, ap₂, ◌∙◌}
 use Rattle.std.proofs.Common.{eqb-true}
 use Rattle.std.specs.Char.{is_ascii_digit}
@@ -27,7 +27,7 @@ finds_number = exact number clear_number
 
 -- ---- a number is read by how its text begins
 
--- no float begins as the numbers of other bases do
+-- no float begins with the prefix of another base
 pub no_float : (text : List ℕ) → begins_any base_prefixes text ≡ true → find float text ≡ None
 unfolding find
 no_float text h = begins_each (λ t. find float t ≡ None) base_prefixes text h
@@ -39,7 +39,7 @@ unfolding number find
 number_based text h = ap₂ or_find (no_float text h)
     (ap (λ o. and_find (find end) (or_find o (find based text))) (cond-true _ _ _ h))
 
--- and where no prefix does there is none of another base
+-- without the prefix of another base no integer of another base is there
 no_based : (text : List ℕ) → begins_any base_prefixes text ≡ false → find based text ≡ None
 no_based text h =
     none_found based (assumption) text
@@ -50,7 +50,7 @@ or_nothing : (o : Answer) → or_find o None ≡ o
 or_nothing None = refl
 or_nothing (Some x) = refl
 
--- what stands before a choice may stand before each
+-- a finder before a choice is the choice of that finder before each part
 and_either : (f g : Finder) (o : Answer)
     → or_find (and_find f o) (and_find g o) ≡ and_find (λ text. or_find (f text) (g text)) o
 and_either f g None = refl

@@ -1,4 +1,4 @@
--- What a piece that stands somewhere gives to the crates above.
+-- Facts about the pieces of a text, for the crates above.
 use Rattle.std.proofs.Common.{◌≡◌, ℕ, ◌<◌, inl, inr, Bool, true, false, not, List, [], ◌∷◌, ◌++◌, codes, length, take}
 use Rattle.std.proofs.Common.{drop, refl, sym, ap, ◌∙◌, subst, arith, eqb-true, length-append}
 use Rattle.std.specs.List.{list_all}
@@ -22,7 +22,7 @@ use Rattle.lexical.proofs.PieceLemmas.{passes_of}
 pub use Rattle.lexical.proofs.PieceLemmas.{mark_is}
 use Rattle.lexical.proofs.LiteralFinderLemmas.{literal_front}
 
--- ---- a piece isn't empty
+-- ---- a piece is not empty
 
 pub piece_not_empty : (first : Bool) (k : Kind) (p r : List ℕ) → IsPiece first k p r
     → (c : ℕ) × (q : List ℕ) × (p ≡ c ∷ q)
@@ -42,7 +42,7 @@ piece_not_empty first (Leaf (Literal text)) p r h = elim h.1 [
   | inr error ↦ (40, codes "/*ERROR*/)", h.0 ∙ error)
 ]
 
--- what follows a piece is shorter than the text
+-- the text after a piece is shorter
 pub piece_shortens : (first : Bool) (k : Kind) (p r : List ℕ) → IsPiece first k p r → length r < length (p ++ r)
 piece_shortens first k p r h =
     let cell = piece_not_empty first k p r h in
@@ -70,14 +70,14 @@ open_is first c p r h = passes_of is_opener c p r h.0
 pub close_is : (first : Bool) (c : ℕ) (p r : List ℕ) → IsPiece first (Close c) p r → (p ≡ c ∷ []) × (is_closer c ≡ true)
 close_is first c p r h = passes_of is_closer c p r h
 
--- the character of any mark is one of the marks
+-- the character of a mark or a lone quote is one of the marks
 pub stands_mark : (c : ℕ) (joint : Bool) (r : List ℕ) → Stands (Mark c joint) r → marks.is_mark c ≡ true
 stands_mark c joint r (inl mark) = (mark_is c r mark.0).0
 stands_mark c joint r (inr quote) = let is : c ≡ 39 = cc in ap marks.is_mark is
 
 -- ---- the characters of a name
 
--- what begins an identifier may go on with one
+-- a character that may begin an identifier may continue one
 pub start_continues : (c : ℕ) → is_ident_start c ≡ true → is_ident_continue c ≡ true
 unfolding unicode_ident
 start_continues c h = elim (or_cases _ _ (and_parts _ _ (and_parts _ _ h).0).0) [
@@ -85,20 +85,20 @@ start_continues c h = elim (or_cases _ _ (and_parts _ _ (and_parts _ _ h).0).0) 
   | inr starts ↦ is_xid_start-is_xid_continue c starts
 ]
 
--- a name is made of characters that an identifier may go on with
+-- each character of a name may continue an identifier
 pub name_continues : (p r : List ℕ) → identifiers.Name p r → list_all is_ident_continue p ≡ true
 name_continues p r h =
     ap (list_all is_ident_continue) (h.whole ∙ ap (λ x. x ++ h.back) h.first.1)
     ∙ and_from _ _ (start_continues h.first.0 h.first.2) h.second.each
 
--- a text that begins another passes where it does
+-- if all characters of a text pass, those of a prefix do
 all_front : (passes : ℕ → Bool) (front text : List ℕ) → begins_with front text ≡ true → list_all passes text ≡ true
     → list_all passes front ≡ true
 all_front passes front text is all =
     let split = begins_splits front text is in
     (and_parts _ _ (sym (list_all-append passes front split.0) ∙ (ap (list_all passes) (sym split.1) ∙ all))).0
 
--- a text that passes begins with none that doesn't
+-- a text whose characters all pass has no prefix with a character that does not
 pub none_begins : (passes : ℕ → Bool) (fronts : List (List ℕ)) (text : List ℕ)
     → list_all (λ front. not (list_all passes front)) fronts ≡ true → list_all passes text ≡ true
     → begins_any fronts text ≡ false

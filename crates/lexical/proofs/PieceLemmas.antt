@@ -1,4 +1,4 @@
--- What the lexer finds is the piece that stands there, and no other.
+-- What the lexer finds is exactly the piece at the start of the text.
 use Rattle.std.proofs.Common.{◌≡◌, ℕ, Bool, true, false, ◌&&◌, ◌==◌, List, [], ◌∷◌, ◌++◌, Some, None, IfSome, inl, inr}
 use Rattle.std.proofs.Common.{codes, refl, sym, ap, ◌∙◌, subst, eqb-true, eq-eqb, append_assoc}
 use Rattle.std.proofs.lemmas.Bool.{both_ways, and_parts, and_from, cond-true, cond-false, cond_both, not-true}
@@ -40,7 +40,7 @@ use Rattle.lexical.proofs.ClassLemmas.{start_slash, start_quote, start_double_qu
 
 -- ---- what is found is a piece
 
--- a piece with its kind is at the front of the text
+-- whether the text is split into a piece of its kind and a rest
 abbrev pub IsTagged : Bool → List ℕ → (Kind × List ℕ × List ℕ) → Type 0
 IsTagged first text x = (text ≡ x.1 ++ x.2) × IsPiece first x.0 x.1 x.2
 
@@ -53,7 +53,7 @@ tagged_sound : (first : Bool) (A : Form) (kind : List ℕ → List ℕ → Kind)
 tagged_sound first A kind to text None is = tt
 tagged_sound first A kind to text (Some x) is = (is.0, to x.0 x.1 is.1)
 
--- one character that passes, by its first
+-- a piece of one character that passes is its first character
 one_of_kind : (passes : ℕ → Bool) (p r : List ℕ) → One passes p r
     → (p ≡ first_of p ∷ []) × One (λ d. passes d && (d == first_of p)) p r
 one_of_kind passes p r (c, e, h) =
@@ -69,7 +69,7 @@ name_piece first true p r h =
     rw is.1 (refl, (is.2, rw is.1 at h.1))
 name_piece first false p r h = (refl, h)
 
--- a comment with its kind
+-- a comment that is found with its kind is a piece
 comment_found_sound : (first : Bool) (text : List ℕ) (o : Answer) → IfSome o (IsSplit Comment text)
     → IfSome (comment_found o) (IsTagged first text)
 comment_found_sound first text None is = tt
@@ -80,7 +80,7 @@ comment_found_sound first text (Some x) is =
     (λ plain. (is.0, doc_from x.0 x.1 is.1 doc plain)))
     (λ plain. (is.0, inr (is.1, not_from_false _ plain)))
 
--- what a rule finds, with its kind
+-- what a rule finds is a piece of the kind
 rule_sound : (first : Bool) (rule : Rule) → Clear rule → (kind : List ℕ → List ℕ → Kind)
     → ((p r : List ℕ) → Stands rule p r → IsPiece first (kind p r) p r) → (text : List ℕ)
     → IfSome (tagged kind (find rule text)) (IsTagged first text)
@@ -90,7 +90,7 @@ rule_sound first rule clear kind to text =
 mark_sound : (first : Bool) (text : List ℕ) → IfSome (tagged mark_kind (find marks.mark text)) (IsTagged first text)
 mark_sound first = rule_sound first marks.mark tt mark_kind (mark_piece first)
 
--- one thing, or else another
+-- the first of two answers or the second is a piece, if both are
 or_sound : (first : Bool) (text : List ℕ) (o u : Found) → IfSome o (IsTagged first text)
     → IfSome u (IsTagged first text) → IfSome (or_found o u) (IsTagged first text)
 or_sound first text None u one other = other
@@ -138,14 +138,14 @@ unfolding found
 found_sound first [] = tt
 found_sound first (c ∷ text) = start_sound first (piece_start c) (c ∷ text)
 
--- ---- a piece is found
+-- ---- each piece is found
 
--- at the end nothing is found
+-- at the end of the text nothing is found
 pub found_end : (first : Bool) (text : List ℕ) → text ≡ [] → found first text ≡ None
 unfolding found
 found_end first text e = ap (found first) e
 
--- a text that starts so
+-- a text is searched by what its first character says
 pub from_start : (first : Bool) (text : List ℕ) (c : ℕ) (rest : List ℕ) (s : PieceStart) → text ≡ c ∷ rest
     → piece_start c ≡ s
     → found first text ≡ found_from first s text
@@ -158,7 +158,7 @@ pub letter_start : (first : Bool) (text : List ℕ) → first_passes is_ident_st
 letter_start first [] begins = absurd (both_ways _ refl begins)
 letter_start first (c ∷ text) begins = from_start first (c ∷ text) c text starts.Letter refl (start_letter c begins)
 
--- a comment is found, with its kind
+-- each comment is found with its kind
 found_comment : (first : Bool) (k : Kind) (p r : List ℕ) → Comment p r → comment_kind p r ≡ Some k
     → found first (p ++ r) ≡ Some (k, p, r)
 found_comment first k p r h kind =
@@ -166,7 +166,7 @@ found_comment first k p r h kind =
     from_start first (p ++ r) 47 (begins.0 ++ r) starts.Slash (ap (λ x. x ++ r) begins.1) start_slash
     ∙ (cond-true _ _ _ (begins.2 r) ∙ (ap comment_found (finds_comment.complete p r h) ∙ ap (with_kind (p, r)) kind))
 
--- a mark is found where no comment begins
+-- a mark is found, if no comment begins there
 found_mark : (first : Bool) (text : List ℕ) (c : ℕ) (rest : List ℕ) → text ≡ c ∷ rest → marks.is_mark c ≡ true
     → (c == 39) ≡ false → begins_any marks.comment_fronts text ≡ false
     → found first text ≡ tagged mark_kind (find marks.mark text)
@@ -175,11 +175,11 @@ found_mark first text c rest e is other plain = elim (start_mark c is other) [
   | inr slash ↦ from_start first text c rest starts.Slash e slash ∙ cond-false _ _ _ plain
 ]
 
--- a piece of one character
+-- a text that begins with a piece of one character begins with that character
 one_front : (c : ℕ) (p r : List ℕ) → p ≡ c ∷ [] → p ++ r ≡ c ∷ r
 one_front c p r e = ap (λ q. q ++ r) e
 
--- a character that passes and is c
+-- a character that passes and equals c is c
 pub passes_of : (passes : ℕ → Bool) (c : ℕ) (p r : List ℕ) → One (λ d. passes d && (d == c)) p r
     → (p ≡ c ∷ []) × (passes c ≡ true)
 passes_of passes c p r (d, e, h) =
@@ -187,19 +187,19 @@ passes_of passes c p r (d, e, h) =
     let same = eqb-true d c parts.1 in
     (e ∙ ap (λ x. x ∷ []) same, ap passes (sym same) ∙ parts.0)
 
--- a mark's character is one of the marks, and not `'`
+-- the character of a mark is one of the marks, and not `'`
 pub mark_is : (c : ℕ) (r : List ℕ) → marks.Mark (c ∷ []) r → (marks.is_mark c ≡ true) × ((c == 39) ≡ false)
 mark_is c r h =
     let same : c ≡ h.0.0 = cc in
     let parts = and_parts _ _ h.0.2 in
     (ap marks.is_mark same ∙ parts.0, ap (λ d. d == 39) same ∙ not-true _ parts.1)
 
--- where a literal begins with a letter no identifier is found
+-- no identifier is found, if a literal with letters before its quote begins there
 no_identifier : (text : List ℕ) → begins_any identifiers.literal_prefixes text ≡ true → found_identifier text ≡ None
 unfolding find
 no_identifier text h = ap (tagged (name_kind (begins_with (codes "r#") text))) (cond-true _ _ _ h)
 
--- and else it is
+-- each identifier is found
 identifier_found : (raw : Bool) (name r : List ℕ) → identifiers.Identifier raw name r
     → found_identifier (raw_front raw ++ (name ++ r)) ≡ Some (Leaf (Name raw name), raw_front raw ++ name, r)
 identifier_found true name r h =
@@ -210,7 +210,7 @@ identifier_found false name r h =
     ap (λ b. tagged (name_kind b) (find (identifier b) (name ++ r))) (named_begins false name r h.0)
     ∙ ap (tagged (name_kind false)) ((exact (identifier false) (clear_written false)).complete name r h)
 
--- a literal is found
+-- each literal is found
 found_quoted_at : (p r : List ℕ) → literals.QuotedLiteral p r
     → found_literal quoted_literal (p ++ r) ≡ Some (Leaf (Literal p), p, r)
 found_quoted_at p r h = ap (tagged literal_kind) (finds_quoted.complete p r h)
@@ -300,7 +300,7 @@ found_complete first (Leaf (Literal text)) p r h = rw h.0 (elim h.1 [
 
 -- ---- the laws
 
--- at most one piece stands at a byte offset
+-- at most one piece begins at a byte offset
 pub one_piece : (first : Bool) (k l : Kind) (p q r s : List ℕ) → IsPiece first k p r → IsPiece first l q s
     → p ++ r ≡ q ++ s → (k ≡ l) × (p ≡ q) × (r ≡ s)
 one_piece first k l p q r s h j e =
@@ -309,12 +309,12 @@ one_piece first k l p q r s h j e =
     let parts : ◌≡◌ {A = Kind × List ℕ × List ℕ} (k, p, r) (l, q, s) = cc in
     (ap (λ x. x.0) parts, ap (λ x. x.1) parts, ap (λ x. x.2) parts)
 
--- what was found stands there
+-- what was found is a piece at the start of the text
 pub piece_from_found : (first : Bool) (text p r : List ℕ) (k : Kind) → found first text ≡ Some (k, p, r)
     → (text ≡ p ++ r) × IsPiece first k p r
 piece_from_found first text p r k e = subst (λ o. IfSome o (IsTagged first text)) e (found_sound first text)
 
--- where nothing was found no piece stands
+-- if nothing was found, no piece is there
 pub none_from_found : (first : Bool) (text : List ℕ) → found first text ≡ None → HasNoPiece first text
 none_from_found first text e k p r whole h =
     let clash : ◌≡◌ {A = Found} None (Some (k, p, r)) = sym e

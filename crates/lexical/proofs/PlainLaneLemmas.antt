@@ -1,4 +1,4 @@
--- Words of 8 bytes: which of them stand for themselves in a string.
+-- Words of 8 bytes: which bytes need no escape in a string.
 use Rattle.std.proofs.Common.{◌≡◌, ℕ, ◌+◌, ◌-◌, ◌/◌, ◌^◌, ◌<◌, ◌≤◌, zero, suc, Bool, true, false, ◌&&◌, cond}
 use Rattle.std.proofs.Common.{List, [], ◌∷◌, length, nat_eq, take}
 use Rattle.std.proofs.Common.{refl, sym, ap, ap₂, ◌∙◌, subst, arith, w64}
@@ -15,7 +15,7 @@ use Rattle.lexical.specs.Word.{is_plain_ascii, word_of}
 use Rattle.lexical.proofs.LaneLemmas.{AreBytes, add_each, and_each, each_is, eights, first_stop, low, low_word}
 use Rattle.lexical.proofs.LaneLemmas.{not_each, or_each, read, repeated, same_each, xor_each}
 
--- what becomes of a byte: the highest bit is set unless it is the other
+-- the operations on a byte. The highest bit is set unless the byte equals the other one
 abbrev apart : ℕ → ℕ → ℕ
 apart other b = bit_xor (low b) other + 127
 
@@ -25,7 +25,7 @@ on b = bit_and (bit_and (apart 34 b) (apart 92 b)) (apart 13 b)
 abbrev stop : ℕ → ℕ
 stop b = bit_and (bit_or (255 - on b) b) 128
 
--- and so of a word
+-- the operations on a word
 abbrev pub apart_word : ℕ → ℕ → ℕ
 apart_word others word = bit_xor (low_word word) others + 0x7F7F_7F7F_7F7F_7F7F
 
@@ -44,7 +44,7 @@ plain_stop b = cond (is_plain_ascii b) 0 128
 stops_are : agree_below (λ b. nat_eq (stop b) (plain_stop b)) (λ b. true) 256 ≡ true
 stops_are = refl
 
--- of 8 bytes
+-- the operations on a word of these 8 bytes
 module _ (bytes : List ℕ) (l : length bytes ≡ 8) (are : AreBytes bytes) (word : ℕ)
     (is : word ≡ from_le_bytes w64 bytes) where
   constant : (k n : ℕ) → n ≡ repeated k 8 → n ≡ word_of (λ b. k) bytes
@@ -88,7 +88,7 @@ module _ (bytes : List ℕ) (l : length bytes ≡ 8) (are : AreBytes bytes) (wor
       ∙ and_each (λ b. bit_or (255 - on b) b) (λ b. 128) refl refl bytes are
       ∙ same_each stop plain_stop stops_are bytes are
 
-  -- by what was read of them
+  -- the word gives the number of bytes that need no escape
   pub plain_in_word : trailing_zeros w64 (stop_word word) / 8 ≡ length (while_front is_plain_ascii bytes)
   plain_in_word =
       ap (λ w. count_trailing_zeros 64 w / 8) stops_is
@@ -97,7 +97,7 @@ module _ (bytes : List ℕ) (l : length bytes ≡ 8) (are : AreBytes bytes) (wor
       l
       (first_stop is_plain_ascii bytes)
 
-  -- where no bit is set
+  -- if no bit is set, none of the 8 bytes needs an escape
   pub plain_past_word : stop_word word ≡ 0 → 8 ≡ length (while_front is_plain_ascii bytes)
   plain_past_word none =
       ap (λ n. n / 8) (sym (trailing_of_zero 64)) ∙ ap (λ w. count_trailing_zeros 64 w / 8) (sym none) ∙ plain_in_word
@@ -108,13 +108,13 @@ plain_in_word_ends word some =
     let at = bit_at-trailing_zeros w64 (stop_word word) (omega (arith, some)) (omega (arith, le)) in
     omega (arith, at.0)
 
--- no sum is too large
+-- no sum overflows
 pub xor_low : (word others : ℕ) → others < 2 ^ 63 → bit_xor (low_word word) others < 2 ^ 63
 xor_low word others small =
     let le = and_le_r word 0x7F7F_7F7F_7F7F_7F7F in
     xor_lt 63 (low_word word) others (omega (arith, le)) small
 
--- ---- the front of a run
+-- ---- a prefix of a run
 
 one_passes : (test : ℕ → Bool) (b k : ℕ) (bytes : List ℕ) (on : Bool) → test b ≡ on
     → suc k ≤ length (cond on (b ∷ while_front test bytes) [])

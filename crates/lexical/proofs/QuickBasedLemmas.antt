@@ -1,4 +1,4 @@
--- What a few bytes tell of a number with the prefix of a base.
+-- A number with the prefix of a base, decided by a few bytes.
 use Rattle.std.proofs.Common.{None, Some, Option, IfSome, ap₂, codes, eqb-true}
 use Rattle.std.proofs.Common.{◌≡◌, ℕ, ◌+◌, ◌<◌, true, false, not, inl, inr, List, [], ◌∷◌, ◌++◌}
 use Rattle.std.proofs.Common.{length, get_or, drop, nat_lt, refl, sym, ap, ◌∙◌, subst, arith, ltb-true}
@@ -28,18 +28,18 @@ use Rattle.lexical.proofs.RuleLemmas.{exact}
 
 -- ---- the prefix
 
--- `0` and the letter
+-- the prefix: `0` and the letter
 abbrev prefix : ℕ → List ℕ
 prefix letter = codes "0" ++ letter ∷ []
 
--- and digits of the base
+-- the prefix and digits of the base
 abbrev prefixed : ℕ → Base → Rule
 prefixed letter base = Then (Exactly (prefix letter)) (digits_in (radix base))
 
 letter_low : (letter : ℕ) → is_one_of (codes "xob") letter ≡ true → letter < 128
 letter_low letter is = ltb-true letter 128 (sub_listed (λ d. nat_lt d 128) (codes "xob") refl letter is)
 
--- no letter is what is read past the end
+-- no letter of a prefix is the space that is read past the end
 pub letter_other : (letter : ℕ) → is_one_of (codes "xob") letter ≡ true → letter ≡ 32 → ⊥
 letter_other letter is space = both_ways _ (ap (is_one_of (codes "xob")) space) is
 
@@ -94,7 +94,7 @@ digits_at base text n starts size low ended =
     (then_at (Stands (Run is_underscore)) (Stands (base_digits (radix base))) text 0 n none word) in
     record { within = all.within; ascii = all.ascii; stands = (all.stands, ended) }
 
--- ---- no digit begins what ends a number
+-- ---- no digit begins the end of a number
 
 digit_continues : (c : ℕ) → is_ascii_digit c ≡ true → is_ident_continue c ≡ true
 unfolding unicode_ident
@@ -135,7 +135,7 @@ based_at letter base text after n k of zero sign is starts size ended last =
     (at_other NumberEnd (Stands end) _ k (λ p r h. h.0)
     (subst (λ t. IsAsciiAt NumberEnd t k) (ap (drop n) is ∙ drop-drop n 2 text) ended))
 
--- by what was read of the bytes
+-- the bytes that were read decide that a number is there
 pub based_read : (letter : ℕ) (base : Base) (text after rest : List ℕ) (a b c n k : ℕ)
     → is_one_of (codes "xob") letter ≡ true → a ≡ get_or text 0 32 → a ≡ 48 → b ≡ get_or text 1 32 → b ≡ letter
     → after ≡ drop 2 text → c ≡ get_or after 0 32 → true ≡ ascii_in (DigitOf base) c
@@ -147,7 +147,7 @@ based_read letter base text after rest a b c n k of zero_is zero sign_is sign is
     (ap (ascii_in (DigitOf base)) (sym first) ∙ sym starts) size (subst (λ t. IsAsciiAt NumberEnd t k) left ended)
     (subst (λ t. get_or t 0 32 < 128) left last)
 
--- ---- where the letter announces the base, it is a number
+-- ---- with a letter that announces the base, it is a number
 
 announced : (letter : ℕ) (base : Base) → ((text : List ℕ) → begins_any base_prefixes (48 ∷ (letter ∷ text)) ≡ true)
     → ((p r : List ℕ) → Stands (prefixed letter base) p r → Stands based p r) → (text bytes : List ℕ)

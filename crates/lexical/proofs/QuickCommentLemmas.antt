@@ -1,4 +1,4 @@
--- What a few bytes tell of a line comment.
+-- A line comment, decided by a few bytes.
 use Rattle.std.proofs.Common.{◌≡◌, ℕ, ◌+◌, ◌<◌, Bool, true, false, not, ◌==◌, inl, inr, List, [], ◌∷◌, ◌++◌}
 use Rattle.std.proofs.Common.{Bor, codes, length, get_or, take, drop, refl, sym, ap, ◌∙◌, subst}
 use Rattle.std.proofs.Common.{arith, get_or-drop, length-drop, nat_lt}
@@ -30,7 +30,7 @@ line_ends (b ∷ rest) feed =
     low_fails (λ c. not (c == 10)) (b ∷ rest) (omega (arith, feed (omega arith)))
     (ap (λ x. not (x == 10)) (feed (omega arith)))
 
--- so many bytes that go on with a line, and a LF or nothing
+-- n ASCII bytes that continue the line are its rest, if a LF or nothing follows them
 pub line_read : (text bytes : List ℕ) (n : ℕ) → bytes ≡ text → n ≤ length bytes
     → list_all is_line_ascii (take n bytes) ≡ true → (n < length bytes → get_or bytes n 0 ≡ 10) → IsAsciiAt Line text n
 line_read text bytes n same within all feed =
@@ -53,7 +53,7 @@ plain_feed c h = not_from_false _ (or_parts _ _ (not-true _ h)).0
 plain_return : (c : ℕ) → is_line_plain c ≡ true → (c == 13) ≡ false
 plain_return c h = (or_parts _ _ (not-true _ h)).1
 
--- `//`, more of the line, and what follows it
+-- `//` and the rest of the line are a line comment
 line_comment_at : (q r : List ℕ) → list_all is_line_plain q ≡ true → first_passes (λ c. not (c == 10)) r ≡ false
     → Comment (47 ∷ (47 ∷ q)) r
 line_comment_at q r all stops = inl (record {
@@ -70,7 +70,7 @@ first_of_line c rest zero other = refl
 first_of_line c [] (suc n) other = refl
 first_of_line c (b ∷ rest) (suc n) other = ne_eqb b c other
 
--- one more byte of ASCII before it
+-- one more ASCII byte before a piece of the first form makes a piece of the second
 cons_at : (A B : Form) (a : ℕ) (rest : List ℕ) (n : ℕ) → a < 128 → ((p r : List ℕ) → A p r → B (a ∷ p) r)
     → IsAsciiAt A rest n → IsAsciiAt B (a ∷ rest) (suc n)
 cons_at A B a rest n low to at = record {
@@ -79,7 +79,7 @@ cons_at A B a rest n low to at = record {
   stands = to (take n rest) (chars (drop n rest)) at.stands;
 }
 
--- a line whose text is known
+-- the rest of a line has the text of its bytes
 this_line : (rest : List ℕ) (n : ℕ) → IsAsciiAt Line rest n → IsAsciiAt (λ p r. Line p r × (p ≡ take n rest)) rest n
 this_line rest n at = record { within = at.within; ascii = at.ascii; stands = (at.stands, refl) }
 
@@ -96,7 +96,7 @@ no_bare (c ∷ p) all =
     let parts = and_parts _ _ all in
     or_from _ _ (and_left _ _ (plain_return c parts.0)) (no_bare p parts.1)
 
--- a line that is no doc comment
+-- a line comment that is no doc comment is a gap
 gap_line : (first : Bool) (p r : List ℕ) → first_passes (λ d. d == 47) p ≡ false → first_passes (λ d. d == 33) p ≡ false
     → Line p r → IsPiece first Gap (47 ∷ (47 ∷ p)) r
 gap_line first p r slash mark line =
@@ -105,7 +105,7 @@ gap_line first p r slash mark line =
     (and_left _ _ (or_from _ _ (front_fails 47 [] p slash) refl)) in
     inr (line_comment_at p r line.0 line.1, not_from_false _ other)
 
--- and one that is
+-- a line comment that is a doc comment is a piece with its text
 doc_line : (first inner : Bool) (c : ℕ) (p r : List ℕ) → is_line_plain c ≡ true
     → is_inner (47 ∷ (47 ∷ (c ∷ p))) ≡ inner → is_doc (47 ∷ (47 ∷ (c ∷ p))) ≡ true
     → Line p r → IsPiece first (Doc inner p) (47 ∷ (47 ∷ (c ∷ p))) r
@@ -162,7 +162,7 @@ doc_read first inner said text n c low plain inward doc is line =
     (λ p r h. subst (λ q. IsPiece first (Doc inner q) (47 ∷ (47 ∷ (c ∷ p))) r) (h.1 ∙ sym own)
     (doc_line first inner c p r plain (inward p h.1) (doc p h.1) h.0)) (this_line text n line))))
 
--- `///`, and no `/` after it
+-- `///` without a `/` after it begins an outer doc comment
 pub outer_read : (first : Bool) (said : Bor (List ℕ)) (text rest : List ℕ) (n : ℕ) → get_or text 0 32 ≡ 47
     → get_or text 1 32 ≡ 47 → get_or text 2 32 ≡ 47 → (get_or text 3 32 ≡ 47 → ⊥) → rest ≡ drop 3 text
     → said.now ≡ take n rest → IsAsciiAt Line rest n
@@ -180,7 +180,7 @@ outer_read first said (x ∷ (y ∷ (z ∷ text))) rest n a b c other is own lin
     (doc_read first false said text n 47 (omega arith) refl (λ p e. refl) (λ p e. not_from_false _ (plain p e))
     (own ∙ ap (take n) is) (subst (λ t. IsAsciiAt Line t n) is line))
 
--- the text may be cut after three bytes of ASCII, or two
+-- a text may be cut after n ASCII bytes, here two or three
 pub ascii_bytes_cut : (text : List ℕ) (n : ℕ) → IsUtf8 text → all_ascii (take n text) ≡ true → n ≤ length text
     → IsCharBoundary text n
 ascii_bytes_cut text n utf8 ascii within =

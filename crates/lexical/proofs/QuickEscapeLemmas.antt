@@ -1,4 +1,4 @@
--- What a few bytes tell of an escape.
+-- An escape, decided by a few bytes.
 use Rattle.std.proofs.Common.{◌≡◌, ℕ, ◌+◌, ◌<◌, Bool, true, ◌&&◌, inl, List, [], ◌∷◌, ◌++◌}
 use Rattle.std.proofs.Common.{length, get_or, take, drop, nat_lt, codes, Option, Some, None}
 use Rattle.std.proofs.Common.{refl, sym, ap, ap₂, ◌∙◌, subst, arith}
@@ -92,7 +92,7 @@ unicode_stands allowed digits more r c whole first all is = record {
   };
 }
 
--- the digits of the code, which so many bytes are
+-- facts about the n bytes of the code's digits
 module _ (code : List ℕ) (n : ℕ) (size : n ≡ length (while_front (ascii_in classes.CodeDigit) code)) where
   pub code_digits : list_all is_code_digit (take n code) ≡ true
   code_digits = all_pass _ _ (λ c is. (and_parts _ _ is).1) (take n code) (run_passes classes.CodeDigit code n size)
@@ -150,13 +150,13 @@ letter_read kind (b ∷ rest) low letter =
     ascii_at (Anywhere (Stands (escape kind))) _ (b ∷ []) rest 1 refl refl (and_from _ _ (lt-ltb b 128 low) refl)
     (λ r. inl (b, refl, letter))
 
--- a form for another, where one was found
+-- what was found of a form is found of each form that has the same pieces
 pub some_other : (A B : Form) (text : List ℕ) (size : Option ℕ) → ((p r : List ℕ) → A p r → B p r)
     → IfSome size (IsAsciiAt A text) → IfSome size (IsAsciiAt B text)
 some_other A B text None to at = tt
 some_other A B text (Some n) to at = at_other A B text n to at
 
--- what may stand after a backslash in a string
+-- what may follow a backslash in a string
 
 pub feed_read : (kind : StringKind) (bytes : List ℕ) → get_or bytes 0 32 ≡ 10
     → IsAsciiAt (Anywhere (Stands (escaped kind))) bytes 1
@@ -166,7 +166,7 @@ feed_read kind (b ∷ rest) feed =
     (and_from _ _ (lt-ltb b 128 (omega (arith, feed))) refl)
     (λ r. inl (inl (ap (λ x. x ∷ []) feed)))
 
--- a backslash, and what stands after it
+-- a backslash and a piece after it are a piece
 pub after_backslash : (A : Form) (bytes rest : List ℕ) (n : ℕ) → get_or bytes 0 32 ≡ 92 → rest ≡ drop 1 bytes
     → IsAsciiAt (Anywhere A) rest n → IsAsciiAt (Anywhere (Then (Exactly (codes "\\")) A)) bytes (n + 1)
 after_backslash A [] rest n slash same at = absurd (omega (arith, slash))
@@ -185,7 +185,7 @@ after_backslash A (b ∷ bytes) rest n slash same at =
       second = at.stands r;
     })
 
--- ---- what a string may hold
+-- ---- the characters that a string may contain
 
 pub plain_holds : (cs : List ℕ) → list_all (may_stand_raw strings.Plain) cs ≡ true
 plain_holds [] = refl

@@ -1,4 +1,4 @@
--- What a few bytes tell of a number with an exponent.
+-- A number with an exponent, decided by a few bytes.
 use Rattle.std.specs.Prelude.{IfSome}
 use Rattle.std.proofs.Common.{None, Option, Some, eqb-true}
 use Rattle.std.proofs.Common.{◌≡◌, ℕ, ◌+◌, ◌<◌, Bool, true, false, inl, inr, List, [], ◌∷◌, ◌++◌}
@@ -21,7 +21,7 @@ use Rattle.lexical.specs.declared.bytes.Class.TheVariants as classes
 use Rattle.lexical.proofs.QuickLemmas.{at_other, low_fails}
 use Rattle.lexical.proofs.QuickNumberLemmas.{then_at, whole_at}
 
--- a run of none of these, before a byte that is ASCII and not one of them
+-- a run is empty, if the next byte is ASCII and does not pass
 none_at : (passes : ℕ → Bool) (text : List ℕ) → get_or text 0 32 < 128 → passes (get_or text 0 32) ≡ false
     → IsAsciiAt (Stands (Run passes)) text 0
 none_at passes text low fails = record {
@@ -54,7 +54,7 @@ exponent_digits_at text n starts size low =
     (none_at is_underscore text (low_of classes.Digit b starts) (digit_no_underscore b start.1))
     (whole_at text n starts size low))
 
--- an exponent, and what ends a number
+-- an exponent and the end of a number, one after the other
 pub exponent_end_at : (text rest : List ℕ) (n k : ℕ) → IsAsciiAt (Stands exponent) text n → rest ≡ drop n text
     → IsAsciiAt NumberEnd rest k → IsAsciiAt (Stands (rules.Then exponent end)) text (n + k)
 exponent_end_at text rest n k at is ended =
@@ -72,7 +72,7 @@ some_exponent text (Some n) at = at_other _ _ text n (λ p r h. record {
   second = h.second;
 }) at
 
--- an exponent begins with its letter
+-- the letter of an exponent is one byte
 letter_at : (text : List ℕ) → ascii_in classes.ExponentLetter (get_or text 0 32) ≡ true
     → IsAsciiAt (Stands (One is_exponent_letter)) text 1
 letter_at [] letter = absurd (both_ways _ refl letter)
@@ -101,7 +101,7 @@ no_sign_at text low fails =
       );
     }
 
--- what follows the letter, which begins with a digit or a sign
+-- an exponent is its letter and what follows, which begins with a digit or a sign
 exponent_at : (text after : List ℕ) (n : ℕ) → ascii_in classes.ExponentLetter (get_or text 0 32) ≡ true
     → after ≡ drop 1 text → get_or after 0 32 < 128 → is_underscore (get_or after 0 32) ≡ false
     → IsAsciiAt (Stands (rules.Then (perhaps (One is_sign)) exponent_digits)) after n
@@ -144,7 +144,7 @@ unsigned_read text after a n front letter is at digit =
     (then_at (Stands (perhaps (One is_sign))) (Stands exponent_digits) after 0 n
     (no_sign_at after low (digit_no_sign c on.1)) at))
 
--- a float with an exponent and no dot
+-- digits and an exponent are a float without a dot
 pub dotless_read : (text bytes rest : List ℕ) (b n d k : ℕ) → bytes ≡ text → b ≡ get_or bytes 0 32
     → true ≡ ascii_in classes.Digit b → n ≡ length (while_front (ascii_in classes.DigitOrUnderscore) bytes)
     → d ≡ get_or bytes n 32 → true ≡ ascii_in classes.ExponentLetter d → rest ≡ drop n bytes

@@ -1,4 +1,4 @@
--- What a few bytes tell of the piece at the front of a text.
+-- The piece at the start of a text, decided by a few bytes.
 use Rattle.std.proofs.Common.{◌≡◌, ℕ, ◌<◌, ◌≤◌, Bool, true, false, not, ◌&&◌, ◌||◌, ◌==◌, inl, inr, List, [], ◌∷◌}
 use Rattle.std.proofs.Common.{◌++◌, None, Bor, codes, length, get_or, take, drop, nat_lt, refl, sym, ap, ◌∙◌}
 use Rattle.std.proofs.Common.{subst, arith, append-nil, eqb-true, eq-eqb, ne_eqb, length-append, ltb-true}
@@ -43,7 +43,7 @@ use Rattle.lexical.proofs.RuleLemmas.{Clear, exact}
 use Rattle.lexical.proofs.RuleSteps.{find_then, find_either, find_not_before, text_lacks, then_lacks}
 use Rattle.lexical.proofs.TextLemmas.{all_pass, any_cut, ascii_bytes, first_byte, is_ascii}
 
--- ---- ASCII at the front
+-- ---- ASCII at the start
 
 ascii_cut : (text : List ℕ) (n : ℕ) → IsUtf8 text → n ≤ length text → all_ascii (take n text) ≡ true
     → IsCharBoundary text n
@@ -68,7 +68,7 @@ quick_cut A text n utf8 at = ascii_cut text n utf8 at.within at.ascii
 pub quick_utf8 : (A : Form) (text : List ℕ) (n : ℕ) → IsAsciiAt A text n → IsUtf8 (take n text)
 quick_utf8 A text n at = IsUtf8-from_ascii (take n text) (is_ascii (take n text) at.ascii)
 
--- the piece that so many bytes of ASCII are
+-- n ASCII bytes that are a piece make a `Piece` of n bytes and n characters
 pub ascii_piece : (first : Bool) (text : List ℕ) (kind : PieceKind) (piece : Piece) (n : ℕ)
     → IsAsciiAt (λ p r. IsPiece first (kind_of kind p) p r) text n → LendsText kind → piece.kind ≡ kind
     → piece.bytes ≡ n → piece.chars ≡ n → IsPieceAt first (chars text) piece
@@ -85,12 +85,12 @@ ascii_piece first text kind piece n at lends same bytes count =
       lends = subst LendsText (sym same) lends;
     }
 
--- a form for another
+-- a piece of a form is a piece of each form that has the same pieces
 pub at_other : (A B : Form) (text : List ℕ) (n : ℕ) → ((p r : List ℕ) → A p r → B p r) → IsAsciiAt A text n
     → IsAsciiAt B text n
 at_other A B text n to at = record { within = at.within; ascii = at.ascii; stands = to _ _ at.stands }
 
--- one byte of ASCII
+-- one ASCII byte that is a piece of the form
 pub one_ascii : (A : Form) (text : List ℕ) (c : ℕ) → 0 < length text → get_or text 0 0 ≡ c → c < 128
     → A (c ∷ []) (chars (drop 1 text)) → IsAsciiAt A text 1
 one_ascii A [] c some e low stands = absurd (omega (arith, some))
@@ -105,9 +105,9 @@ one_rest [] utf8 some low = utf8
 one_rest (b ∷ text) utf8 some low =
     ascii_rest (b ∷ text) 1 utf8 (omega arith) (and_from _ _ (lt-ltb b 128 (omega arith)) refl)
 
--- ---- what follows
+-- ---- the text after a piece
 
--- a text begins with a character that passes where its bytes begin so, if all past ASCII pass or none does
+-- the first byte of a text shows whether its first character passes, if all characters past ASCII pass or none does
 first_of_bytes : (test : ℕ → Bool) (beyond : Bool) → ((c : ℕ) → 128 ≤ c → test c ≡ beyond) → (text : List ℕ)
     → IsUtf8 text → first_passes test (chars text) ≡ first_passes test text
 first_of_bytes test beyond high text utf8 = by_chars (chars text) ∙ ap (first_passes test) (encodes-chars text utf8)
@@ -123,7 +123,7 @@ first_get : (test : ℕ → Bool) (text : List ℕ) → test (get_or text 0 32) 
 first_get test [] fails = refl
 first_get test (b ∷ text) fails = fails
 
--- where the first byte is ASCII and fails
+-- if the first byte is ASCII and does not pass, neither does the first character
 pub low_fails : (test : ℕ → Bool) (text : List ℕ) → get_or text 0 32 < 128 → test (get_or text 0 32) ≡ false
     → first_passes test (chars text) ≡ false
 low_fails test [] low fails = ap (first_passes test) chars-nil
@@ -140,7 +140,7 @@ next_fails test text n low fails =
 
 -- ---- one byte
 
--- a text that isn't empty has a first byte
+-- a text that is not empty has a first byte
 pub front_byte : (bytes text : List ℕ) → bytes ≡ text → false ≡ (length bytes == 0)
     → (0 < length text) × (get_or text 0 0 ≡ get_or bytes 0 0)
 front_byte [] text same h = absurd (both_ways true (sym h) refl)
@@ -188,7 +188,7 @@ joint_is text n utf8 fails =
     ∙ (mark_or_end (drop n text) ∙ ap (ascii_in classes.Mark) (get_after text n)) in
     sym (ap (λ b. first_passes is_mark r && not b) plain ∙ (and_one _ ∙ first))
 
--- the byte at the front of a text
+-- facts about a text by its first byte c
 module _ (first : Bool) (text : List ℕ) (c : ℕ) (utf8 : IsUtf8 text) (some : 0 < length text)
     (is : get_or text 0 0 ≡ c) where
   rest_utf8 : c < 128 → IsUtf8 (drop 1 text)
@@ -228,7 +228,7 @@ module _ (first : Bool) (text : List ℕ) (c : ℕ) (utf8 : IsUtf8 text) (some :
         inl (((c, refl, among), mark_plain c (c ∷ r) r refl at.1), e ∙ joint_is text 1 (rest_utf8 at.0) fails),
       )
 
-  -- the quote before a name
+  -- a lone quote is before a name
   pub quote_at : starts.Quote ≡ byte_starts c → (n : ℕ) → IsAsciiAt UnbarredName (drop 1 text) n
       → IsAsciiAt (λ p r. IsPiece first (kind_of (kinds.Mark true 39) p) p r) text 1
   quote_at h n name =
@@ -252,7 +252,7 @@ quote_cut text c utf8 some is h =
 
 -- ---- runs of a class
 
--- how many bytes a run has cuts it off
+-- the length of a run splits the text into the run and the rest
 pub front_of_run : (test : ℕ → Bool) (text : List ℕ) (n : ℕ) → n ≡ length (while_front test text)
     → (take n text ≡ while_front test text) × (drop n text ≡ while_rest test text) × (n ≤ length text)
 front_of_run test text n size =
@@ -262,14 +262,14 @@ front_of_run test text n size =
       omega (arith, size, ap length split, length-append (while_front test text) (while_rest test text)),
     )
 
--- the characters of the run
+-- all characters of a run are in the class
 pub run_passes : (class : Class) (text : List ℕ) (n : ℕ) → n ≡ length (while_front (ascii_in class) text)
     → list_all (ascii_in class) (take n text) ≡ true
 run_passes class text n size =
     ap (list_all (ascii_in class)) (front_of_run (ascii_in class) text n size).0
     ∙ ((finds_run (ascii_in class)).sound text).1.each
 
--- and what follows it
+-- the byte after a run is not in the class
 get_fails : (class : Class) (text : List ℕ) → is_in class 32 ≡ false → first_passes (ascii_in class) text ≡ false
     → get_or text 0 32 < 128 → is_in class (get_or text 0 32) ≡ false
 get_fails class [] space stops low = space
@@ -284,7 +284,7 @@ run_stops class text n size space low =
     ∙ ((finds_run (ascii_in class)).sound text).1.stops)
     (omega (arith, low, get_after text n))
 
--- a run that begins with a character of the class
+-- a run begins with the first byte, if that byte is in the class
 pub run_cons : (class : Class) (text : List ℕ) (n : ℕ) → n ≡ length (while_front (ascii_in class) text)
     → ascii_in class (get_or text 0 32) ≡ true → ascii_in class 32 ≡ false
     → (more : List ℕ) × (take n text ≡ get_or text 0 32 ∷ more)
@@ -294,8 +294,8 @@ run_cons class (b ∷ text) n size on space =
 
 -- ---- names
 
--- where each of the fronts goes on past the characters that an identifier may go on with, and what follows a name
--- begins with none of theirs, none of them begins
+-- no prefix begins where a name does, if each prefix has a character that continues no identifier, and the character
+-- after the name is in no prefix
 none_fronts : (passes : ℕ → Bool) (fronts : List (List ℕ)) (p r : List ℕ)
     → list_all (λ front. not (list_all is_ident_continue front)) fronts ≡ true
     → list_all (list_all passes) fronts ≡ true → list_all is_ident_continue p ≡ true → first_passes passes r ≡ false
@@ -304,7 +304,7 @@ none_fronts passes fronts p r fail all continues stops =
     any_cut passes fronts p [] r all stops
     (ap (begins_any fronts) (append-nil p) ∙ none_begins is_ident_continue fronts p fail continues)
 
--- what a name's text or the fronts of literals are made of
+-- the characters of names and of the prefixes of literals
 abbrev in_prefixes : ℕ → Bool
 in_prefixes c = is_ident_continue c || ((c == 34) || bars_quote false c)
 
@@ -350,7 +350,7 @@ name_at text n starts size ends =
       );
     }
 
--- by what was read of the text's bytes
+-- the bytes that were read decide that a name is there
 pub name_read : (text bytes : List ℕ) → bytes ≡ text → (b n next : ℕ) → b ≡ get_or bytes 0 32
     → next ≡ get_or bytes n 32 → true ≡ ascii_in classes.IdentifierStart b
     → n ≡ length (while_front (ascii_in classes.IdentifierContinue) bytes)
@@ -360,7 +360,7 @@ name_read text bytes same b n next front after starts size ends =
     (name_at bytes n (ap (ascii_in classes.IdentifierStart) (sym front) ∙ sym starts) size
     (ap (λ x. nat_lt x 128 && not ((x == 34) || bars_quote false x)) (sym after) ∙ sym ends))
 
--- the name as a piece
+-- the name is a piece
 pub name_piece_at : (first : Bool) (text : List ℕ) (name : Bor (List ℕ)) (n : ℕ) → name.now ≡ take n text
     → IsAsciiAt UnbarredName text n
     → IsAsciiAt (λ p r. IsPiece first (kind_of (kinds.Name false name) p) p r) text n
@@ -387,7 +387,7 @@ unfolding find
 one_none test [] fails = refl
 one_none test (c ∷ text) fails = cond-false _ _ _ fails
 
--- digits make no float where neither a dot nor an exponent follows
+-- digits make no float, if neither a dot nor an exponent follows
 pub no_tail : (r : List ℕ) → first_passes (λ d. d == 46) r ≡ false → first_passes is_exponent_letter r ≡ false
     → find float_tail r ≡ None
 no_tail r dot_fails letter_fails =

@@ -1,4 +1,4 @@
--- What a few bytes tell of a literal between quotes.
+-- A literal between quotes, decided by a few bytes.
 use Rattle.std.proofs.Common.{◌-◌, ◌≤◌, ◌≡◌, ℕ, Bool, true, not, ◌&&◌, inl, inr, List, [], ◌∷◌, ◌++◌}
 use Rattle.std.proofs.Common.{length, get_or, take, drop, nat_lt, refl, sym, ap, ap₂, ◌∙◌, subst, arith}
 use Rattle.std.proofs.Common.{length-append, ltb-true, suc}
@@ -23,7 +23,7 @@ use Rattle.lexical.proofs.QuickLemmas.{at_other, low_fails}
 use Rattle.lexical.proofs.QuotedLemmas.{no_name}
 use Rattle.lexical.proofs.TextLemmas.{front_len}
 
--- ASCII before a rest
+-- an ASCII prefix of a text that is a piece of the form
 pub ascii_at : (A : Form) (text p rest : List ℕ) (n : ℕ) → text ≡ p ++ rest → n ≡ length p → all_ascii p ≡ true
     → A p (chars rest) → IsAsciiAt A text n
 ascii_at A text p rest n whole size ascii stands =
@@ -35,11 +35,11 @@ ascii_at A text p rest n whole size ascii stands =
       stands = subst (λ q. A q (chars (drop n text))) (sym front) (subst (λ r. A p (chars r)) (sym back) stands);
     }
 
--- whether a literal ends before the byte, with no suffix
+-- whether a literal without a suffix ends before the byte
 abbrev pub ends : ℕ → Bool
 ends c = nat_lt c 128 && not (is_ident_start c)
 
--- a quote that closes, with no suffix
+-- a quote closes a literal without a suffix
 pub closes : (quote : ℕ) (rest : List ℕ) → ends (get_or rest 0 32) ≡ true
     → Stands (close (quote ∷ [])) (quote ∷ []) (chars rest)
 closes quote rest ended =
@@ -47,7 +47,7 @@ closes quote rest ended =
     let none = low_fails is_ident_start rest (ltb-true (get_or rest 0 32) 128 parts.0) (not-true _ parts.1) in
     record { front = quote ∷ []; back = []; whole = refl; first = refl; second = inr (no_name (chars rest) none, refl) }
 
--- ---- characters
+-- ---- character literals
 
 character_stands : (c : ℕ) (rest : List ℕ) → is_char_plain c ≡ true → ends (get_or rest 0 32) ≡ true
     → Character (39 ∷ (c ∷ (39 ∷ []))) (chars rest)

@@ -1,4 +1,4 @@
--- What a few bytes tell of a number with a fraction.
+-- A number with a fraction, decided by a few bytes.
 use Rattle.std.proofs.Common.{None, append-nil, codes, ◌==◌}
 use Rattle.std.proofs.Common.{◌≡◌, ℕ, ◌+◌, ◌<◌, ◌≤◌, Bool, true, false, not, ◌&&◌, inl, inr, List, [], ◌∷◌, ◌++◌}
 use Rattle.std.proofs.Common.{length, get_or, take, drop, nat_lt, refl, sym, ap, ◌∙◌, subst, arith}
@@ -41,7 +41,7 @@ use Rattle.lexical.proofs.RuleLemmas.{exact}
 use Rattle.lexical.proofs.RuleSteps.{find_then}
 use Rattle.lexical.proofs.TextLemmas.{all_pass, any_cut}
 
--- a form, and then another
+-- a piece of a form and then a piece of another
 pub then_at : (A B : Form) (text : List ℕ) (n k : ℕ) → IsAsciiAt A text n → IsAsciiAt B (drop n text) k
     → IsAsciiAt (Then A B) text (n + k)
 then_at A B text n k a b =
@@ -61,14 +61,14 @@ then_at A B text n k a b =
       };
     }
 
--- ---- what ends a number
+-- ---- the end of a number
 
 no_exponent : (r : List ℕ) → first_passes is_exponent_letter r ≡ false → HasNone (Stands exponent) r
 no_exponent r none p q whole is =
     both_ways _ none (ap (first_passes is_exponent_letter)
     (whole ∙ ap (λ xs. xs ++ q) (is.whole ∙ ap (λ xs. xs ++ is.back) is.first.1)) ∙ is.first.2)
 
--- no suffix
+-- the end of a number without a suffix is empty
 pub plain_end : (text : List ℕ) (b : ℕ) → b ≡ get_or text 0 32 → true ≡ (nat_lt b 128 && not (is_ident_continue b))
     → IsAsciiAt NumberEnd text 0
 unfolding unicode_ident
@@ -92,7 +92,7 @@ plain_end text b is ends =
       );
     }
 
--- a character that passes, and a run of a class that it is of
+-- a character that passes, and a run of a class that contains it
 pub run_word : (class : Class) (starts : ℕ → Bool) (text : List ℕ) (n : ℕ)
     → n ≡ length (while_front (ascii_in class) text) → ascii_in class (get_or text 0 32) ≡ true
     → starts (get_or text 0 32) ≡ true → ascii_in class 32 ≡ false
@@ -119,11 +119,11 @@ run_word class starts text n size on start space other low =
       };
     }
 
--- a class that a byte of ASCII isn't of
+-- an ASCII byte that is not in a class does not pass its test
 low_out : (test : ℕ → Bool) (b : ℕ) → b < 128 → (nat_lt b 128 && test b) ≡ false → test b ≡ false
 low_out test b low out = sym (ap (λ x. x && test b) (lt-ltb b 128 low)) ∙ out
 
--- a name
+-- the end of a number with a suffix is a name
 name_end_at : (text : List ℕ) (n : ℕ) → ascii_in classes.ExponentLetter (get_or text 0 32) ≡ false
     → ascii_in classes.IdentifierStart (get_or text 0 32) ≡ true
     → n ≡ length (while_front (ascii_in classes.IdentifierContinue) text) → get_or text n 32 < 128
@@ -201,7 +201,7 @@ whole_at text n starts size low =
     let on : ascii_in classes.DigitOrUnderscore b ≡ true = and_from _ _ start.0 (or_left _ _ start.1) in
     run_word classes.DigitOrUnderscore is_ascii_digit text n size on start.1 refl refl low
 
--- no exponent, and what ends a number
+-- the end of a float without an exponent is the end of a number
 pub end_at : (text : List ℕ) (k : ℕ) → IsAsciiAt NumberEnd text k
     → IsAsciiAt (Stands (rules.Then (perhaps exponent) end)) text k
 end_at text k ended =
@@ -235,7 +235,7 @@ float_at text after n m k starts size point is low bars count ended last =
     (at_other (Stands float) Number text _ (λ p r h. inl h)
     (then_at (Stands digits) (Stands float_tail) text n _ whole (at_other _ _ (drop n text) _ (λ p r h. inl h) tail)))
 
--- by what was read of the text's bytes
+-- the bytes that were read decide that a float is there
 pub float_read : (text after rest : List ℕ) (n d next m k : ℕ) → ascii_in classes.Digit (get_or text 0 32) ≡ true
     → n ≡ length (while_front (ascii_in classes.DigitOrUnderscore) text) → d ≡ get_or text n 32 → d ≡ 46
     → after ≡ drop (n + 1) text → next ≡ get_or after 0 32 → true ≡ nat_lt next 128
@@ -261,7 +261,7 @@ byte_within text n d c is same other = elim (cases_lt n (length text)) [
 
 -- ---- a suffix
 
--- a number that is no float
+-- an integer and its end are a number, if no float is there
 pub integer_at : (text : List ℕ) (n k : ℕ) → find float (chars text) ≡ None → IsAsciiAt (Stands integer) text n
     → IsAsciiAt NumberEnd (drop n text) k → IsAsciiAt Number text (n + k)
 unfolding number
@@ -278,7 +278,7 @@ integer_at text n k none at ended =
       );
     }
 
--- what the prefixes of bases are made of
+-- the characters of the prefixes of bases
 abbrev pub in_bases : ℕ → Bool
 in_bases = is_one_of (codes "0xob")
 

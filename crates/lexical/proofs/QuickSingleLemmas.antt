@@ -1,4 +1,4 @@
--- What a few bytes tell of a literal between single quotes.
+-- A literal between single quotes, decided by a few bytes.
 use Rattle.std.proofs.Common.{◌≡◌, ℕ, ◌+◌, ◌<◌, true, inl, inr, List, [], ◌∷◌}
 use Rattle.std.proofs.Common.{get_or, drop, codes, length, refl, sym, ap, ap₂, ◌∙◌, subst, arith, drop-cons, suc}
 use Rattle.std.specs.Str.{chars}
@@ -19,7 +19,7 @@ use Rattle.lexical.proofs.QuickLemmas.{ascii_piece, at_other, get_after}
 use Rattle.lexical.proofs.QuickLiteralLemmas.{ascii_at, character_literal, closes, ends, literal_piece}
 use Rattle.lexical.proofs.QuickNumberLemmas.{byte_within, then_at}
 
--- the quote that closes it
+-- the closing quote of the literal is one byte
 close_at : (text : List ℕ) (n : ℕ) → get_or text n 32 ≡ 39 → ends (get_or text (n + 1) 32) ≡ true
     → IsAsciiAt (Stands (close (codes "'"))) (drop n text) 1
 close_at text n quote ended =
@@ -47,7 +47,7 @@ single_bare kind (b ∷ rest) low plain quote ended =
     (ascii_at _ (b ∷ rest) (b ∷ []) rest 1 refl refl (and_from _ _ (lt-ltb b 128 low) refl) (inl (b, refl, plain)))
     (close_at (b ∷ rest) 1 quote ended)
 
--- ---- what opens it
+-- ---- the opening quote
 
 pub character_read : (text inside : List ℕ) (n : ℕ) → get_or text 0 32 ≡ 39 → inside ≡ drop 1 text
     → IsAsciiAt (Single strings.Plain) inside n → IsAsciiAt Character text (n + 1)
@@ -83,7 +83,7 @@ pub quote_starts : starts.Quote ≡ byte_starts 39
 unfolding unicode_ident
 quote_starts = refl
 
--- by what was read after the first quote
+-- the bytes after the first quote decide the extent of a character literal
 pub character_extent : (text bytes inside : List ℕ) (n : ℕ) (first_byte : ℕ) (extent : Extent) → bytes ≡ text
     → first_byte ≡ get_or bytes 0 32 → first_byte ≡ 39 → inside ≡ drop 1 bytes
     → IsAsciiAt (Single strings.Plain) inside n → extent.bytes ≡ n + 1 → extent.chars ≡ n + 1

@@ -1,4 +1,4 @@
--- What a few bytes tell of a string.
+-- A string, decided by a few bytes.
 use Rattle.std.proofs.Common.{◌≡◌, ℕ, ◌+◌, ◌<◌, ◌≤◌, Bool, true, false, ◌&&◌, not, inl, inr, List, [], ◌∷◌, ◌++◌, Some}
 use Rattle.std.proofs.Common.{length, get_or, take, drop, codes, refl, sym, ap, ap₂, ◌∙◌, subst, arith, append_assoc}
 use Rattle.std.proofs.Common.{append-nil, drop-cons, length-append, length-drop, nat_lt, suc}
@@ -45,7 +45,7 @@ module _ (kind : StringKind) where
   AllAnywhere [] = Unit {0}
   AllAnywhere (u ∷ us) = ((r : List ℕ) → Stands (unit kind) u r) × AllAnywhere us
 
-  -- the text is made of such units
+  -- whether the text consists of units that stay units before any text
   pub record Units (p : List ℕ) : Type 0 where
     units : List (List ℕ)
     whole : p ≡ concat units
@@ -66,7 +66,7 @@ module _ (kind : StringKind) where
     each = both_anywhere a.units b.units a.each b.each;
   }
 
-  -- characters that are each a unit
+  -- the list of one-character texts of these characters
   abbrev singles : List ℕ → List (List ℕ)
   singles = map (λ c. c ∷ [])
 
@@ -82,9 +82,9 @@ module _ (kind : StringKind) where
   plain_units : (cs : List ℕ) → list_all (is_plain kind) cs ≡ true → Units cs
   plain_units cs all = record { units = singles cs; whole = sym (concat_singles cs); each = each_single cs all }
 
-  -- ---- what stands at the front of the text
+  -- ---- units at the start of the text
 
-  -- a text that is made of units
+  -- whether the bytes are valid UTF-8 and consist of units
   pub record Front (bytes : List ℕ) : Type 0 where
     utf8 : IsUtf8 bytes
     units : Units (chars bytes)
@@ -95,7 +95,7 @@ module _ (kind : StringKind) where
     units = subst Units (sym (chars-append a b x.utf8)) (both_units (chars a) (chars b) x.units y.units);
   }
 
-  -- an escape is one unit
+  -- an escape with its backslash is one unit
   escape_front : (p : List ℕ) → all_ascii p ≡ true
       → ((r : List ℕ) → Then (Exactly (codes "\\")) (Stands (escaped kind)) p r) → Front p
   escape_front p ascii is =
@@ -106,7 +106,7 @@ module _ (kind : StringKind) where
             (record { units = p ∷ []; whole = sym (append-nil p); each = (λ r. inr (inr (is r)), tt) });
       }
 
-  -- what stands before the byte that the search ends at
+  -- the characters before the byte at which the search ends need no escape
   plain_of : (cs : List ℕ) → list_all (may_stand_raw kind) cs ≡ true
       → list_all (λ b. not (is_byte3 34 92 13 b)) cs ≡ true → list_all (is_plain kind) cs ≡ true
   plain_of [] may goes = refl
@@ -128,9 +128,9 @@ module _ (kind : StringKind) where
             (ap (list_all test) front ∙ ((finds_run test).sound (chars bs)).1.each));
       }
 
-  -- ---- past an escape, and up to where the search ends after it
+  -- ---- after an escape, up to where the search ends again
 
-  -- the backslash stands at n, e bytes after it, and k bytes before the search ends
+  -- the backslash is at n, the escape after it has e bytes, and k bytes follow before the search ends
   module _ (inside after rest : List ℕ) (n e k : ℕ) (utf8 : IsUtf8 inside) (before : Front (take n inside))
       (slash : get_or inside n 0 ≡ 92) (inner : n < length inside) (same : after ≡ drop (n + 1) inside)
       (at : IsAsciiAt (Anywhere (Stands (escaped kind))) after e) (is : rest ≡ drop (n + 1 + e) inside) where
@@ -166,7 +166,7 @@ module _ (kind : StringKind) where
           (both_fronts (take (n + 1 + e) inside) (take k (drop (n + 1 + e) inside)) past_front
           (subst (λ xs. Front (take k xs)) is (stretch rest k rest_utf8 on)))
 
-  -- ---- the whole of it
+  -- ---- the whole string
 
   module _ (inside : List ℕ) (k : ℕ) (within : k < length inside) (front : Front (take k inside))
       (hit : get_or inside k 0 ≡ 34) (ended : ends (get_or inside (k + 1) 32) ≡ true) where
@@ -213,7 +213,7 @@ module _ (kind : StringKind) where
               ∙ ap (λ m. m + 1) (length-take-le k inside (omega (arith, within)))));
         }
 
--- in a string any character may stand before the byte that the search ends at
+-- a string may contain any character before the byte at which the search ends
 pub plain_stretch : (text bytes : List ℕ) (k : ℕ) → bytes ≡ text → IsFirstByte (is_byte3 34 92 13) bytes (Some k)
     → IsStretch strings.Plain text k
 plain_stretch text bytes k same found = record {
@@ -221,13 +221,13 @@ plain_stretch text bytes k same found = record {
   may = plain_holds (chars (take k text));
 }
 
--- ---- ASCII that stands for itself
+-- ---- ASCII without escapes
 
 and_no : (b : Bool) → (b && false) ≡ false
 and_no true = refl
 and_no false = refl
 
--- up to a quote or a backslash
+-- the ASCII bytes before a quote or a backslash are found by the search
 pub plain_up_to : (inside : List ℕ) (k stop : ℕ) → list_all is_plain_ascii (take k inside) ≡ true
     → get_or inside k 32 ≡ stop → is_byte3 34 92 13 stop ≡ true → (stop ≡ 32 → ⊥) → IsStretch strings.Plain inside k
 plain_up_to inside k stop all here stops other =
@@ -251,9 +251,9 @@ plain_up_to inside k stop all here stops other =
       may = plain_holds (chars (take k inside));
     }
 
--- ---- a form that stands there
+-- ---- a form at the start of a text
 
--- a form for another
+-- a piece of a form is a piece of each form that has the same pieces
 pub found_other : (A B : Form) (text : List ℕ) (n : ℕ) → ((p r : List ℕ) → A p r → B p r) → IsAt A text n
     → IsAt B text n
 found_other A B text n to at = record {
@@ -264,7 +264,7 @@ found_other A B text n to at = record {
   size = at.size;
 }
 
--- one of ASCII
+-- a piece of ASCII bytes has as many characters as bytes
 pub ascii_found : (A : Form) (text : List ℕ) (n : ℕ) → IsAsciiAt A text n → IsAt A (chars text) n
 ascii_found A text n at = record {
   front = take n text;
@@ -284,7 +284,7 @@ pub some_found : (A : Form) (text : List ℕ) (size : Option ℕ) → ((p r : Li
 some_found A text None to at = tt
 some_found A text (Some n) to at = found_other A Literal (chars text) n to at
 
--- what opens it
+-- an ASCII opener and a piece after it are a piece
 pub after_front : (A : Form) (opener text inside : List ℕ) (n : ℕ) → all_ascii opener ≡ true
     → text ≡ opener ++ inside → IsAt A inside n → IsAt (Then (Exactly opener) A) text (n + length opener)
 after_front A opener text inside n ascii whole at = record {
@@ -301,7 +301,7 @@ after_front A opener text inside n ascii whole at = record {
   );
 }
 
--- as a piece, whose characters are counted
+-- the literal is a piece of n bytes, and its characters are counted
 module _ (text : List ℕ) (n : ℕ) (utf8 : IsUtf8 text) (at : IsAt Literal (chars text) n) where
   pub literal_cut : IsCharBoundary text n
   literal_cut = seam_boundary text at.front at.rest n utf8 at.whole at.size
@@ -318,7 +318,7 @@ module _ (text : List ℕ) (n : ℕ) (utf8 : IsUtf8 text) (at : IsAt Literal (ch
     lends = subst LendsText (sym kind) tt;
   }
 
--- a string of one stretch of ASCII, which follows its first quote
+-- ASCII bytes without escapes after the first quote, and a quote, are a string
 pub plain_string : (first : Bool) (text inside : List ℕ) (k : ℕ) (piece : Piece) → IsUtf8 inside
     → chars text ≡ codes "\"" ++ chars inside → IsStretch strings.Plain inside k → get_or inside k 0 ≡ 34
     → IsAscii (take k inside) → ends (get_or inside (k + 1) 32) ≡ true → piece.kind ≡ kinds.Literal
@@ -354,7 +354,7 @@ plain_string first text inside k piece utf8 split is hit low ended kind bytes co
       lends = subst LendsText (sym kind) tt;
     }
 
--- by what was counted
+-- the bytes that were counted decide the extent of a string
 pub short_string : (inside bytes : List ℕ) (k stop : ℕ) (extent : Extent) → bytes ≡ inside → IsUtf8 inside
     → list_all is_plain_ascii (take k inside) ≡ true → stop ≡ get_or bytes k 32 → stop ≡ 34
     → ends (get_or bytes (k + 1) 32) ≡ true → extent.bytes ≡ k + 2 → extent.chars ≡ k + 2

@@ -1,4 +1,4 @@
--- A number before a dot that is no part of it.
+-- A number before a dot that does not belong to it.
 use Rattle.std.proofs.Common.{None, Some, ap₂, append-nil, codes}
 use Rattle.std.proofs.Common.{◌≡◌, ℕ, ◌+◌, ◌<◌, Bool, true, false, inl, List, [], ◌∷◌, ◌++◌}
 use Rattle.std.proofs.Common.{length, get_or, take, drop, nat_lt, refl, sym, ap, ◌∙◌, subst, arith}
@@ -29,7 +29,7 @@ use Rattle.lexical.proofs.RuleSteps.{find_either, find_not_before, find_then, te
 use Rattle.lexical.proofs.TextLemmas.{all_pass, any_cut}
 use Rattle.lexical.proofs.QuickNumberLemmas.{byte_here, in_bases, integer_at, plain_end, whole_at}
 
--- the dot, and what comes after it
+-- the text after the number is the dot and what follows it
 dot_split : (text after : List ℕ) (n : ℕ) → get_or text n 32 ≡ 46 → after ≡ drop (n + 1) text
     → chars (drop n text) ≡ 46 ∷ chars after
 dot_split text after n point is =
@@ -43,7 +43,7 @@ low_passes test [] low space passes = absurd (both_ways _ space passes)
 low_passes test (b ∷ text) low space passes =
     ap (first_passes test) (ascii_split (b ∷ text) 1 (and_from _ _ (lt-ltb b 128 low) refl)) ∙ passes
 
--- no number goes on with such a dot
+-- no number continues with a dot that does not belong to it
 barred_tail : (r rest : List ℕ) → r ≡ 46 ∷ rest → first_passes bars_dot rest ≡ true → find float_tail r ≡ None
 barred_tail r rest is bars =
     let point : find (rules.Exactly (codes ".")) r ≡ Some (46 ∷ [], rest) = text_found (codes ".") r rest is in

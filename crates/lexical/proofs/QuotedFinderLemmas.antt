@@ -1,4 +1,4 @@
--- Quoted literals are found.
+-- The finder of literals between quotes.
 use Rattle.std.proofs.Common.{◌≡◌, ℕ, true, ◌||◌, ◌==◌, List, ◌∷◌, ◌++◌, codes, inl, inr, refl, ap, ◌∙◌}
 use Rattle.std.specs.List.{list_all}
 use Rattle.std.specs.Str.{chars}
@@ -19,7 +19,7 @@ use Rattle.lexical.proofs.RuleSteps.{passed}
 
 -- ---- escapes
 
--- a character's code has digits and `_` only
+-- the code of a character has digits and `_` only
 pub digits_whole : (at to : Cursor) (h : Passes code_digits at to) → chars at.rest.now ≡ h.front ++ chars to.rest.now
 digits_whole at to h = (passed code_digits (assumption) at to h).0
 
@@ -30,7 +30,7 @@ digits_all at to h =
     and_from _ _ (ap (λ b. b || (is.first.0 == 95)) is.first.2) is.second.each in
     ap (list_all is_code_digit) (is.whole ∙ ap (λ x. x ++ is.back) is.first.1) ∙ all
 
--- what holds of each kind of string
+-- a statement about each of the three kinds of strings holds for all kinds
 pub each_kind : (P : StringKind → Type 0) → P kinds.Plain → P kinds.Byte → P kinds.C → (kind : StringKind) → P kind
 each_kind P plain bytes c kinds.Plain = plain
 each_kind P plain bytes c kinds.Byte = bytes
@@ -41,7 +41,7 @@ each_kind P plain bytes c kinds.C = c
 pub clear_body : (kind : StringKind) → Clear (body (unit kind) (codes "\""))
 clear_body = each_kind (λ k. Clear (body (unit k) (codes "\""))) (assumption) (assumption) (assumption)
 
--- where a unit of a raw string stands, what closes the string does not begin
+-- the text that closes a raw string does not begin at one of its units
 pub clear_raw_body : (kind : StringKind) (text : List ℕ) → Clear (body (raw_unit (may_stand_raw kind) text) text)
 clear_raw_body kind text = (
   each_kind (λ k. Clear (raw_unit (may_stand_raw k) text)) (assumption) (assumption) (assumption) kind,
@@ -57,7 +57,7 @@ clear_string kind = (
   each_kind (λ k. apart (cooked k) (raw_string k) ≡ true) refl refl refl kind,
 )
 
--- ---- all of them
+-- ---- all literals between quotes
 
 pub clear_quoted : Clear quoted_literal
 clear_quoted = assumption (clear_string kinds.Plain, clear_string kinds.Byte, clear_string kinds.C)

@@ -1,4 +1,4 @@
--- How strings end.
+-- How literals end.
 use Rattle.std.proofs.Common.{◌≡◌, ℕ, Bool, true, false, not, ◌==◌, List, [], ◌∷◌, ◌++◌, codes, refl, ap, ◌∙◌}
 use Rattle.std.specs.List.{list_all, list_any}
 use Rattle.std.proofs.lemmas.Bool.{both_ways, not-true}
@@ -11,25 +11,25 @@ use Rattle.lexical.proofs.ClassLemmas.{sub_listed}
 
 -- ---- suffixes
 
--- where no identifier starts, no name stands
+-- no name is there, if no identifier begins
 pub no_name : (r : List ℕ) → first_passes is_ident_start r ≡ false → HasNone Name r
 no_name r none p q whole is =
     both_ways _ none (ap (first_passes is_ident_start)
     (whole ∙ ap (λ xs. xs ++ q) (is.whole ∙ ap (λ xs. xs ++ is.back) is.first.1)) ∙ is.first.2)
 
--- nothing that goes on with a suffix stands at the front
+-- whether the text begins with no character that begins or continues a suffix
 pub record EndsSuffix (r : List ℕ) : Type 0 where
   pub start : first_passes is_ident_start r ≡ false
   pub continue : first_passes is_ident_continue r ≡ false
 
 -- ---- stops
 
--- a space, LF, a closer, or the end
+-- whether the text begins with a space, LF or a closer, or is empty
 abbrev pub stops : List ℕ → Bool
 stops [] = true
 stops (c ∷ r) = list_any (λ d. d == c) (codes " \n)]}")
 
--- it begins with none of a class that has none of these
+-- a text at a stop begins with no character of a class that contains no stop
 pub stop_out : (class : ℕ → Bool) (r : List ℕ) → list_all (λ c. not (class c)) (codes " \n)]}") ≡ true → stops r ≡ true
     → first_passes class r ≡ false
 stop_out class [] none e = refl

@@ -1,4 +1,4 @@
--- A CR that no LF follows is looked for from one CR to the next.
+-- The search for a CR with no LF after it goes from one CR to the next.
 use Rattle.std.proofs.Common.{◌≡◌, ℕ, ◌==◌, Bool, true, false, not, ◌||◌, List, [], ◌∷◌, ◌++◌, codes, refl, sym, ap}
 use Rattle.std.proofs.Common.{◌∙◌, ◌≤◌, arith, length, length-append, subst}
 use Rattle.std.specs.List.{list_all}
@@ -9,7 +9,7 @@ use Rattle.lexical.specs.Text.{begins_with, first_passes}
 use Rattle.lexical.specs.Finder.{while_front, while_rest}
 use Rattle.lexical.proofs.FinderLemmas.{finds_run}
 
--- a character other than CR
+-- whether the character is not CR
 abbrev pub other : ℕ → Bool
 other c = not (c == carriage_return)
 
@@ -17,7 +17,7 @@ none_in : (p r : List ℕ) → list_all other p ≡ true → has_bare_return (p 
 none_in [] r all = refl
 none_in (c ∷ p) r all = grind (arith, all, none_in p r)
 
--- the rest is at the next CR, or at the end
+-- whether the rest begins with the next CR, or is empty
 pub record AtReturn (text rest : List ℕ) : Type 0 where
   pub same : has_bare_return rest ≡ has_bare_return text
   pub stands : first_passes other rest ≡ false
@@ -39,7 +39,7 @@ rest_within text = omega (
   length-append (while_front other text) (while_rest other text),
 )
 
--- of a text that begins with a CR
+-- whether a text that begins with a CR has a CR with no LF after it
 pub at_return : (c : ℕ) (rest text : List ℕ) → text ≡ c ∷ rest → first_passes other text ≡ false
     → has_bare_return text ≡ (not (begins_with (codes "\n") rest) || has_bare_return rest)
 at_return c rest text e stands = let is = not-false _ (rw e at stands) in rw (e, is) refl

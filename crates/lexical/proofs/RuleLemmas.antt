@@ -1,4 +1,4 @@
--- What is found by a rule is what the rule says, where its choices stand apart, which computes.
+-- A rule finds exactly its pieces, if its choices cannot begin alike. This condition computes.
 use Rattle.std.proofs.Common.{◌≡◌, ◌⊎◌, ℕ, Bool, true, false, not, ◌&&◌, ◌||◌, IsTrue, List, [], ◌∷◌, ◌++◌, length}
 use Rattle.std.proofs.Common.{None, inl, inr, refl, sym, ap, ◌∙◌, arith, append_assoc, append-nil}
 use Rattle.std.proofs.lemmas.Bool.{both_ways, and_parts, or_cases, not-true, false_from_ne_true}
@@ -17,9 +17,9 @@ use Rattle.lexical.proofs.WordLemmas.{finds_many_then}
 
 -- ---- how the pieces of a rule begin
 
--- the ways to begin that pass: with a character of a class, with a text, and where none of some texts begins
+-- The three ways to begin that pass: with a character of a class, with a text, or if none of some texts begins.
 module _ (class : (ℕ → Bool) → Bool) (exact : List ℕ → Bool) (none : List (List ℕ) → Bool) where
-  -- whether each piece of the rule begins in a way that passes, as far as its words tell
+  -- whether each piece of the rule begins in a way that passes, as far as its constructors show
   abbrev pub leads : Rule → Bool
   leads (One passes) = class passes
   leads (Run passes) = false
@@ -34,14 +34,14 @@ module _ (class : (ℕ → Bool) → Bool) (exact : List ℕ → Bool) (none : L
   leads (Where test a) = leads a
   leads (Ends depth) = false
 
-  -- a piece begins so, before r
+  -- whether the piece p, followed by r, begins in a way that passes
   abbrev pub Led : List ℕ → List ℕ → Type 0
   Led p r =
       ((passes : ℕ → Bool) × (class passes ≡ true) × (first_passes passes p ≡ true))
       ⊎ (((front : List ℕ) × (rest : List ℕ) × (exact front ≡ true) × (p ≡ front ++ rest))
       ⊎ ((fronts : List (List ℕ)) × (none fronts ≡ true) × (begins_any fronts (p ++ r) ≡ false)))
 
-  -- a piece of the rule, and more behind it
+  -- a piece of the rule with more text after it begins in a way that passes
   led_more : (rule : Rule) → leads rule ≡ true → (p q back r : List ℕ) → q ≡ p ++ back → Stands rule p (back ++ r)
       → Led q r
   led_more (One passes) h p q back r e is =
@@ -80,7 +80,7 @@ begins_holds test rule h p r is = elim (led (λ passes. false) test (λ fronts. 
   | inr (inr none) ↦ absurd (both_ways _ refl none.1)
 ]
 
--- so with one of some texts, where each of those does
+-- each piece of the rule begins with one of the prefixes, if each text that it can begin with does
 pub begins_one : (fronts : List (List ℕ)) (rule : Rule) → begins (begins_any fronts) rule ≡ true → (p r : List ℕ)
     → Stands rule p r
     → begins_any fronts p ≡ true
@@ -88,7 +88,7 @@ begins_one fronts rule h p r is =
     let at = begins_holds (begins_any fronts) rule h p r is in
     ap (begins_any fronts) at.3 ∙ any_begins_more fronts at.0 at.1 at.2
 
--- where each class that counts has only characters that pass, and each text begins with one, so does each piece
+-- each piece begins with a character that passes, if all characters of the classes and the first ones of the texts do
 first_led : (class : (ℕ → Bool) → Bool) (passes : ℕ → Bool) (rule : Rule)
     → leads class (first_passes passes) (λ fronts. false) rule ≡ true
     → ((k : ℕ → Bool) (c : ℕ) → class k ≡ true → k c ≡ true → passes c ≡ true) → (p r : List ℕ) → Stands rule p r
@@ -104,7 +104,7 @@ pub first_one : (passes : ℕ → Bool) (rule : Rule) → begins (first_passes p
     → (c : ℕ) × (q : List ℕ) × (p ≡ c ∷ q) × (passes c ≡ true)
 first_one passes rule h = first_led (λ k. false) passes rule h (λ k c no is. absurd (both_ways _ refl no))
 
--- whether each piece of the rule begins with a character, and so is not empty
+-- whether each piece of the rule begins with a character, so that it is not empty
 abbrev pub some : Rule → Bool
 some = leads (λ passes. true) (first_passes (λ c. true)) (λ fronts. false)
 
@@ -113,7 +113,7 @@ some_holds rule h p r is =
     let at = first_led (λ passes. true) (λ c. true) rule h (λ k c yes is. refl) p r is in
     omega (arith, ap length at.2)
 
--- whether no text that begins with this one begins with a piece of the rule
+-- whether no text with this prefix begins with a piece of the rule
 abbrev pub bars : List ℕ → Rule → Bool
 bars front = leads (λ passes. first_passes (λ c. not (passes c)) front) (λ text. differ text front)
     (λ fronts. begins_any fronts front)
@@ -132,7 +132,7 @@ barred front rule h rest p r is e = elim (led _ _ _ rule h p r is) [
     never passes [] is out = both_ways _ refl is
     never passes (c ∷ text) is out = both_ways _ (not-true _ out) is
 
--- where a rule has no empty piece, each begins with a character that is not barred
+-- if a rule has no empty piece, each piece begins with a character that the rule does not bar
 pub first_unbarred : (rule : Rule) → some rule ≡ true → (p r : List ℕ) → Stands rule p r
     → (c : ℕ) × (q : List ℕ) × (p ≡ c ∷ q) × (bars (c ∷ []) rule ≡ false)
 first_unbarred rule h p r is =
@@ -144,9 +144,9 @@ first_unbarred rule h p r is =
           (λ out. barred (at.0 ∷ []) rule out (at.1 ++ r) p r is (ap (λ q. q ++ r) at.2)),
     )
 
--- ---- rules that stand apart
+-- ---- rules that cannot begin alike
 
--- whether one of two rules begins with texts that bar the other
+-- whether one of two rules begins only with texts that bar the other
 abbrev pub apart : Rule → Rule → Bool
 apart a b = begins (λ front. bars front b) a || begins (λ front. bars front a) b
 
@@ -163,9 +163,8 @@ apart_holds a b h = elim (or_cases _ _ h) [
 
 -- ---- clear rules
 
--- the rules of each `Either` in the rule stand apart, and so do what each `UpTo` repeats, which is not empty, and what
--- ends it.
--- For a rule without variables that holds by `assumption`
+-- whether the rules of each `Either` in the rule cannot begin alike. Nor can the repeated rule of an `UpTo`, which has
+-- no empty piece, and the rule that ends it. For a rule without variables, `assumption` proves this
 abbrev pub Clear : Rule → Type 0
 Clear (One passes) = Unit {0}
 Clear (Run passes) = Unit {0}
@@ -196,12 +195,12 @@ exact (NotBefore passes a) clear = finds_not_before passes _ _ (exact a clear)
 exact (Where test a) clear = finds_where (λ p r. test p) _ _ (exact a clear)
 exact (Ends depth) clear = finds_ends depth
 
--- ---- and so, for all rules
+-- ---- consequences for all rules
 
 pub none_found : (rule : Rule) → Clear rule → (text : List ℕ) → HasNone (Stands rule) text → find rule text ≡ None
 none_found rule clear = finders.none_found (find rule) (Stands rule) (exact rule clear)
 
--- at most one split of a text is a piece of the rule
+-- at most one prefix of a text is a piece of the rule
 pub one_split : (rule : Rule) → Clear rule → (p q r s : List ℕ) → Stands rule p r → Stands rule q s → p ++ r ≡ q ++ s
     → (p ≡ q) × (r ≡ s)
 one_split rule clear = finders.one_split (find rule) (Stands rule) (exact rule clear)

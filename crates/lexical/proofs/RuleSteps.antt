@@ -1,4 +1,4 @@
--- Steps that follow one another, one lemma for each word that rules are made of.
+-- Steps that follow one another: one lemma for each constructor of `Rule`.
 use Rattle.std.proofs.Common.{◌≡◌, ℕ, ◌+◌, ◌≤◌, Bool, true, false, not, cond, List, [], ◌∷◌, ◌++◌, length, Option, Some}
 use Rattle.std.proofs.Common.{None, refl, sym, ap, ◌∙◌, subst, arith, length-append}
 use Rattle.std.specs.Str.{chars}
@@ -13,7 +13,7 @@ use Rattle.lexical.proofs.TextLemmas.{begins_splits, begins_front}
 use Rattle.lexical.proofs.FinderLemmas.{found_is}
 use Rattle.lexical.proofs.RuleLemmas.{Clear, exact, none_found}
 
--- ---- what is found, word by word
+-- ---- what is found, by constructor
 
 pub find_then : (a b : Rule) (text : List ℕ) → find (Then a b) text ≡ and_find (find b) (find a text)
 unfolding find
@@ -43,12 +43,12 @@ find_nothing text = refl
 
 -- ---- what was passed
 
--- what was passed stands at the cursor
+-- the text that was passed is a piece at the cursor
 pub passed : (rule : Rule) → Clear rule → (at to : Cursor) (h : Passes rule at to)
     → (chars at.rest.now ≡ h.front ++ chars to.rest.now) × Stands rule h.front (chars to.rest.now)
 passed rule clear at to h = found_is _ _ (exact rule clear) _ h.front _ h.found
 
--- a run leads no way back
+-- a run never leads backwards
 pub run_goes_on : (plain : ℕ → Bool) (at to : Cursor) → Passes (Run plain) at to
     → length (chars to.rest.now) ≤ length (chars at.rest.now)
 run_goes_on plain at to h = omega
@@ -92,7 +92,7 @@ pub text_lacks : (front text : List ℕ) → begins_with front text ≡ false �
 text_lacks front text h =
     none_found (Exactly front) tt text (λ p r e is. both_ways _ h (rw (e, is) (begins_front front r)))
 
--- and the other way
+-- if a text is not found, the rest does not begin with it
 pub lacks_text : (front text : List ℕ) → find (Exactly front) text ≡ None → begins_with front text ≡ false
 lacks_text front text none = grind (arith, none, begins_splits front text, text_found front text)
 
@@ -119,7 +119,7 @@ then_lacks a b text none = rw (find_then, none)
 
 -- ---- `Either`, `Else`
 
--- a rule that finds the same
+-- a step of a rule is a step of each rule that finds the same
 pub passes_same : (a b : Rule) (at to : Cursor) → find b (chars at.rest.now) ≡ find a (chars at.rest.now)
     → Passes a at to → Passes b at to
 passes_same a b at to e h = record { front = h.front; found = e ∙ h.found; count = h.count }
@@ -144,7 +144,7 @@ pub else_reads : (a b : Rule) (at : Cursor) (result : Option Cursor) → find a 
     → Reads b at result → Reads (Else a b) at result
 else_reads a b at result none h = reads_same b (Else a b) at result (rw (find_else, none)) h
 
--- the cursor itself, where there may be nothing
+-- the cursor itself is returned, if the piece is optional and not there
 pub perhaps_stays : (a : Rule) (at : Cursor) → find a (chars at.rest.now) ≡ None → Passes (perhaps a) at at
 perhaps_stays a at none = record { front = []; found = rw (find_else, none, find_nothing); count = omega arith }
 
@@ -167,7 +167,7 @@ unfolding find
 not_at_lacks fronts a text none =
     cond_both (begins_any fronts text) None (find a text) (λ o. o ≡ None) (λ e. refl) (λ e. none)
 
--- with one front
+-- `NotAt` with one prefix
 pub apart_passes : (front : List ℕ) (a : Rule) (at to : Cursor) → begins_with front (chars at.rest.now) ≡ false
     → Passes a at to
     → Passes (NotAt (front ∷ []) a) at to
@@ -187,7 +187,7 @@ before_lacks passes a at to h e = rw (find_not_before, h.found, e)
 
 -- ---- `Where`
 
--- the text is what stands between the cursors
+-- whether the text is the one between the cursors
 abbrev pub IsBetween : List ℕ → Cursor → Cursor → Type 0
 IsBetween text at to = (front : List ℕ) → chars at.rest.now ≡ front ++ chars to.rest.now → text ≡ front
 
@@ -201,7 +201,7 @@ pub where_lacks : (test : List ℕ → Bool) (a : Rule) → Clear a → (at to :
     → IsBetween text at to → test text ≡ false → find (Where test a) (chars at.rest.now) ≡ None
 where_lacks test a clear at to text h same e = rw (find_where, h.found, ← same h.front (passed a clear at to h).0, e)
 
--- ---- all of them
+-- ---- all steps
 
 pub ruleset steps = (
   find_then,

@@ -8,13 +8,13 @@ use Rattle.lexical.specs.Step.{Passes}
 use Rattle.lexical.specs.declared.cursor.Cursor.{Cursor}
 use Rattle.lexical.proofs.FinderLemmas.{while_rest_none}
 
--- the run from one cursor goes on at the other
+-- whether the run from one cursor continues at the other
 abbrev pub GoesOn : (ℕ → Bool) → Cursor → Cursor → Type 0
 GoesOn test at end = (while_rest test (chars end.rest.now) ≡ while_rest test (chars at.rest.now))
     × (end.chars_before + length (while_front test (chars end.rest.now))
     ≡ at.chars_before + length (while_front test (chars at.rest.now)))
 
--- at a character that doesn't, or the end
+-- at a character that does not pass, or at the end, the run ends
 pub run_stop : (test : ℕ → Bool) (at end : Cursor) → GoesOn test at end
     → first_passes test (chars end.rest.now) ≡ false → Passes (Run test) at end
 unfolding find

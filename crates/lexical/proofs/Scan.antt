@@ -1,4 +1,4 @@
--- A run over characters is a run over bytes, where the characters past ASCII all pass, or none does.
+-- A run over characters is a run over bytes, if all characters past ASCII pass or none does.
 use Rattle.std.proofs.Common.{◌≡◌, ℕ, suc, ◌+◌, ◌<◌, ◌≤◌, Bool, true, false, inl, inr, List, [], ◌∷◌, ◌++◌, length}
 use Rattle.std.proofs.Common.{get_or, take, drop, refl, sym, ap, ◌∙◌, arith, append-nil}
 use Rattle.std.specs.Prelude.{encode_utf8}
@@ -24,7 +24,7 @@ all_from test [] each high = refl
 all_from test (b ∷ bs) each high =
     and_from _ _ (each b (high 0 (omega arith))) (all_from test bs each (λ k within. high (suc k) (omega arith)))
 
--- one test for characters and bytes, which gives one answer past ASCII
+-- one test for characters and bytes, with the same result for all past ASCII
 module _ (test : ℕ → Bool) (beyond : Bool) (high : (c : ℕ) → 128 ≤ c → test c ≡ beyond) where
   char_on : (c : ℕ) → test c ≡ true → list_all test (encode_utf8 c) ≡ true
   char_on c is = elim (cases_lt c 128) [
@@ -38,7 +38,7 @@ module _ (test : ℕ → Bool) (beyond : Bool) (high : (c : ℕ) → 128 ≤ c �
     | inr past ↦ let cell = first_byte c past in rw cell.2 (high cell.0 cell.3 ∙ (sym (high c past) ∙ is))
   ]
 
-  -- the run over the bytes is that over the characters
+  -- the run over the bytes is the encoded run over the characters
   scan : (cs : List ℕ) → while_front test (encode_utf8_all cs) ≡ encode_utf8_all (while_front test cs)
   scan [] = refl
   scan (c ∷ cs) =
@@ -47,7 +47,7 @@ module _ (test : ℕ → Bool) (beyond : Bool) (high : (c : ℕ) → 128 ≤ c �
       (λ on. rw ((while_more test (encode_utf8 c) (encode_utf8_all cs) (char_on c on)).0, scan cs))
       (λ off. (while_rest_none test (encode_utf8 c ++ encode_utf8_all cs) (char_off c (encode_utf8_all cs) off)).0)
 
-  -- so many bytes of the text are of the run
+  -- facts about a run of n bytes
   module _ (text : List ℕ) (utf8 : IsUtf8 text) (n : ℕ) (size : n ≡ length (while_front test text)) where
     whole : chars text ≡ while_front test (chars text) ++ while_rest test (chars text)
     whole = sym (while_whole test (chars text))
@@ -64,7 +64,7 @@ module _ (test : ℕ → Bool) (beyond : Bool) (high : (c : ℕ) → 128 ≤ c �
     pub run_rest : chars (drop n text) ≡ while_rest test (chars text)
     run_rest = seam_drop text _ _ n utf8 whole bytes_of
 
-  -- and the cursor after them is that after the run
+  -- the cursor after n bytes is the cursor after the run
   pub run_over : (at to : Cursor) → IsUtf8 at.rest.now → (n : ℕ) → n ≡ length (while_front test at.rest.now)
       → to.rest.now ≡ drop n at.rest.now
       → to.chars_before ≡ at.chars_before + length (chars (take n at.rest.now)) → Passes (Run test) at to

@@ -18,7 +18,7 @@ use Rattle.lexical.specs.declared.quoted.StringKind.TheVariants as kinds
 use Rattle.lexical.proofs.Scan.{run_boundary, run_over, run_rest}
 
 module _ (test : ℕ → Bool) where
-  -- the byte at k is the first that passes, or the bytes end there
+  -- the run has k bytes, if the byte at k is the first that passes or the bytes end there
   run_to : (bs : List ℕ) (k : ℕ) → k ≤ length bs → ((i : ℕ) → i < k → bytes.Passes test bs i → ⊥)
       → (k < length bs → bytes.Passes test bs k) → length (while_front (λ b. not (test b)) bs) ≡ k
   run_to [] k within none hit = omega arith
@@ -27,7 +27,7 @@ module _ (test : ℕ → Bool) where
       ap length (cond-true _ _ _ (not_from_false _ (false_from_ne_true _ (none 0 (omega arith)))))
       ∙ ap suc (run_to bs k (omega arith) (λ i before at. none (suc i) (omega arith) at) (λ more. hit (omega arith)))
 
-  -- what the search answers, or the end of the bytes
+  -- the run ends where the search found a byte, or at the end
   pub found_end : (bs : List ℕ) (r : Option ℕ) → IsFirstByte test bs r
       → length (while_front (λ b. not (test b)) bs) ≡ unwrap_or r (length bs)
   found_end bs None none =
@@ -36,7 +36,7 @@ module _ (test : ℕ → Bool) where
   found_end bs (Some k) h =
       run_to bs k (omega (arith, h.0.high)) (λ i before hit. h.0.before i (omega arith) before hit) (λ more. h.1)
 
-  -- the cursor where the search ends is that after the run
+  -- the cursor where the search ends is the cursor after the run
   pub found_run : ((c : ℕ) → 128 ≤ c → test c ≡ false) → (at to : Cursor) (bs : List ℕ) (r : Option ℕ) (n : ℕ)
       → IsUtf8 bs → bs ≡ at.rest.now
       → IsFirstByte test bs r → n ≡ unwrap_or r (length bs) → to.rest.now ≡ drop n at.rest.now
@@ -45,7 +45,7 @@ module _ (test : ℕ → Bool) where
       run_over (λ c. not (test c)) true (λ c high. not_from_false _ (past c high)) at to (subst IsUtf8 same utf8) n
       (e ∙ (sym (found_end bs r found) ∙ ap (λ x. length (while_front (λ c. not (test c)) x)) same)) rest count
 
-  -- where the search ends, as a place in the text
+  -- the search ends between two characters, and the text from there on is the text after the run
   pub found_rest : ((c : ℕ) → 128 ≤ c → test c ≡ false) → (text bs : List ℕ) (r : Option ℕ) (n : ℕ)
       → IsUtf8 text → bs ≡ text → IsFirstByte test bs r → n ≡ unwrap_or r (length bs)
       → IsCharBoundary text n × (chars (drop n text) ≡ while_rest (λ c. not (test c)) (chars text))
@@ -56,9 +56,9 @@ module _ (test : ℕ → Bool) where
       e ∙ (sym (found_end bs r found) ∙ ap (λ x. length (while_front other x)) same) in
       (run_boundary other true high text utf8 n size, run_rest other true high text utf8 n size)
 
--- a stretch that is checked: what passes both may stand in it and ends it not
+-- bytes that are checked after the search: `both` passes what is allowed and does not end the run
 module _ (test allowed both : ℕ → Bool) (same : (c : ℕ) → both c ≡ (allowed c && not (test c))) where
-  -- up to what may not stand there, as much as is of the run
+  -- the allowed bytes within the run are the run of `both`
   count_both : (bs : List ℕ)
       → length (while_front allowed (take (length (while_front (λ b. not (test b)) bs)) bs))
       ≡ length (while_front both bs)
@@ -90,26 +90,26 @@ module _ (test allowed both : ℕ → Bool) (same : (c : ℕ) → both c ≡ (al
         → to.chars_before ≡ at.chars_before + length (chars (take n at.rest.now)) → Passes (Run both) at to
     allowed_run to rest count = run_over both beyond both_high at to (subst IsUtf8 whole utf8) n size rest count
 
--- what a string forbids depends on ASCII alone: it may have each character past that, or none
+-- a string may contain either all characters past ASCII or none
 pub raw_past : (kind : StringKind) (c : ℕ) → 128 ≤ c → may_stand_raw kind c ≡ may_stand_raw kind 128
 raw_past kinds.Plain c h = refl
 raw_past kinds.Byte c h = grind arith
 raw_past kinds.C c h = grind arith
 
--- ---- what a string may have, among the bytes of a stretch
+-- ---- the characters that a string may contain, among bytes
 
--- all of them, where nothing is forbidden
+-- a string with nothing forbidden may contain all the bytes
 pub allowed_plain : (bs : List ℕ) → length bs ≡ length (while_front (may_stand_raw kinds.Plain) bs)
 allowed_plain [] = refl
 allowed_plain (b ∷ bs) = ap suc (allowed_plain bs)
 
--- and where all are ASCII
+-- a byte string may contain all the bytes, if they are ASCII
 pub allowed_ascii : (bs : List ℕ) → IsAscii bs → length bs ≡ length (while_front is_ascii bs)
 allowed_ascii [] low = refl
 allowed_ascii (b ∷ bs) low =
     ap suc (allowed_ascii bs (λ i. low (suc i))) ∙ sym (ap length (cond-true _ _ _ (lt-ltb b 128 (low 0))))
 
--- the characters that stand for themselves in a string with escapes
+-- a character needs no escape, if the string may contain it and the search does not end at it
 pub plain_allowed : (kind : StringKind) (c : ℕ) → is_plain kind c ≡ (may_stand_raw kind c && not (is_byte3 34 92 13 c))
 plain_allowed kinds.Plain c = grind arith
 plain_allowed kinds.Byte c = grind arith

@@ -1,4 +1,4 @@
--- Covers of what a walk has left, before a run of white characters and a piece and after them.
+-- Covers of the rest of a walk, before and after a run of white characters and a piece.
 use Rattle.std.proofs.Common.{◌≡◌, ◌==◌, ◌<◌, ℕ, Bool, true, false, List, [], ◌∷◌, ◌++◌, ◌∙◌, ◌&&◌, Some, None}
 use Rattle.std.proofs.Common.{◌+◌, IfNone, IfSome, ap, ap₂, append-nil, arith, encode_utf8, inl, length, length-append}
 use Rattle.std.proofs.Common.{refl, subst, sym}
@@ -18,20 +18,20 @@ use Rattle.lexical.specs.declared.walk.Spaced.{Spaced}
 use Rattle.lexical.proofs.PieceFacts.{piece_not_empty}
 use Rattle.lexical.proofs.PieceLemmas.{one_piece}
 
--- the gaps that white characters are
+-- the gaps of white characters, one for each
 abbrev pub gaps : List ℕ → List Piece
 gaps [] = []
 gaps (c ∷ white) = (Gap, c ∷ []) ∷ gaps white
 
--- the piece that the walk gives
+-- the piece of the grammar that the walk returned
 abbrev pub piece_of : PlacedPiece → Piece
 piece_of next = (kind_of next.piece.kind (chars next.text.now), chars next.text.now)
 
--- these pieces cover what the walk has left
+-- whether these pieces cover the rest of the walk
 abbrev pub Covers : PieceWalk → List Piece → Type 0
 Covers at xs = (chars at.rest.now ≡ onto xs []) × StandBefore at.at_front xs []
 
--- what holds as long as nothing is passed holds after no white character, and not after one
+-- the walk is at its start after no white character, if it was before, and is not after at least one
 pub still : (first : Bool) → (first && true) ≡ first
 still true = refl
 still false = refl
@@ -41,7 +41,7 @@ no_longer true c white =
     false_from_ne_true _ (λ e. let clash : length (c ∷ white) ≡ 0 = eqb-true _ 0 e in omega arith)
 no_longer false c white = refl
 
--- a text has no bytes where it has no characters
+-- a text has no bytes exactly if it has no characters
 pub none_passed : (text : List ℕ) → IsUtf8 text → (length text == 0) ≡ (length (chars text) == 0)
 none_passed text utf8 = ap (λ l. length l == 0) (sym (encodes-chars text utf8)) ∙ by_chars (chars text)
   where
@@ -92,7 +92,7 @@ module _ (at : PieceWalk) (white : List ℕ) (to : PieceWalk) (passes : PassesWh
   behind : to.at_front ≡ (at.at_front && (length (chars white) == 0))
   behind = passes.behind ∙ ap (λ none. at.at_front && none) (none_passed white passes.splits.white_utf8)
 
-  -- with its gaps what covers the text after a run covers the text before it
+  -- a cover of the text after a run, with the run's gaps before it, covers the text before the run
   pub white_back : (ys : List Piece) → Covers to ys → Covers at (gaps (chars white) ++ ys)
   white_back ys covers = (
     passes.splits.whole ∙ (ap (λ r. chars white ++ r) covers.0 ∙ sym (onto_gaps (chars white) ys)),
@@ -100,7 +100,7 @@ module _ (at : PieceWalk) (white : List ℕ) (to : PieceWalk) (passes : PassesWh
         (subst (λ b. StandBefore b ys []) behind covers.1),
   )
 
-  -- what covers the text before a run begins with its gaps
+  -- a cover of the text before a run begins with the run's gaps
   pub white_on : (xs : List Piece) → Covers at xs
       → (ys : List Piece) × Covers to ys × (xs ≡ gaps (chars white) ++ ys)
   white_on xs covers =
@@ -134,7 +134,7 @@ module _ (at : PieceWalk) (next : PlacedPiece) (to : PieceWalk) (is : IsNext at 
         ap (λ y. y ∷ xs) (sym (ap₂ (λ k p. (k, p)) same.0 same.1)),
       )
 
--- where no piece stands, only nothing is covered
+-- if no piece begins there, only the empty list covers the text
 pub none_on : (at : PieceWalk) (xs : List Piece) → HasNoPiece at.at_front (chars at.rest.now) → Covers at xs → xs ≡ []
 none_on at [] none covers = refl
 none_on at (x ∷ xs) none covers = absurd (none x.0 x.1 (onto xs []) covers.0 covers.1.0)
@@ -183,7 +183,7 @@ module _ (at : PieceWalk) (next : Spaced) (to : PieceWalk) (is : IsSpaced at nex
   pub none_there : HasNoPiece is.here.at_front (chars is.here.rest.now)
   none_there = subst (λ o. IfNone o (HasNoPiece is.here.at_front (chars is.here.rest.now))) none is.none
 
-  -- the walk then stands where the piece would
+  -- without a piece, the walk stays after the white characters
   pub none_rest : to.rest.now ≡ next.rest.now
   none_rest =
       let unchanged = subst (λ o. IfNone o (to ≡ is.here)) none is.unchanged in

@@ -1,4 +1,4 @@
--- What is left of a text without its front or its end.
+-- A text without its prefix or its last character.
 use Rattle.std.proofs.Common.{◌≡◌, ◌≢◌, ℕ, true, false, List, [], ◌∷◌, ◌++◌, length, take, Option, Some, None}
 use Rattle.std.proofs.Common.{MatchOption, Bor, refl, sym, ap, ◌∙◌, subst, arith, append-nil}
 use Rattle.std.specs.Str.{chars, IsUtf8, encode_utf8_all}
@@ -13,9 +13,9 @@ use Rattle.lexical.specs.Text.{begins_with, ends_with}
 pub use Rattle.lexical.proofs.TextLemmas.{is_ascii}
 use Rattle.lexical.proofs.TextLemmas.{begins_chars, begins_splits, ends_splits, ends_back, seam_bytes}
 
--- ---- the front
+-- ---- the prefix
 
--- the clause of `strip_prefix` at an ASCII text, by characters
+-- the contract of `strip_prefix` for an ASCII text, in terms of characters
 pub strips_chars : (front text : List ℕ) (r : Option (Bor (List ℕ))) → IsUtf8 text → all_ascii front ≡ true
     → MatchOption r (FindsTextPrefix front text None) (λ x. StripsPrefix (FindsTextPrefix front) text x.now)
     → MatchOption r (begins_with front (chars text) ≡ false) (λ x. chars text ≡ front ++ chars x.now)
@@ -30,7 +30,7 @@ strips_chars front text (Some x) utf8 ascii h =
 
 -- ---- the CR at the end
 
--- what a text loses without the CR at its end
+-- the CR at the end of a text, or nothing
 abbrev pub last_return : List ℕ → List ℕ
 last_return text = if ends_with 13 text then 13 ∷ [] else []
 

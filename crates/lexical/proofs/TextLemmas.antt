@@ -19,13 +19,13 @@ use Rattle.std.proofs.lemmas.Slice.Eq.{bytes_eq-Decides}
 use Rattle.lexical.specs.Text.{begins_with, begins_any, first_passes, ends_with}
 use Rattle.lexical.specs.Ascii.{all_ascii}
 
--- std's `starts_with` at numbers
+-- std's `starts_with` on numbers is `begins_with`
 pub starts_with_is : (bytes front : List ℕ) → starts_with eqb bytes front ≡ begins_with front bytes
 starts_with_is bytes [] = refl
 starts_with_is [] (c ∷ front) = refl
 starts_with_is (d ∷ bytes) (c ∷ front) = ap (λ b. (c == d) && b) (starts_with_is bytes front)
 
--- where one test passes what another does
+-- a text whose characters pass one test passes each weaker test
 pub all_pass : (test other : ℕ → Bool) → ((c : ℕ) → test c ≡ true → other c ≡ true) → (text : List ℕ)
     → list_all test text ≡ true → list_all other text ≡ true
 all_pass test other part [] h = refl
@@ -54,7 +54,7 @@ first_byte d h = by_bytes (encode_utf8 d) refl
 apart : (c d : ℕ) (x y : Bool) → c < 128 → 128 ≤ d → ((c == d) && x) ≡ false
 apart c d x y h k = ap (λ b. b && x) (ne_eqb c d (λ e. omega arith))
 
--- an ASCII text begins the bytes where it begins the characters
+-- an ASCII text is a prefix of the bytes exactly if it is a prefix of the characters
 begins_encodes : (front cs : List ℕ) → all_ascii front ≡ true
     → begins_with front (encode_utf8_all cs) ≡ begins_with front cs
 begins_encodes [] cs h = refl
@@ -87,7 +87,7 @@ encode_all_ascii text h = encodes-IsAscii text (is_ascii text h)
 pub ascii_bytes : (front : List ℕ) → all_ascii front ≡ true → length (encode_utf8_all front) ≡ length front
 ascii_bytes front h = ap length (encode_all_ascii front h)
 
--- a text is an ASCII one in bytes where it is in characters
+-- the bytes of a text equal an ASCII text exactly if its characters do
 pub ascii_same : (text ascii : List ℕ) → IsUtf8 text → all_ascii ascii ≡ true
     → pointwise nat_eq text ascii ≡ pointwise nat_eq (chars text) ascii
 ascii_same text ascii utf8 h =
@@ -106,7 +106,7 @@ split_scalars (c ∷ p) r h =
     let more = split_scalars p r parts.1 in
     (and_from _ _ parts.0 more.0, more.1)
 
--- a text may be cut between its characters
+-- a text may be cut between two characters
 pub seam_utf8 : (text p r : List ℕ) → IsUtf8 text → chars text ≡ p ++ r → IsUtf8 (encode_utf8_all r)
 seam_utf8 text p r t e = (r, ((split_scalars p r (ap scalars (sym e) ∙ scalars-chars text t)).1, refl))
 
@@ -137,7 +137,7 @@ seam_drop text p r n t e is =
     ap chars (ap (drop n) (seam_bytes text p r t e) ∙ drop_at (encode_utf8_all p) (encode_utf8_all r) n (sym is))
     ∙ seam_rest text p r t e
 
--- a text and an end of it, which follows so many bytes
+-- the bytes of a prefix and of the rest are together the bytes of the text
 pub front_len : (text rest front : List ℕ) → IsUtf8 text → IsUtf8 rest → chars text ≡ front ++ chars rest
     → length (encode_utf8_all front) + length rest ≡ length text
 front_len text rest front t r e =
@@ -167,7 +167,7 @@ chars_within text t = subst (λ n. length (chars text) ≤ n) (ap length (encode
 
 -- ---- how a text begins and ends
 
--- a text that begins so is that and a rest
+-- a text with this prefix is the prefix and a rest
 pub begins_splits : (front text : List ℕ) → begins_with front text ≡ true → (rest : List ℕ) × (text ≡ front ++ rest)
 begins_splits [] text h = (text, refl)
 begins_splits (c ∷ front) [] h = absurd (both_ways _ refl h)
@@ -176,7 +176,7 @@ begins_splits (c ∷ front) (d ∷ text) h =
     let more = begins_splits front text parts.1 in
     (more.0, ap₂ (λ x xs. x ∷ xs) (sym (eqb-true c d parts.0)) more.1)
 
--- and the other way
+-- a text that is a prefix and a rest begins with the prefix
 pub begins_front : (front rest : List ℕ) → begins_with front (front ++ rest) ≡ true
 begins_front [] rest = refl
 begins_front (c ∷ front) rest = and_from _ _ (eq-eqb c c refl) (begins_front front rest)
@@ -184,7 +184,7 @@ begins_front (c ∷ front) rest = and_from _ _ (eq-eqb c c refl) (begins_front f
 pub begins_self : (text : List ℕ) → begins_with text text ≡ true
 begins_self text = ap (begins_with text) (sym (append-nil text)) ∙ begins_front text []
 
--- a text that begins so goes on
+-- a text keeps its first character when more text follows
 pub first_more : (passes : ℕ → Bool) (text rest : List ℕ) → first_passes passes text ≡ true
     → first_passes passes (text ++ rest) ≡ true
 first_more passes [] rest h = absurd (both_ways _ refl h)
@@ -195,7 +195,7 @@ pub first_cons : (passes : ℕ → Bool) (text : List ℕ) → first_passes pass
 first_cons passes [] h = absurd (both_ways _ refl h)
 first_cons passes (c ∷ text) h = (c, text, refl, h)
 
--- where a text begins with one of these, what holds of each of them and any rest holds of it
+-- if a text begins with one of some prefixes, a statement about each of them with any rest holds for the text
 pub begins_each : (P : List ℕ → Type 0) (fronts : List (List ℕ)) (text : List ℕ) → begins_any fronts text ≡ true
     → AllByRecursion (λ front. (rest : List ℕ) → P (front ++ rest)) fronts → P text
 begins_each P [] text h each = absurd (both_ways _ refl h)
@@ -204,7 +204,7 @@ begins_each P (front ∷ fronts) text h each = elim (or_cases _ _ h) [
   | inr there ↦ begins_each P fronts text there each.1
 ]
 
--- a text that goes on begins as before
+-- a text keeps its prefix when more text follows
 pub begins_more : (front text rest : List ℕ) → begins_with front text ≡ true → begins_with front (text ++ rest) ≡ true
 begins_more front text rest h =
     let split = begins_splits front text h in
@@ -219,7 +219,7 @@ any_begins_more (front ∷ fronts) text rest h = elim (or_cases _ _ h) [
   | inr there ↦ or_right (begins_with front (text ++ rest)) _ (any_begins_more fronts text rest there)
 ]
 
--- where each of these begins with a character that passes, so does a text that begins with one
+-- if each of the prefixes begins with a character that passes, so does a text that begins with one
 pub any_first : (passes : ℕ → Bool) (fronts : List (List ℕ)) (text : List ℕ)
     → list_all (first_passes passes) fronts ≡ true
     → begins_any fronts text ≡ true → first_passes passes text ≡ true
@@ -232,7 +232,7 @@ any_first passes (front ∷ fronts) text all h =
       | inr there ↦ any_first passes fronts text parts.1 there
     ]
 
--- a text that ends so is a front and that
+-- a text that ends with a character is a prefix and the character
 pub ends_splits : (c : ℕ) (text : List ℕ) → ends_with c text ≡ true → (front : List ℕ) × (text ≡ front ++ (c ∷ []))
 ends_splits c [] h = absurd (both_ways _ refl h)
 ends_splits c (d ∷ []) h = ([], ap (λ x. x ∷ []) (eqb-true d c h))
@@ -240,13 +240,13 @@ ends_splits c (d ∷ (e ∷ text)) h =
     let more = ends_splits c (e ∷ text) h in
     (d ∷ more.0, ap (λ xs. d ∷ xs) more.1)
 
--- and the other way
+-- a text that is a prefix and a character ends with the character
 pub ends_back : (c : ℕ) (front : List ℕ) → ends_with c (front ++ (c ∷ [])) ≡ true
 ends_back c [] = eq-eqb c c refl
 ends_back c (d ∷ []) = eq-eqb c c refl
 ends_back c (d ∷ (e ∷ front)) = ends_back c (e ∷ front)
 
--- past a front that ends otherwise
+-- a prefix that ends otherwise does not change how a text ends
 pub ends_over : (c : ℕ) (front text : List ℕ) → ends_with c front ≡ false
     → ends_with c (front ++ text) ≡ ends_with c text
 ends_over c [] text h = refl
@@ -254,7 +254,7 @@ ends_over c (d ∷ []) [] h = h
 ends_over c (d ∷ []) (e ∷ text) h = refl
 ends_over c (d ∷ (e ∷ front)) text h = ends_over c (e ∷ front) text h
 
--- ---- a text before another
+-- ---- a text whose rest changes
 
 begins_cut : (passes : ℕ → Bool) (front w v s : List ℕ) → list_all passes (drop (length w) front) ≡ true
     → first_passes passes s ≡ false
@@ -278,8 +278,8 @@ all_drop passes n (suc m) [] few all = refl
 all_drop passes zero (suc m) (c ∷ xs) few all = all_drop passes zero m xs (omega arith) (and_parts _ _ all).1
 all_drop passes (suc n) (suc m) (c ∷ xs) few all = all_drop passes n m xs (omega (arith, few)) all
 
--- where w begins none of these before one text, it begins none before another whose first character stands in none
--- past the first n characters, and w has so many
+-- if w before v begins with none of some prefixes, neither does w before s. It is assumed that w has n characters, and
+-- that no prefix has the first character of s after its own first n characters
 pub any_after : (passes : ℕ → Bool) (n : ℕ) (fronts : List (List ℕ)) (w v s : List ℕ)
     → list_all (λ front. list_all passes (drop n front)) fronts ≡ true → n ≤ length w
     → first_passes passes s ≡ false → begins_any fronts (w ++ v) ≡ false → begins_any fronts (w ++ s) ≡ false
@@ -291,7 +291,8 @@ any_after passes n (front ∷ fronts) w v s all long ends h =
     (begins_cut passes front w v s (all_drop passes n (length w) front long both.0) ends parts.0)
     (any_after passes n fronts w v s both.1 long ends parts.1)
 
--- so where its first character is in none
+-- if w before v begins with none of some prefixes, neither does w before s, if the first character of s is in none of
+-- them
 pub any_cut : (passes : ℕ → Bool) (fronts : List (List ℕ)) (w v s : List ℕ) → list_all (list_all passes) fronts ≡ true
     → first_passes passes s ≡ false → begins_any fronts (w ++ v) ≡ false → begins_any fronts (w ++ s) ≡ false
 any_cut passes fronts w v s all = any_after passes 0 fronts w v s all (omega arith)

@@ -35,14 +35,14 @@ leads_far rule rest more at mid to h j =
     let long = length-append h.front j.front in
     record { front = h.front ++ j.front; found = rw (h.found, j.found, behind_behind); count = omega arith }
 
--- past a piece that stands in front of what ends them
+-- a step past a piece that precedes what ends the units
 pub leads_past : (rule : Rule) → Clear rule → (a b : Rule) (at to : Cursor) → Passes rule at to
     → ((p r : List ℕ) → Stands rule p r → find a (p ++ r) ≡ behind p (find b r)) → Leads a at b to
 leads_past rule clear a b at to h step =
     let is = passed rule clear at to h in
     record { front = h.front; found = ap (find a) is.0 ∙ step h.front (chars to.rest.now) is.1; count = h.count }
 
--- past a piece of the first rule
+-- a step past a piece of the first rule
 pub leads_then : (a b : Rule) (at mid : Cursor) → Passes a at mid → Leads (Then a b) at b mid
 leads_then a b at mid h = record { front = h.front; found = rw (find_then, h.found); count = h.count }
 
@@ -50,7 +50,7 @@ pub leads_on : (rule a b : Rule) (at mid to : Cursor) → Leads rule at (Then a 
     → Leads rule at b to
 leads_on rule a b at mid to h j = leads_far rule (Then a b) b at mid to h (leads_then a b mid to j)
 
--- where the other rule depends on it
+-- a step past a piece on which the second rule depends
 pub leads_next : (rule a : Rule) (b : List ℕ → Rule) (at mid : Cursor) (x : Bor (List ℕ) × Cursor)
     → Leads rule at (Next a b) mid
     → PassesText a mid x → Leads rule at (b x.0.now) x.1
@@ -70,7 +70,7 @@ unfolding find
 found_cons c front [] = refl
 found_cons c front (d ∷ text) = grind arith
 
--- past a unit
+-- a step past one unit
 and_behind : (f : List ℕ → Answer) (front : List ℕ) (o : Answer)
     → and_find f (behind front o) ≡ behind front (and_find f o)
 and_behind f front None = refl
@@ -89,7 +89,7 @@ module _ (unit after : Rule) (clear : Clear (UpTo unit after)) where
   leads_unit rule at mid to h j =
       leads_far rule _ _ at mid to h (leads_past unit clear.0 (UpTo unit after) (UpTo unit after) mid to j one_more)
 
-  -- past the last of them
+  -- a step after the last unit
   pub leads_last : (rule : Rule) (at mid : Cursor) → Leads rule at (UpTo unit after) mid
       → find unit (chars mid.rest.now) ≡ None → Leads rule at after mid
   unfolding find
@@ -105,7 +105,7 @@ module _ (unit after : Rule) (clear : Clear (UpTo unit after)) where
       let long = some_holds unit clear.2 h.front (chars to.rest.now) is.1 in
       omega (arith, length-append h.front (chars to.rest.now), ap length is.0)
 
-  -- past characters that are each a unit
+  -- a step past characters of which each is a unit
   module _ (plain : ℕ → Bool) (alone : (c : ℕ) (text : List ℕ) → plain c ≡ true
       → find unit (c ∷ text) ≡ Some (c ∷ [], text)) where
     units_over : (front rest : List ℕ) → list_all plain front ≡ true
@@ -121,13 +121,13 @@ module _ (unit after : Rule) (clear : Clear (UpTo unit after)) where
     leads_run rule at mid to h run = leads_far rule (UpTo unit after) (UpTo unit after) at mid to h
         (leads_past (Run plain) tt (UpTo unit after) (UpTo unit after) mid to run (λ p r is. units_over p r is.each))
 
--- a plain character is a unit of a string
+-- a character that needs no escape is a unit of a string
 pub plain_unit : (kind : StringKind) (c : ℕ) (text : List ℕ) → is_plain kind c ≡ true
     → find (unit_of kind) (c ∷ text) ≡ Some (c ∷ [], text)
 unfolding find
 plain_unit kind c text e = rw e
 
--- and of a raw one
+-- a character that ends nothing is a unit of a raw string
 pub raw_plain_unit : (kind : StringKind) (hashes : List ℕ) (c : ℕ) (text : List ℕ) → is_raw_plain kind c ≡ true
     → find (raw_unit (may_stand_raw kind) (34 ∷ hashes)) (c ∷ text) ≡ Some (c ∷ [], text)
 raw_plain_unit kind hashes c text e = grind (arith, e, raw_one (may_stand_raw kind) hashes (c ∷ text) text c refl)

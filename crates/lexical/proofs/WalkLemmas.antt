@@ -12,7 +12,7 @@ use Rattle.lexical.specs.declared.walk.PlacedPiece.{PlacedPiece}
 use Rattle.lexical.specs.declared.walk.PieceWalk.{PieceWalk}
 use Rattle.lexical.proofs.PieceFacts.{piece_front, piece_rest, piece_shortens}
 
--- what is cut off where a piece stands is that piece, and the rest follows it
+-- the text that a piece takes off the rest is the next piece of the walk
 pub next_is : (at : PieceWalk) (next : PlacedPiece) (to : PieceWalk) → IsUtf8 at.rest.now
     → IsPieceAt at.at_front (chars at.rest.now) next.piece
     → next.text.now ≡ take next.piece.bytes at.rest.now → to.rest.now ≡ drop next.piece.bytes at.rest.now

@@ -1,4 +1,4 @@
--- Runs of white characters are found among the bytes of a text.
+-- Runs of white characters, found among the bytes of a text.
 use Rattle.std.proofs.Common.{Bool, Some, append-nil, ◌≡◌, ℕ, ◌≤◌, ◌<◌, true, false, List, [], ◌∷◌, ◌++◌, ◌&&◌, length}
 use Rattle.std.proofs.Common.{length-append, get_or, ◌+◌, codes, eqb, take, drop, refl, sym, ap, ap₂, subst, ◌∙◌, arith}
 use Rattle.std.proofs.Common.{length-drop}
@@ -36,7 +36,7 @@ all_white = all_pass _ _ (λ c is. (and_parts _ _ is).1)
 pub white_ascii : (cs : List ℕ) → list_all ascii_white cs ≡ true → all_ascii cs ≡ true
 white_ascii = all_pass _ _ (λ c is. (and_parts _ _ is).0)
 
--- more bytes that are white follow the first
+-- n white bytes and k white bytes after them are n + k white bytes
 pub white_more : (bytes : List ℕ) (n k : ℕ) → list_all ascii_white (take n bytes) ≡ true
     → list_all ascii_white (take k (drop n bytes)) ≡ true → list_all ascii_white (take (n + k) bytes) ≡ true
 white_more bytes n k first more =
@@ -46,7 +46,7 @@ white_more bytes n k first more =
     ∙ and_from _ _ (ap (list_all ascii_white) (take-take n (n + k) bytes (omega arith)) ∙ first)
     (ap (list_all ascii_white) (drop-take n k bytes) ∙ more))
 
--- and one
+-- n white bytes and one more are n + 1 white bytes
 pub white_next : (bytes : List ℕ) (n : ℕ) → ascii_white (get_or bytes n 0) ≡ true → n < length bytes
     → list_all ascii_white (take n bytes) ≡ true → list_all ascii_white (take (n + 1) bytes) ≡ true
 white_next bytes n white within first =
@@ -54,7 +54,7 @@ white_next bytes n white within first =
     ∙ (list_all-append ascii_white (take n bytes) (get_or bytes n 0 ∷ [])
     ∙ and_from _ _ first (and_from _ _ white refl))
 
--- four spaces
+-- n white bytes and four spaces are n + 4 white bytes
 pub four_spaces : (bytes : List ℕ) (n : ℕ) → starts_with eqb (drop n bytes) (codes "    ") ≡ true
     → list_all ascii_white (take n bytes) ≡ true → list_all ascii_white (take (n + 4) bytes) ≡ true
 four_spaces bytes n starts first =
@@ -62,20 +62,20 @@ four_spaces bytes n starts first =
     (sym (starts_with_is (drop n bytes) (codes "    ")) ∙ starts) in
     white_more bytes n 4 first (ap (λ xs. list_all ascii_white (take 4 xs)) split.1)
 
--- the text may be cut after its first n bytes, which are white
+-- a text may be cut after its first n bytes, if they are white
 pub white_boundary : (bytes : List ℕ) (n : ℕ) → IsUtf8 bytes → n ≤ length bytes
     → list_all ascii_white (take n bytes) ≡ true → IsCharBoundary bytes n
 white_boundary bytes n utf8 within white =
     IsCharBoundary-from_take bytes n utf8 within
     (IsUtf8-from_ascii (take n bytes) (is_ascii (take n bytes) (white_ascii (take n bytes) white)))
 
--- a text whose first byte does not pass begins with none that does
+-- a text whose first byte does not pass begins with no byte that passes
 first_stops : (test : ℕ → Bool) (bytes : List ℕ) → (0 < length bytes → test (get_or bytes 0 0) ≡ false)
     → first_passes test bytes ≡ false
 first_stops test [] h = refl
 first_stops test (b ∷ bytes) h = h (omega arith)
 
--- the first n bytes are white, and the next is not
+-- the first n bytes are a run, if they are white and the next byte is not
 pub white_run : (bytes : List ℕ) (n : ℕ) → IsUtf8 bytes → n ≤ length bytes → list_all ascii_white (take n bytes) ≡ true
     → (n < length bytes → ascii_white (get_or bytes n 0) ≡ false) → IsPastWhite (chars bytes) (chars (drop n bytes)) n
 white_run bytes n utf8 within white stops =
@@ -98,7 +98,7 @@ white_run bytes n utf8 within white stops =
           ∙ ascii_bytes front (white_ascii front (while_passes ascii_white (chars bytes)));
     }
 
--- white characters are their own bytes
+-- ASCII white characters are their own bytes
 pub white_bytes : (text rest : List ℕ) (count : ℕ) → IsUtf8 text → IsUtf8 rest
     → (white : IsPastWhite (chars text) (chars rest) count) → text ≡ white.front ++ rest
 white_bytes text rest count utf8 behind white =
@@ -106,7 +106,7 @@ white_bytes text rest count utf8 behind white =
     ∙ ap₂ (λ p r. p ++ r) (encode_all_ascii white.front (white_ascii white.front white.stands.each))
     (encodes-chars rest behind)))
 
--- the text may be cut after them
+-- a text may be cut after its ASCII white characters
 pub white_cut : (text rest : List ℕ) (count : ℕ) → IsUtf8 text → IsUtf8 rest
     → IsPastWhite (chars text) (chars rest) count → (count ≤ length text) × IsCharBoundary text count
 white_cut text rest count utf8 behind white =
@@ -116,7 +116,7 @@ white_cut text rest count utf8 behind white =
     ap₂ take white.chars same ∙ take-append_seam white.front rest in
     (within, white_boundary text count utf8 within (ap (list_all ascii_white) front ∙ white.stands.each))
 
--- a text that begins with an ASCII byte begins with a white character only where that is one
+-- if the first byte of a text is ASCII and not white, the first character is not white
 low_stops : (text : List ℕ) → get_or text 0 32 < 128 → first_passes ascii_white (chars text) ≡ false
     → first_passes is_white (chars text) ≡ false
 low_stops [] low stops = ap (first_passes is_white) chars-nil
@@ -126,7 +126,7 @@ low_stops (b ∷ text) low stops =
     ap (first_passes is_white) first
     ∙ (ap (λ t. t && is_white b) (sym (lt-ltb b 128 low)) ∙ (ap (first_passes ascii_white) (sym first) ∙ stops))
 
--- where an ASCII byte follows such a run, no white character does
+-- the ASCII white characters are all white characters, if an ASCII byte follows them
 pub splits_low : (text white rest past : List ℕ) (n : ℕ) → IsUtf8 text → IsUtf8 past
     → IsPastWhite (chars text) (chars past) n → get_or text n 32 < 128 → white ≡ take n text → rest ≡ drop n text
     → SplitsWhite text white rest
@@ -149,7 +149,7 @@ splits_low text white rest past n utf8 behind run low front back =
       rest_utf8 = subst IsUtf8 (sym after) behind;
     }
 
--- what a lexer's step skips is the run of white characters
+-- the lexer's step over white characters skips exactly their run
 pub run_found : (text : List ℕ) (at to : Cursor) → at.rest.now ≡ text → Passes (rules.Run is_white) at to
     → chars text ≡ while_front is_white (chars text) ++ chars to.rest.now
 unfolding find
@@ -159,7 +159,7 @@ run_found text at to same passes =
     let parts = some_pair_parts _ _ _ _ found in
     sym (while_whole is_white (chars text)) ∙ ap (λ r. while_front is_white (chars text) ++ r) parts.1
 
--- so many bytes are all the white characters at the front
+-- facts about n bytes that are all the white characters at the start
 module _ (text : List ℕ) (utf8 : IsUtf8 text) (n : ℕ)
     (size : n ≡ length (encode_utf8_all (while_front is_white (chars text)))) where
   whole : chars text ≡ while_front is_white (chars text) ++ while_rest is_white (chars text)

@@ -1,4 +1,4 @@
--- More words on forms have finders, and forms that stand apart.
+-- More ways to make a form have finders, and forms that cannot begin alike.
 use Rattle.std.proofs.Common.{◌≡◌, ℕ, zero, suc, ◌≤◌, Bool, true, false, not, ◌==◌, ◌||◌, List, [], ◌∷◌, ◌++◌, length}
 use Rattle.std.proofs.Common.{Some, None, IfSome, refl, sym, ap, ap₂, ◌∙◌, subst, arith, append_assoc, length-append}
 use Rattle.std.proofs.Common.{inl, inr}
@@ -25,9 +25,9 @@ finds_else f g A B h j = record {
       elim is [ inl a ↦ rw (h.complete p r a) | inr b ↦ rw (none_found f A h (p ++ r) b.0, j.complete p r b.1) ];
 }
 
--- ---- `Either` of forms that stand apart
+-- ---- `Either` of forms that cannot begin alike
 
--- no text begins with a piece of each form
+-- whether no text begins with a piece of each form
 abbrev pub Disjoint : Form → Form → Type 0
 Disjoint A B = (p q r s : List ℕ) → A p r → B q s → p ++ r ≡ q ++ s → ⊥
 
@@ -47,7 +47,7 @@ NotEmpty A = (p r : List ℕ) → A p r → 1 ≤ length p
 
 -- ---- pieces of one form in a row
 
--- pieces of the form, as long as one stands
+-- pieces of the form, as long as there is one
 abbrev pub AllOf : Form → Form
 AllOf A p r = Many A p r × HasNone A r
 
@@ -77,7 +77,7 @@ module _ (f : Finder) (A : Form) (h : Finds f A) (some : NotEmpty A) where
             many_more text x (some_of f n x.1) is (many_sound n x.1 few)
       ]) (h.sound text) (none_is f A h text)
 
-  -- no other pieces are so many
+  -- no other pieces in a row are as long
   many_same : (us vs : List (List ℕ)) (r s : List ℕ) → Each A us r → Each A vs s → HasNone A r → HasNone A s
       → concat us ++ r ≡ concat vs ++ s → ◌≡◌ {A = List ℕ × List ℕ} (concat us, r) (concat vs, s)
   many_same [] [] r s a b none stop e = ap (λ x. ([], x)) e
@@ -100,7 +100,7 @@ module _ (f : Finder) (A : Form) (h : Finds f A) (some : NotEmpty A) where
         ap Some (all_same _ p _ r got.1 is (sym got.0));
   }
 
-  -- then something else, of which no piece begins as those do
+  -- the pieces and then another form, no piece of which begins like them
   pub finds_many_then : (g : Finder) (B : Form) → Finds g B → Disjoint A B
       → Finds (find_then (find_many f) g) (Then (Many A) B)
   finds_many_then g B j apart = finds_same (find_then (find_many f) g) (Then (AllOf A) B) (Then (Many A) B)
@@ -110,7 +110,7 @@ module _ (f : Finder) (A : Form) (h : Finds f A) (some : NotEmpty A) where
       let stops : HasNone A (is.back ++ r) = λ q s e a. apart q is.back s r a is.second (sym e) in
       record { front = is.front; back = is.back; whole = is.whole; first = (is.first, stops); second = is.second })
 
-  -- one piece more
+  -- one more piece in a row
   pub many_found : (text unit rest : List ℕ) → f text ≡ Some (unit, rest)
       → find_many f text ≡ behind unit (find_many f rest)
   unfolding find_many

@@ -25,7 +25,7 @@ radix Binary = 2
 radix Octal = 8
 radix Hexadecimal = 16
 
--- whether the character is of the class
+-- whether the character is in the class
 abbrev pub is_in : Class → ℕ → Bool
 is_in Digit = is_ascii_digit
 is_in DigitOrUnderscore = is_digit_or_underscore
@@ -45,10 +45,10 @@ is_in Opener = is_opener
 is_in Closer = is_closer
 is_in Mark = is_mark
 
--- whether the character is of ASCII and of the class
+-- whether the character is ASCII and in the class
 abbrev pub ascii_in : Class → ℕ → Bool
 ascii_in class c = nat_lt c 128 && is_in class c
 
--- whether the byte is of one of the kinds
+-- whether the kind of the byte is one of `kinds`, a set of bits
 abbrev pub has_kind : ℕ → ℕ → Bool
 has_kind kinds byte = not (nat_eq (bit_and (get_or KINDS byte 0) kinds) 0)

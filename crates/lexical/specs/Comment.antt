@@ -8,7 +8,7 @@ use Rattle.lexical.specs.Rule.{Rule, Run, Exactly, Then, Either, Ends, Stands}
 
 -- ---- comments
 
--- `line-comment`: `//` and all characters up to the next LF or the end, a CR before that LF among them
+-- `line-comment`: `//` and all characters up to the next LF or the end of the text. A CR before that LF belongs to it
 abbrev pub line_comment : Rule
 line_comment = Then (Exactly (codes "//")) (Run (λ c. not (c == line_feed)))
 
@@ -16,7 +16,7 @@ line_comment = Then (Exactly (codes "//")) (Run (λ c. not (c == line_feed)))
 abbrev pub block_comment : Rule
 block_comment = Then (Exactly (codes "/*")) (Ends 1)
 
--- the rule of a comment: a line comment or a block comment
+-- a line comment or a block comment, as a rule
 abbrev pub comment : Rule
 comment = Either line_comment block_comment
 
@@ -34,39 +34,40 @@ Comment = Stands comment
 
 -- ---- doc comments
 
--- how the doc comments begin that document what they stand in
+-- the prefixes of inner doc comments, which document the item around them
 abbrev pub inner_fronts : List (List ℕ)
 inner_fronts = codes "//!" ∷ codes "/*!" ∷ []
 
--- how those begin that document what follows them
+-- the prefixes of outer doc comments, which document the item after them
 abbrev pub outer_fronts : List (List ℕ)
 outer_fronts = codes "///" ∷ codes "/**" ∷ []
 
--- and how comments begin that look so and are none. What begins with the last is that comment itself
+-- the prefixes of comments that are no doc comments although they begin like one. `/**/` is the whole comment
 abbrev pub plain_fronts : List (List ℕ)
 plain_fronts = codes "////" ∷ codes "/***" ∷ codes "/**/" ∷ []
 
--- whether the comment documents what it stands in
+-- whether the comment is an inner doc comment
 abbrev pub is_inner : List ℕ → Bool
 is_inner p = begins_any inner_fronts p
 
--- `doc-comment`: whether the comment is one
+-- `doc-comment`: whether the comment is a doc comment
 abbrev pub is_doc : List ℕ → Bool
 is_doc p = is_inner p || (begins_any outer_fronts p && not (begins_any plain_fronts p))
 
--- what closes a doc comment and is no part of its text: `*/` a block, and CR a line that ends so before LF
+-- the end of a doc comment that does not belong to its text: `*/` of a block comment, or a CR before the LF that ends
+-- the line
 abbrev pub closing : List ℕ → List ℕ → List ℕ
 closing p r =
     if begins_with (codes "/*") p then codes "*/"
     else if ends_with carriage_return p && begins_with (codes "\n") r then carriage_return ∷ []
     else []
 
--- whether a CR stands in the text that no LF follows there
+-- whether the text has a CR with no LF after it
 abbrev pub has_bare_return : List ℕ → Bool
 has_bare_return [] = false
 has_bare_return (c ∷ text) = ((c == carriage_return) && not (begins_with (codes "\n") text)) || has_bare_return text
 
--- `doc-text`: a doc comment, and what it says: all but its first three characters and what closes it
+-- `doc-text`: a doc comment and its text, which is all but its first three characters and its end
 pub record Doc (inner : Bool) (text p r : List ℕ) : Type 0 where
   pub comment : Where is_doc Comment p r
   pub inward : inner ≡ is_inner p
@@ -75,6 +76,6 @@ pub record Doc (inner : Bool) (text p r : List ℕ) : Type 0 where
   pub whole : p ≡ front ++ (text ++ closing p r)
   pub returns : IsFalse (has_bare_return text)
 
--- a comment that documents nothing
+-- a comment that is no doc comment
 abbrev pub PlainComment : Form
 PlainComment = Where (λ p. not (is_doc p)) Comment

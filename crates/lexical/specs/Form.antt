@@ -1,14 +1,13 @@
--- Forms of pieces, and the words that forms are made of. `p` is a piece of text, and `r` all that follows it in the
--- source.
+-- Forms of pieces, and the ways to make a form. `p` is a piece of text, and `r` is all the text after it in the source.
 use Rattle.std.specs.Prelude.{ℕ, Bool, ◌≡◌, ◌⊎◌, List, [], ◌∷◌, ◌++◌, IsTrue, IsFalse}
 use Rattle.std.specs.List.{list_all, concat}
 use Rattle.lexical.specs.Text.{begins_any, first_passes}
 
--- a relation between a piece and what follows it
+-- a relation between a piece of text and the text after it
 abbrev pub Form : Type 1
 Form = List ℕ → List ℕ → Type 0
 
--- no piece of the form stands at the front of the text
+-- whether no piece of the form is at the start of the text
 abbrev pub HasNone : Form → List ℕ → Type 0
 HasNone A text = (p r : List ℕ) → text ≡ p ++ r → A p r → ⊥
 
@@ -24,15 +23,15 @@ pub record Next (A : Form) (B : List ℕ → Form) (p r : List ℕ) : Type 0 whe
 abbrev pub Then : Form → Form → Form
 Then A B = Next A (λ front. B)
 
--- a piece of the form, where the text begins with none of these
+-- a piece of the form, if the text there begins with none of `fronts`
 abbrev pub NotAt : List (List ℕ) → Form → Form
 NotAt fronts A p r = A p r × IsFalse (begins_any fronts (p ++ r))
 
--- a piece of the form, before no character that passes
+-- a piece of the form, if the next character does not pass
 abbrev pub NotBefore : (ℕ → Bool) → Form → Form
 NotBefore passes A p r = A p r × IsFalse (first_passes passes r)
 
--- a piece of the form, whose text passes
+-- a piece of the form whose text passes
 abbrev pub Where : (List ℕ → Bool) → Form → Form
 Where passes A p r = A p r × IsTrue (passes p)
 
@@ -40,11 +39,11 @@ Where passes A p r = A p r × IsTrue (passes p)
 abbrev pub Either : Form → Form → Form
 Either A B p r = A p r ⊎ B p r
 
--- a piece of the second form, where none of the first stands
+-- a piece of the second form, if no piece of the first form is there
 abbrev pub Unless : Form → Form → Form
 Unless A B p r = HasNone A (p ++ r) × B p r
 
--- a piece of the first form where one stands, and else one of the second
+-- a piece of the first form if there is one, and otherwise a piece of the second
 abbrev pub Else : Form → Form → Form
 Else A B = Either A (Unless A B)
 
@@ -52,7 +51,7 @@ Else A B = Either A (Unless A B)
 abbrev pub Nothing : Form
 Nothing p r = p ≡ []
 
--- texts that stand one after another, each a piece of the form before what follows it
+-- whether each of the texts is a piece of the form, followed by the texts after it and then by r
 abbrev pub Each : Form → List (List ℕ) → List ℕ → Type 0
 Each A [] r = Unit {0}
 Each A (unit ∷ units) r = A unit (concat units ++ r) × Each A units r
@@ -63,7 +62,7 @@ pub record Many (A : Form) (p r : List ℕ) : Type 0 where
   pub whole : p ≡ concat units
   pub each : Each A units r
 
--- this very text
+-- exactly this text
 abbrev pub Exactly : List ℕ → Form
 Exactly text p r = p ≡ text
 
@@ -71,7 +70,7 @@ Exactly text p r = p ≡ text
 abbrev pub One : (ℕ → Bool) → Form
 One passes p r = (c : ℕ) × (p ≡ c ∷ []) × IsTrue (passes c)
 
--- all the characters that pass, up to one that doesn't
+-- all the characters that pass, up to the first one that does not
 pub record Run (passes : ℕ → Bool) (p r : List ℕ) : Type 0 where
   pub each : IsTrue (list_all passes p)
   pub stops : IsFalse (first_passes passes r)

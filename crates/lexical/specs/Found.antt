@@ -1,4 +1,4 @@
--- What the lexer's answers say.
+-- What the results of the lexer mean.
 use Rattle.std.specs.Prelude.{ℕ, Bool, ◌≡◌, List, ◌++◌, length}
 use Rattle.std.specs.Str.{chars, IsUtf8, encode_utf8_all}
 use Rattle.lexical.specs.Form.{Form}
@@ -8,7 +8,7 @@ use Rattle.lexical.specs.declared.piece.PieceKind.{PieceKind}
 use Rattle.lexical.specs.declared.piece.PieceKind.TheVariants.{FrontMark, Gap, Doc, Opener, Closer, Literal, Mark, Name}
 use Rattle.lexical.specs.declared.piece.Piece.{Piece}
 
--- the kind of the piece p that the lexer calls so
+-- the kind of the grammar for the kind that the lexer returns with the piece p
 abbrev pub kind_of : PieceKind → List ℕ → pieces.Kind
 kind_of FrontMark p = pieces.FrontMark
 kind_of Gap p = pieces.Gap
@@ -19,7 +19,7 @@ kind_of Literal p = pieces.Leaf (tokens.Literal p)
 kind_of (Mark joint mark) p = pieces.Leaf (tokens.Mark mark joint)
 kind_of (Name raw name) p = pieces.Leaf (tokens.Name raw (chars name.now))
 
--- the texts that a kind lends are texts
+-- whether the text in the kind is valid UTF-8, if it has one
 abbrev pub LendsText : PieceKind → Type 0
 LendsText FrontMark = Unit {0}
 LendsText Gap = Unit {0}
@@ -30,7 +30,7 @@ LendsText Literal = Unit {0}
 LendsText (Mark joint mark) = Unit {0}
 LendsText (Name raw name) = IsUtf8 name.now
 
--- the piece stands at the front of the text, and takes so many bytes and characters
+-- whether the piece is at the start of the text, with its numbers of bytes and characters
 pub record IsPieceAt (first : Bool) (text : List ℕ) (piece : Piece) : Type 0 where
   pub front : List ℕ
   pub rest : List ℕ
@@ -40,7 +40,7 @@ pub record IsPieceAt (first : Bool) (text : List ℕ) (piece : Piece) : Type 0 w
   pub chars : piece.chars ≡ length front
   pub lends : LendsText piece.kind
 
--- a piece of the form stands at the front of the text, and takes so many bytes
+-- whether a piece of the form is at the start of the text and has this many bytes
 pub record IsAt (A : Form) (text : List ℕ) (bytes : ℕ) : Type 0 where
   pub front : List ℕ
   pub rest : List ℕ

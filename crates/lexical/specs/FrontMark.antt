@@ -1,4 +1,4 @@
--- The front mark.
+-- The byte order mark at the start of a source.
 use Rattle.std.specs.Prelude.{Bool, [], ◌∷◌, IsTrue}
 use Rattle.lexical.specs.Form.{Form, Exactly}
 

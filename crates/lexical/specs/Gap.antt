@@ -1,4 +1,4 @@
--- Gaps: what stands between tokens and says nothing.
+-- Gaps: white characters and comments that are no doc comments.
 use Rattle.lexical.specs.Class.{is_white}
 use Rattle.lexical.specs.Form.{Form, Either, One}
 use Rattle.lexical.specs.Comment.{PlainComment}

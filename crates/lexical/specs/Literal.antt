@@ -23,7 +23,7 @@ quoted_literal =
     (rules.Either (string kinds.Byte)
     (rules.Either byte (string kinds.C))))
 
--- what it says
+-- `quoted-literal`: a piece of the rule `quoted_literal`
 abbrev pub QuotedLiteral : Form
 QuotedLiteral =
     Either (Either Str RawStr)
@@ -31,22 +31,22 @@ QuotedLiteral =
     (Either (Either ByteStr RawByteStr)
     (Either Byte (Either CStr RawCStr))))
 
--- `literal`: the rule of one between quotes, or of a number
+-- `literal`: a literal between quotes or a number, as a rule
 abbrev pub literal : Rule
 literal = rules.Either quoted_literal number
 
--- `literal`: one between quotes, or a number, before a rest
+-- `literal`: a literal between quotes or a number
 unfoldable pub Literal : Form
 Literal = Either QuotedLiteral Number
 
--- `error-literal`: this one text
+-- `error-literal`: the text `(/*ERROR*/)`
 abbrev pub ErrorLiteral : Form
 ErrorLiteral = Exactly error_literal
 
--- a literal, or that text
+-- a literal, or the text `(/*ERROR*/)`
 abbrev pub AnyLiteral : Form
 AnyLiteral = Either Literal ErrorLiteral
 
--- `literal-token`: the text is a literal or the error literal, nothing following
+-- `literal-token`: whether the whole text is a literal or the error literal
 unfoldable pub IsLiteralToken : List ℕ → Type 0
 IsLiteralToken text = AnyLiteral text []

@@ -1,4 +1,4 @@
--- Marks.
+-- Punctuation marks and lone quotes.
 use Rattle.std.specs.Prelude.{ℕ, Bool, not, ◌&&◌, ◌||◌, ◌==◌, ◌≡◌, List, [], ◌∷◌, ◌++◌, IsFalse, codes}
 use Rattle.std.specs.List.{list_any}
 use Rattle.std.specs.Option.{is_some}
@@ -17,27 +17,28 @@ marks = codes "~!@#$%^&*-=+|;:,<.>/?'"
 abbrev pub is_mark : ℕ → Bool
 is_mark c = list_any (λ d. d == c) marks
 
--- how a comment begins: `//` or `/*`
+-- the two prefixes of comments, `//` and `/*`
 abbrev pub comment_fronts : List (List ℕ)
 comment_fronts = codes "//" ∷ codes "/*" ∷ []
 
--- `mark`: one of the marks but `'`, where no comment begins
+-- `mark`: one of the marks except `'`, if no comment begins there
 abbrev pub mark : Rule
 mark = NotAt comment_fronts (One (λ c. is_mark c && not (c == single_quote)))
 
--- what it says
+-- `mark`: a piece of the rule `mark`
 abbrev pub Mark : Form
 Mark = Stands mark
 
--- `joint`: whether a mark before r is Joint, as a mark follows that begins no comment
+-- `joint`: whether a mark before r is Joint, because r begins with a mark and not with a comment
 abbrev pub joint_before : List ℕ → Bool
 joint_before r = first_passes is_mark r && not (begins_any comment_fronts r)
 
--- whether the character bars a `'` before the identifier that it follows: `'`, and `#` after a plain one
+-- whether the character, right after an identifier, forbids a `'` right before the identifier: it is `'`, or it is `#`
+-- and the identifier is plain
 abbrev pub bars_quote : Bool → ℕ → Bool
 bars_quote raw c = (c == single_quote) || ((c == hash_sign) && not raw)
 
--- the text begins with an identifier, whatever literal begins there, and no character that bars a `'` follows that
+-- whether the text begins with an identifier that may follow a `'`, even if a literal begins there
 pub record FollowsQuote (r : List ℕ) : Type 0 where
   pub raw : Bool
   pub name : List ℕ
@@ -46,18 +47,18 @@ pub record FollowsQuote (r : List ℕ) : Type 0 where
   pub named : Named raw name rest
   pub unbarred : IsFalse (first_passes (bars_quote raw) rest)
 
--- an identifier, whatever literal begins there, and no character that bars a `'` after it
+-- an identifier that may follow a `'`, even if a literal begins there
 abbrev pub unbarred : Bool → Rule
 unbarred raw = NotBefore (bars_quote raw) (written raw)
 
--- whether the text begins so
+-- whether the text begins with an identifier that may follow a `'`
 abbrev pub follows_quote : List ℕ → Bool
 follows_quote text = is_some (find (unbarred (begins_with (codes "r#") text)) text)
 
--- `lone-quote`: the mark `'` before such a text. It takes none of it
+-- `lone-quote`: the mark `'` right before an identifier that may follow it. The identifier is not part of the mark
 abbrev pub LoneQuote : Form
 LoneQuote p r = Exactly (codes "'") p r × FollowsQuote r
 
--- how the literals begin that may come next to it
+-- the prefixes of the literals that may follow a lone quote without a gap
 abbrev pub quotable_fronts : List (List ℕ)
 quotable_fronts = codes "b\"" ∷ codes "c\"" ∷ codes "r\"" ∷ codes "br\"" ∷ codes "cr\"" ∷ []

@@ -1,4 +1,4 @@
--- Which piece is found at the front of a text, and its kind.
+-- Finds the piece at the start of a text, and its kind.
 use Rattle.std.specs.Prelude.{ℕ, Bool, true, ◌==◌, cond, List, [], ◌∷◌, codes, drop, Option, Some, None, if◌then◌else◌}
 use Rattle.std.specs.Char.{is_ascii_digit}
 use Rattle.lexical.specs.Character.{double_quote, single_quote, slash}
@@ -18,79 +18,81 @@ use Rattle.lexical.specs.Finder.{Answer, Finder, find_if, find_where}
 use Rattle.lexical.specs.declared.class.PieceStart.{PieceStart}
 use Rattle.lexical.specs.declared.class.PieceStart.TheVariants as starts
 
--- ---- the finders that are more than a rule
+-- ---- finders that are more than a rule
 
--- `literal`
+-- finds a piece of the rule `literal`
 abbrev pub find_literal : Finder
 find_literal = find literal
 
--- `front-mark`
+-- finds a piece of the rule `front-mark`
 abbrev pub find_front_mark : Bool → Finder
 find_front_mark first = find_if first (find (Exactly (0xFEFF ∷ [])))
 
--- `lone-quote`: the mark `'` of a lifetime, right before its name
+-- finds a piece of the rule `lone-quote`: the mark `'` right before the name of a lifetime
 abbrev pub find_lone_quote : Finder
 find_lone_quote = find_where (λ p r. follows_quote r) (find (Exactly (codes "'")))
 
--- ---- the kinds of pieces, by the piece p and what follows it
+-- ---- the kind of a piece p that r follows
 
--- of a front mark
+-- the kind of a front mark
 abbrev pub front_mark_kind : List ℕ → List ℕ → Kind
 front_mark_kind p r = FrontMark
 
--- of a gap
+-- the kind of a gap
 abbrev pub gap_kind : List ℕ → List ℕ → Kind
 gap_kind p r = Gap
 
--- of a delimiter
+-- the kind of an opener
 abbrev pub opener_kind : List ℕ → List ℕ → Kind
 opener_kind p r = Open (first_of p)
 
+-- the kind of a closer
 abbrev pub closer_kind : List ℕ → List ℕ → Kind
 closer_kind p r = Close (first_of p)
 
--- of an identifier, raw or plain: the name of a raw one is what stands after `r#`
+-- the kind of an identifier. The name of a raw one is the text after `r#`
 abbrev pub name_kind : Bool → List ℕ → List ℕ → Kind
 name_kind raw p r = Leaf (Name raw (if raw then drop 2 p else p))
 
--- of a mark, and of a lone quote
+-- the kind of a mark
 abbrev pub mark_kind : List ℕ → List ℕ → Kind
 mark_kind p r = Leaf (Mark (first_of p) (joint_before r))
 
+-- the kind of a lone quote
 abbrev pub quote_kind : List ℕ → List ℕ → Kind
 quote_kind p r = Leaf (Mark single_quote true)
 
--- of a literal
+-- the kind of a literal
 abbrev pub literal_kind : List ℕ → List ℕ → Kind
 literal_kind p r = Leaf (Literal p)
 
--- ---- the piece
+-- ---- the piece at the start of a text
 
--- a piece with its kind, and what follows it
+-- the kind of a piece, its text and the text after it, or none
 abbrev pub Found : Type 0
 Found = Option (Kind × List ℕ × List ℕ)
 
--- what was found, with its kind
+-- the answer with the kind of its piece
 abbrev pub tagged : (List ℕ → List ℕ → Kind) → Answer → Found
 tagged kind None = None
 tagged kind (Some x) = Some (kind x.0 x.1, x.0, x.1)
 
--- what was found, or else the other
+-- the first answer if it has a piece, and otherwise the other one
 abbrev pub or_found : Found → Found → Found
 or_found None other = other
 or_found (Some x) other = Some x
 
--- a comment that was found, with the kind that it has
+-- a comment with its kind, or none if it has no kind
 abbrev pub with_kind : List ℕ × List ℕ → Option Kind → Found
 with_kind x None = None
 with_kind x (Some kind) = Some (kind, x.0, x.1)
 
--- what was found, a comment, with its kind
+-- the answer, a comment, with its kind
 abbrev pub comment_found : Answer → Found
 comment_found None = None
 comment_found (Some x) = with_kind x (comment_kind x.0 x.1)
 
--- what the first character of a text says of the piece that may stand there
+-- what the first character of a text says about the piece there
 abbrev pub piece_start : ℕ → PieceStart
 piece_start c =
     if is_white c then starts.White
@@ -105,15 +107,15 @@ piece_start c =
     else if is_mark c then starts.Mark
     else starts.Other
 
--- the identifier at the front of a text that begins with a letter: a raw one where `r#` begins
+-- the identifier at the start of a text. It is a raw one if the text begins with `r#`
 abbrev pub found_identifier : List ℕ → Found
 found_identifier text = let raw = begins_with (codes "r#") text in tagged (name_kind raw) (find (identifier raw) text)
 
--- the literal of the rule at the front of a text
+-- the literal of the rule at the start of a text
 abbrev pub found_literal : Rule → List ℕ → Found
 found_literal rule text = tagged literal_kind (find rule text)
 
--- the piece at the front of a text that starts so
+-- the piece at the start of a text, by what the first character says
 abbrev pub found_from : Bool → PieceStart → List ℕ → Found
 found_from first starts.White text = tagged gap_kind (find (One is_white) text)
 found_from first starts.Letter text = or_found (found_identifier text) (found_literal quoted_literal text)
@@ -130,7 +132,7 @@ found_from first starts.FrontMark text = tagged front_mark_kind (find_front_mark
 found_from first starts.Mark text = tagged mark_kind (find mark text)
 found_from first starts.Other text = None
 
--- the piece at the front of a text; `first` says that this is byte offset 0
+-- the piece at the start of a text. `first` says whether this is byte offset 0
 unfoldable pub found : Bool → List ℕ → Found
 found first [] = None
 found first (c ∷ text) = found_from first (piece_start c) (c ∷ text)

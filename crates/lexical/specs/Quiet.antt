@@ -5,7 +5,7 @@ use Rattle.lexical.specs.Text.{first_passes}
 use Rattle.lexical.specs.Token.{Name, Mark, Literal}
 use Rattle.lexical.specs.Piece.{Kind, Piece, FrontMark, Gap, Doc, Open, Close, Leaf}
 
--- whether the piece is neither a mark nor a number. The numbers are the literals that begin with a digit
+-- whether the piece is neither a mark nor a number. Numbers are the literals that begin with a digit
 abbrev pub is_quiet : Kind → Bool
 is_quiet FrontMark = true
 is_quiet Gap = true
@@ -16,7 +16,7 @@ is_quiet (Leaf (Name raw name)) = true
 is_quiet (Leaf (Mark c joint)) = false
 is_quiet (Leaf (Literal text)) = not (first_passes is_ascii_digit text)
 
--- whether there are pieces, and the last of them is so
+-- whether the last piece is neither a mark nor a number. It is false if there is no piece
 abbrev pub ends_quiet : List Piece → Bool
 ends_quiet [] = false
 ends_quiet (piece ∷ []) = is_quiet piece.0

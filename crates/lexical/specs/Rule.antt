@@ -1,4 +1,4 @@
--- Rules of the grammar, as data: what they say, and how their pieces are found.
+-- Rules of the grammar as data: which form a rule has, and how its pieces are found.
 use Rattle.std.specs.Prelude.{ℕ, Bool, List, []}
 use Rattle.lexical.specs.Block as blocks
 use Rattle.lexical.specs.Block.{find_ends}
@@ -7,34 +7,34 @@ use Rattle.lexical.specs.Form.{Form}
 use Rattle.lexical.specs.Finder.{Finder, find_then, find_next, find_else, find_not_at, find_not_before}
 use Rattle.lexical.specs.Finder.{find_where, find_one, find_run, find_text, find_many}
 
--- a rule, by the words that forms are made of
+-- a rule, made in one of the ways in which forms are made
 pub data Rule : Type 0 where
   -- one character that passes
   One : (ℕ → Bool) → Rule
-  -- all the characters that pass, up to one that doesn't
+  -- all the characters that pass, up to the first one that does not
   Run : (ℕ → Bool) → Rule
-  -- this very text
+  -- exactly this text
   Exactly : List ℕ → Rule
   -- a piece of the first rule, and then one of the second
   Then : Rule → Rule → Rule
-  -- the same, where the second rule depends on the first piece
+  -- a piece of the first rule, and then one of the second, which depends on the text of the first piece
   Next : Rule → (List ℕ → Rule) → Rule
-  -- pieces of the first rule, any number of them, up to one of the second
+  -- any number of pieces of the first rule, up to a piece of the second
   UpTo : Rule → Rule → Rule
-  -- a piece of one of the rules, which stand apart: no text begins with a piece of each
+  -- a piece of one of the rules. No text begins with a piece of each
   Either : Rule → Rule → Rule
-  -- a piece of the first rule where one stands, and else one of the second
+  -- a piece of the first rule if there is one, and otherwise a piece of the second
   Else : Rule → Rule → Rule
-  -- a piece of the rule, where the text begins with none of these
+  -- a piece of the rule, if the text there begins with none of these texts
   NotAt : List (List ℕ) → Rule → Rule
-  -- a piece of the rule, before no character that passes
+  -- a piece of the rule, if the next character does not pass
   NotBefore : (ℕ → Bool) → Rule → Rule
   -- a piece of the rule whose text passes
   Where : (List ℕ → Bool) → Rule → Rule
-  -- all up to where so many block comments end that are open
+  -- the text up to the end of the outermost of this many open block comments
   Ends : ℕ → Rule
 
--- what the rule says: the text p is a piece of it, before r
+-- the form of the rule: whether the text p is a piece of the rule, if r follows it
 abbrev pub Stands : Rule → Form
 Stands (One passes) = forms.One passes
 Stands (Run passes) = forms.Run passes
@@ -49,7 +49,7 @@ Stands (NotBefore passes a) = forms.NotBefore passes (Stands a)
 Stands (Where test a) = forms.Where test (Stands a)
 Stands (Ends depth) = blocks.Ends depth
 
--- the piece of the rule at the front of a text, and what follows it
+-- finds the piece of the rule at the start of a text, and the text after it
 unfoldable pub find : Rule → Finder
 find (One passes) text = find_one passes text
 find (Run passes) text = find_run passes text
@@ -68,6 +68,6 @@ find (Ends depth) text = find_ends depth text
 abbrev pub nothing : Rule
 nothing = Exactly []
 
--- a piece of the rule where one stands, and else nothing
+-- a piece of the rule if there is one, and otherwise the empty text
 abbrev pub perhaps : Rule → Rule
 perhaps a = Else a nothing

@@ -1,4 +1,4 @@
--- What a step of a lexer answers, against what a rule says.
+-- What a step of the lexer returns, compared with the rule.
 use Rattle.std.specs.Prelude.{ℕ, ◌≡◌, ◌+◌, List, length, Option, Some, None, MatchOption, IsTrue}
 use Rattle.std.specs.Borrow.{Bor}
 use Rattle.std.specs.Str.{chars}
@@ -7,28 +7,28 @@ use Rattle.lexical.specs.Ascii.{all_ascii}
 use Rattle.lexical.specs.Rule.{Rule, find}
 use Rattle.lexical.specs.declared.cursor.Cursor.{Cursor}
 
--- from one cursor to the other stands a piece of the rule
+-- whether the text from the cursor `at` to the cursor `to` is a piece of the rule
 pub record Passes (rule : Rule) (at to : Cursor) : Type 0 where
   pub front : List ℕ
   pub found : find rule (chars at.rest.now) ≡ Some (front, chars to.rest.now)
   pub count : to.chars_before ≡ at.chars_before + length front
 
--- the step leads past the rule's piece, or fails where none stands
+-- whether the step returns the cursor after the rule's piece, and `None` if there is no piece
 abbrev pub Reads : Rule → Cursor → Option Cursor → Type 0
 Reads rule at result = MatchOption result (find rule (chars at.rest.now) ≡ None) (Passes rule at)
 
--- from one cursor to the other stands the front of a piece of the rule, and the rest of it is a piece of the other rule
+-- whether the rule's piece at `at` is the text up to `to` and then the piece of `rest` there
 pub record Leads (rule : Rule) (at : Cursor) (rest : Rule) (to : Cursor) : Type 0 where
   pub front : List ℕ
   pub found : find rule (chars at.rest.now) ≡ behind front (find rest (chars to.rest.now))
   pub count : to.chars_before ≡ at.chars_before + length front
 
--- from one cursor to the other stands a piece of the rule, and this is its text, which is ASCII
+-- whether a piece of the rule follows the cursor, with this text, which is ASCII, and this cursor after it
 pub record PassesText (rule : Rule) (at : Cursor) (x : Bor (List ℕ) × Cursor) : Type 0 where
   pub found : find rule (chars at.rest.now) ≡ Some (x.0.now, chars x.1.rest.now)
   pub count : x.1.chars_before ≡ at.chars_before + length x.0.now
   pub ascii : IsTrue (all_ascii x.0.now)
 
--- the step leads past the rule's piece, with its text, or fails where none stands
+-- whether the step returns the rule's piece and the cursor after it, and `None` if there is no piece
 abbrev pub ReadsText : Rule → Cursor → Option (Bor (List ℕ) × Cursor) → Type 0
 ReadsText rule at result = MatchOption result (find rule (chars at.rest.now) ≡ None) (PassesText rule at)

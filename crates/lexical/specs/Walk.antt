@@ -1,4 +1,4 @@
--- The pieces of a text, one after the other.
+-- Steps of a walk over the pieces of a text.
 use Rattle.std.specs.Prelude.{◌≡◌, ◌+◌, ◌<◌, ◌++◌, ◌&&◌, ◌==◌, IfNone, IfSome, List, ℕ, false, length}
 use Rattle.std.specs.Str.{chars, IsUtf8}
 use Rattle.lexical.specs.Found.{kind_of, LendsText}
@@ -8,8 +8,8 @@ use Rattle.lexical.specs.declared.walk.PlacedPiece.{PlacedPiece}
 use Rattle.lexical.specs.declared.walk.PieceWalk.{PieceWalk}
 use Rattle.lexical.specs.declared.walk.Spaced.{Spaced}
 
--- from one cursor to the other stands this piece, at its byte offset and with its text; only the first stands at byte
--- offset 0
+-- whether `next` is the next piece of the walk `at`, with its text and byte offset, and `to` is the walk after it. Only
+-- the first piece can be at byte offset 0
 pub record IsNext (at : PieceWalk) (next : PlacedPiece) (to : PieceWalk) : Type 0 where
   pub whole : chars at.rest.now ≡ chars next.text.now ++ chars to.rest.now
   pub joined : at.rest.now ≡ next.text.now ++ to.rest.now
@@ -24,13 +24,14 @@ pub record IsNext (at : PieceWalk) (next : PlacedPiece) (to : PieceWalk) : Type 
   pub past : to.byte_offset ≡ at.byte_offset + length next.text.now
   pub behind : to.at_front ≡ false
 
--- from one cursor to the other stand these white characters, each a gap, and no other follows them
+-- whether `white` is all the white characters at the start of the walk `at`, and `to` is the walk after them
 pub record PassesWhite (at : PieceWalk) (white : List ℕ) (to : PieceWalk) : Type 0 where
   pub splits : SplitsWhite at.rest.now white to.rest.now
   pub past : to.byte_offset ≡ at.byte_offset + length white
   pub behind : to.at_front ≡ (at.at_front && (length white == 0))
 
--- from one cursor to the other stand these white characters and then this piece, or none stands there
+-- whether `next` is the run of white characters at the start of the walk `at`, with the next piece if there is one.
+-- `to` is the walk after both
 pub record IsSpaced (at : PieceWalk) (next : Spaced) (to : PieceWalk) : Type 0 where
   pub here : PieceWalk
   pub passes : PassesWhite at next.white.now here

@@ -1,6 +1,6 @@
-//! Classes of characters, and what stands at a byte offset by its class.
+//! Classes of characters, and steps over the characters of a class.
 //!
-//! ASCII is read byte by byte, each by one look at a table. A character past ASCII is read whole.
+//! ASCII is read byte by byte, with one table lookup for each byte. A character past ASCII is decoded first.
 #![tactic(auto, using(crate::proofs::RuleSteps::steps))]
 
 ghost use Rattle.std.specs.Prelude.{◌≡◌, ◌<◌, ℕ, length};
@@ -14,7 +14,7 @@ ghost use Rattle.lexical.specs.Text.{first_passes};
 use crate::class::{continues_identifier, is_white, starts_identifier};
 use crate::cursor::Cursor;
 
-/// The base of the digits that a prefix announces.
+/// The base of an integer's digits, which a prefix such as `0x` announces.
 #[derive(Clone, Copy)]
 pub enum Base {
     /// Base 2, after `0b`.
@@ -25,7 +25,7 @@ pub enum Base {
     Hexadecimal,
 }
 
-/// A class of characters that rules name.
+/// A class of characters that the rules of the grammar name.
 #[derive(Clone, Copy)]
 pub enum Class {
     /// An ASCII digit.
@@ -34,9 +34,9 @@ pub enum Class {
     DigitOrUnderscore,
     /// `_`.
     Underscore,
-    /// A digit of the base.
+    /// A digit of this base.
     DigitOf(Base),
-    /// A digit of the base or `_`.
+    /// A digit of this base or `_`.
     DigitOrUnderscoreOf(Base),
     /// `+` or `-`.
     Sign,
@@ -48,13 +48,13 @@ pub enum Class {
     CodeDigit,
     /// `#`.
     Hash,
-    /// What may begin an identifier.
+    /// A character that may begin an identifier.
     IdentifierStart,
-    /// What an identifier may go on with.
+    /// A character that may continue an identifier.
     IdentifierContinue,
-    /// What bars the dot of a number before it: a dot, or what may begin an identifier.
+    /// A dot, or a character that may begin an identifier. A dot right before one of these does not belong to a number.
     BarsDot,
-    /// White space, or one of the two marks of direction.
+    /// White space, or one of the two marks of direction, U+200E and U+200F.
     White,
     /// One of `(`, `[`, `{`.
     Opener,
@@ -64,8 +64,8 @@ pub enum Class {
     Mark,
 }
 
-// Each byte is of one kind at most, which is a bit. A class has the characters of some kinds.
-/// No kind: other characters of ASCII, and the bytes past it.
+// Each byte has at most one kind, which is one bit. A class is a set of kinds.
+/// No kind: the other ASCII characters, and all bytes past ASCII.
 const NONE: u16 = 0;
 /// White space.
 const WHITE: u16 = 1;
@@ -101,7 +101,7 @@ const DIGITS: u16 = BINARY | OCTAL | DECIMAL;
 /// The kinds of letters.
 const LETTERS: u16 = EXPONENT | HEX | LETTER;
 
-/// The kind of each byte. Those past ASCII are of none.
+/// The kind of each byte. Bytes past ASCII have no kind.
 #[rattlefmt::skip]
 static KINDS: [u16; 256] = [
     NONE, NONE, NONE, NONE, NONE, NONE, NONE, NONE,
@@ -172,7 +172,7 @@ pub fn holds_ascii(class: Class, byte: u8) -> bool
     KINDS[byte as usize] & kinds(class) != 0
 }
 
-/// Whether the character is of the class.
+/// Whether the character is in the class.
 #[inline(always)]
 pub fn holds(class: Class, c: char) -> bool
     ensures { result ≡ is_in class c }
@@ -188,7 +188,7 @@ pub fn holds(class: Class, c: char) -> bool
     }
 }
 
-/// How many bytes at the front are ASCII characters of the class.
+/// Counts the bytes before the first one that is not an ASCII character of the class.
 #[inline(always)]
 pub fn count_ascii(bytes: &[u8], class: Class) -> usize
     ensures { result ≡ length (while_front (ascii_in class) bytes.now) }
@@ -203,7 +203,7 @@ pub fn count_ascii(bytes: &[u8], class: Class) -> usize
     count
 }
 
-/// The cursor after the ASCII characters of the class, up to one that isn't.
+/// Returns the cursor after the ASCII characters of the class, at the first character that is none of them.
 #[inline(always)]
 fn skip_ascii(at: Cursor<'_>, class: Class) -> Cursor<'_>
     ensures { Passes (Run (ascii_in class)) at.entry result }
@@ -215,7 +215,7 @@ fn skip_ascii(at: Cursor<'_>, class: Class) -> Cursor<'_>
     }
 }
 
-/// The cursor after all the characters of the class, up to one that isn't.
+/// Returns the cursor after all characters of the class, at the first character that is not in the class.
 #[inline]
 pub fn skip(at: Cursor<'_>, class: Class) -> Cursor<'_>
     ensures { Passes (Run (is_in class)) at.entry result }
@@ -227,7 +227,7 @@ pub fn skip(at: Cursor<'_>, class: Class) -> Cursor<'_>
     end
 }
 
-/// The cursor after the character at the cursor, if it is of the class.
+/// Returns the cursor after one character if that character is in the class, and otherwise `None`.
 #[inline]
 pub fn one(at: Cursor<'_>, class: Class) -> Option<Cursor<'_>>
     ensures { Reads (One (is_in class)) at.entry result }
@@ -236,7 +236,7 @@ pub fn one(at: Cursor<'_>, class: Class) -> Option<Cursor<'_>>
     if holds(class, c) { Some(after) } else { None }
 }
 
-/// Whether a character of the class stands at the cursor.
+/// Whether the character at the cursor is in the class. At the end of the text it is not.
 #[inline]
 pub fn is_next(at: Cursor<'_>, class: Class) -> bool
     ensures { result ≡ first_passes (is_in class) (chars at.entry.rest.now) }

@@ -1,4 +1,4 @@
-//! Classes of characters.
+//! Classes of characters, and which piece a character can begin.
 
 ghost use Rattle.std.specs.Prelude.{◌≡◌};
 ghost use Rattle.lexical.specs.Class.{is_white as white, is_ident_start, is_ident_continue};
@@ -7,7 +7,7 @@ ghost use Rattle.lexical.specs.Quick.{byte_starts};
 
 use crate::bytes::{Class, holds};
 
-/// What the first character of a text says of the piece that may stand there.
+/// What the first character of a text says about the piece there.
 #[derive(Clone, Copy)]
 pub enum PieceStart {
     /// A white character.
@@ -26,11 +26,11 @@ pub enum PieceStart {
     Quote,
     /// `"`.
     DoubleQuote,
-    /// U+FEFF.
+    /// The byte order mark U+FEFF.
     FrontMark,
-    /// Another of the marks.
+    /// One of the other marks.
     Mark,
-    /// Any other.
+    /// Any other character. No piece begins with it.
     Other,
 }
 
@@ -52,7 +52,7 @@ pub fn starts_identifier(c: char) -> bool
     unicode_ident::is_xid_start(c) && !is_white(c) && c != '\u{FEFF}'
 }
 
-/// Whether an identifier may go on with the character, by the rule `identifier-continue`.
+/// Whether an identifier may continue with the character, by the rule `identifier-continue`.
 #[tactic(auto, using(crate::proofs::ClassLemmas::ident_continue_ascii))]
 pub fn continues_identifier(c: char) -> bool
     ensures { result ≡ is_ident_continue c }
@@ -63,7 +63,7 @@ pub fn continues_identifier(c: char) -> bool
     unicode_ident::is_xid_continue(c)
 }
 
-/// What each byte begins, in words that make the table below a square.
+/// Short names for the table below.
 const WHITE: PieceStart = PieceStart::White;
 
 const LETTER: PieceStart = PieceStart::Letter;
@@ -84,7 +84,7 @@ const MARK: PieceStart = PieceStart::Mark;
 
 const OTHER: PieceStart = PieceStart::Other;
 
-/// What each byte begins. Those past ASCII tell nothing.
+/// What each ASCII byte can begin. A byte past ASCII does not decide it, so its entry is `OTHER`.
 #[rattlefmt::skip]
 static STARTS: [PieceStart; 256] = [
     OTHER, OTHER, OTHER, OTHER, OTHER, OTHER, OTHER, OTHER,
@@ -113,7 +113,7 @@ static STARTS: [PieceStart; 256] = [
     OTHER, OTHER, OTHER, OTHER, OTHER, OTHER, OTHER, OTHER, OTHER, OTHER, OTHER, OTHER, OTHER, OTHER, OTHER, OTHER,
 ];
 
-/// What the first byte of a text says of the piece that may stand there: nothing, where it is past ASCII.
+/// What the first byte of a text says about the piece there. It says nothing if the byte is past ASCII.
 #[inline(always)]
 pub fn byte_start(byte: u8) -> PieceStart
     ensures { result ≡ byte_starts byte }
@@ -121,7 +121,7 @@ pub fn byte_start(byte: u8) -> PieceStart
     STARTS[byte as usize]
 }
 
-/// What the first character of a text says of the piece that may stand there.
+/// Returns what the first character of a text says about the piece there.
 #[tactic(auto, using(crate::proofs::ClassLemmas::start_letter))]
 #[inline(always)]
 pub fn piece_start_of(c: char) -> PieceStart

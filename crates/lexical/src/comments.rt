@@ -1,4 +1,4 @@
-//! Comments.
+//! Steps over comments.
 #![tactic(auto, using(crate::proofs::BlockSteps::block_steps))]
 
 ghost use Rattle.std.specs.Prelude.{◌≡◌, ◌<◌, ◌≤◌, [], IfSome, MatchOption, length};
@@ -15,7 +15,7 @@ use crate::piece::PieceKind;
 use crate::search::{skip_to, skip_to_either};
 use crate::text::before;
 
-/// The cursor after the line comment that stands at the cursor, by the rule `line-comment`.
+/// Returns the cursor after the line comment at the cursor, by the rule `line-comment`.
 fn skip_line(at: Cursor<'_>) -> Option<Cursor<'_>>
     ensures { Reads rule.line_comment at.entry result }
 {
@@ -23,8 +23,8 @@ fn skip_line(at: Cursor<'_>) -> Option<Cursor<'_>>
     Some(skip_to(after, b'\n'))
 }
 
-/// The cursor after the sign or the character at the cursor, and how many block comments are open
-/// there. `depth` are open at the cursor.
+/// Moves past one `/*`, one `*/` or one other character. Returns the cursor there and how many block comments are open
+/// there, where `depth` are open at `at`.
 fn step(at: Cursor<'_>, depth: usize) -> Option<(Cursor<'_>, usize)>
     requires inside { 0 < depth }
     requires fits { depth ≤ at.chars_before }
@@ -43,7 +43,7 @@ fn step(at: Cursor<'_>, depth: usize) -> Option<(Cursor<'_>, usize)>
     Some((after, depth))
 }
 
-/// The cursor after the block comment that stands at the cursor, by the rule `block-comment`.
+/// Returns the cursor after the block comment at the cursor, by the rule `block-comment`.
 fn skip_block(at: Cursor<'_>) -> Option<Cursor<'_>>
     ensures { Reads rule.block_comment at.entry result }
 {
@@ -58,7 +58,7 @@ fn skip_block(at: Cursor<'_>) -> Option<Cursor<'_>>
     Some(end)
 }
 
-/// The cursor after the comment that stands at the cursor.
+/// Returns the cursor after the comment at the cursor, or `None` if no comment begins there.
 pub fn skip_comment(at: Cursor<'_>) -> Option<Cursor<'_>>
     ensures { Reads rule.comment at.entry result }
 {
@@ -68,8 +68,8 @@ pub fn skip_comment(at: Cursor<'_>) -> Option<Cursor<'_>>
     }
 }
 
-/// The comment that stands at the cursor, a gap or a doc comment: its kind, and the cursor after it.
-/// None stands where a doc comment has a CR that no LF follows in its text.
+/// Returns the kind of the comment at the cursor, a gap or a doc comment, and the cursor after it. A doc comment is
+/// rejected if its text has a CR with no LF after it.
 #[inline(never)]
 pub fn comment(at: Cursor<'_>) -> Option<(PieceKind<'_>, Cursor<'_>)>
     ensures { Answers (comment_found (find rule.comment (chars at.entry.rest.now))) at.entry result }

@@ -1,6 +1,6 @@
-//! What strings forbid between their quotes.
+//! The characters that a string must not contain.
 //!
-//! A string's end is searched for among its bytes, and then the stretch up to there is checked.
+//! The end of a string is searched for among its bytes. Then the bytes up to there are checked.
 
 ghost use Rattle.std.specs.Prelude.{◌≡◌, length};
 ghost use Rattle.std.specs.Char.{is_ascii};
@@ -10,7 +10,7 @@ ghost use Rattle.lexical.specs.RawString.{may_stand_raw};
 use crate::quoted::StringKind;
 use memchr::memchr;
 
-/// Whether a string of the kind may have the character, be it raw or not.
+/// Whether a string of the kind may contain the character, with escapes or raw.
 pub fn may_stand(c: char, kind: StringKind) -> bool
     ensures { result ≡ may_stand_raw kind c }
 {
@@ -21,7 +21,7 @@ pub fn may_stand(c: char, kind: StringKind) -> bool
     }
 }
 
-/// How many bytes come before the first that is past ASCII.
+/// Counts the bytes before the first one that is past ASCII.
 fn count_ascii(bytes: &[u8]) -> usize
     ensures { result ≡ length (while_front is_ascii bytes.now) }
 {
@@ -38,7 +38,7 @@ fn count_ascii(bytes: &[u8]) -> usize
     count
 }
 
-/// How many bytes of the stretch come before the first that a string of the kind forbids.
+/// Counts the bytes before the first one that a string of the kind must not contain.
 pub fn count_allowed(stretch: &[u8], kind: StringKind) -> usize
     ensures { result ≡ length (while_front (may_stand_raw kind) stretch.now) }
 {

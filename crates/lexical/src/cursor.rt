@@ -5,14 +5,14 @@ ghost use Rattle.std.specs.Str.{IsUtf8, chars};
 
 use crate::text::{char_count, split_first, strip};
 
-/// What is left of a text, and how many characters stand before that.
+/// The rest of a text, and how many characters come before it.
 #[derive(Clone, Copy)]
 pub struct Cursor<'a> {
-    /// What follows the cursor.
+    /// The text after the cursor.
     pub rest: &'a str,
-    /// How many characters of the text stand before it.
+    /// How many characters of the text come before the cursor.
     pub chars_before: usize,
-    // The rest is a text, and the count of characters cannot wrap.
+    // The rest is valid UTF-8, and the count of characters cannot overflow.
     pub ghost text: { ∥ IsUtf8 rest.now ∥₁ },
     pub ghost room: { chars_before + length (chars rest.now) < 2 ^ 64 },
 }
@@ -24,13 +24,13 @@ impl<'a> Cursor<'a> {
     ghost use Rattle.lexical.specs.Rule.{Exactly};
     ghost use Rattle.lexical.specs.Step.{Reads};
 
-    /// The front of a text.
+    /// Returns the cursor at the start of a text.
     #[inline(always)]
     pub fn new(text: &'a str) -> Self
         ensures rest { result.rest.now ≡ text.now }
         ensures chars { result.chars_before ≡ 0 }
     {
-        // Its contract bounds how many bytes a text has, and so how many characters.
+        // The contract of `iter` bounds how many bytes a text has, and so how many characters.
         let _bytes = text.as_bytes().iter();
         Cursor {
             rest: text,
@@ -38,7 +38,7 @@ impl<'a> Cursor<'a> {
         }
     }
 
-    /// The character after the cursor, and the cursor after that character.
+    /// Returns the next character, and the cursor after it.
     #[inline(always)]
     pub fn advance(self) -> Option<(char, Self)>
         ensures { MatchOption result (chars self.entry.rest.now ≡ []) (λ x.
@@ -53,7 +53,7 @@ impl<'a> Cursor<'a> {
         Some((first, after))
     }
 
-    /// The cursor after the ASCII text `front`, where that stands at the cursor.
+    /// Returns the cursor after the ASCII text `front`, or `None` if the rest does not begin with it.
     #[inline(always)]
     pub fn past(self, front: &str) -> Option<Self>
         requires { IsTrue (all_ascii front.now) }
@@ -67,7 +67,7 @@ impl<'a> Cursor<'a> {
         Some(after)
     }
 
-    /// The cursor after the next `size` bytes, which are whole characters.
+    /// Returns the cursor after the next `size` bytes, which must end between two characters.
     pub fn after_bytes(self, size: usize) -> Self
         requires { IsCharBoundary self.rest.now size }
         ensures rest { result.rest.now ≡ drop size self.entry.rest.now }
@@ -79,7 +79,7 @@ impl<'a> Cursor<'a> {
         }
     }
 
-    /// How many bytes of the text stand before the cursor, which lies in it.
+    /// Counts the bytes of `text` before the cursor. The cursor's rest must be a suffix of `text`.
     #[inline(always)]
     pub fn bytes_in(self, text: &str) -> usize
         requires { (front : List ℕ) × (chars text.now ≡ front ++ chars self.rest.now) }

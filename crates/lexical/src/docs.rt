@@ -1,4 +1,4 @@
-//! Doc comments.
+//! Doc comments and their text.
 
 ghost use Rattle.std.specs.Prelude.{◌≡◌};
 ghost use Rattle.std.specs.Str.{chars};
@@ -11,7 +11,7 @@ use crate::piece::PieceKind;
 use crate::search::from_first;
 use crate::text::{before, begins, split_first, without_return};
 
-/// Whether the comment documents what it stands in.
+/// Whether the comment is an inner doc comment, which documents the item around it.
 fn is_inner(comment: &str) -> bool
     ensures { result ≡ inward (chars comment.now) }
 {
@@ -27,7 +27,7 @@ fn is_doc(comment: &str) -> bool
     is_inner(comment) || outer && !plain
 }
 
-/// The text of a doc comment before `rest`, by the rule `doc-text`.
+/// Returns the text of a doc comment that `rest` follows, by the rule `doc-text`.
 fn doc_text<'a>(comment: &'a str, rest: &str) -> &'a str
     requires { Where documents Comment (chars comment.now) (chars rest.now) }
     ensures { chars result.now ≡ text_of_doc (chars comment.now) (chars rest.now) }
@@ -42,7 +42,7 @@ fn doc_text<'a>(comment: &'a str, rest: &str) -> &'a str
     }
 }
 
-/// Whether a CR stands in the text that no LF follows there.
+/// Whether the text has a CR with no LF after it.
 fn has_bare_return(text: &str) -> bool
     ensures { result ≡ bare (chars text.now) }
 {
@@ -56,8 +56,8 @@ fn has_bare_return(text: &str) -> bool
     false
 }
 
-/// What kind of piece the comment before `rest` is. It is none where a doc comment has a CR that
-/// no LF follows in its text.
+/// Returns which kind of piece a comment is that `rest` follows. A doc comment is rejected if its text has a CR with no
+/// LF after it.
 pub fn comment_kind<'a>(comment: &'a str, rest: &str) -> Option<PieceKind<'a>>
     requires { Comment (chars comment.now) (chars rest.now) }
     ensures { Tells (kind_of_comment (chars comment.now) (chars rest.now)) (chars comment.now) result }

@@ -1,4 +1,4 @@
-//! Escapes: what stands after a backslash.
+//! Escapes: what follows a backslash in a literal.
 #![tactic(auto, using(crate::proofs::RuleSteps::steps))]
 
 ghost use Rattle.std.specs.Prelude.{◌≡◌, IsTrue};
@@ -14,7 +14,7 @@ use crate::quoted::StringKind;
 use crate::skip::one as one_that;
 use crate::text::{before, begins};
 
-/// Whether the letter is a simple escape, by the rule `simple-escape`.
+/// Whether a backslash and this letter are a simple escape, by the rule `simple-escape`.
 pub fn is_letter(c: char, kind: StringKind) -> bool
     ensures { result ≡ is_one_of (rule.letters kind) c }
 {
@@ -25,21 +25,21 @@ pub fn is_letter(c: char, kind: StringKind) -> bool
     }
 }
 
-/// The cursor after the letter of a simple escape.
+/// Returns the cursor after the letter of a simple escape.
 fn simple(at: Cursor<'_>, kind: StringKind) -> Option<Cursor<'_>>
     ensures { Reads (One (is_one_of (rule.letters kind))) at.entry result }
 {
     one_that(at, |c| is_letter(c, kind))
 }
 
-/// The cursor after two hex digits.
+/// Returns the cursor after two hex digits.
 fn hex_pair(at: Cursor<'_>) -> Option<Cursor<'_>>
     ensures { Reads rule.hex_pair at.entry result }
 {
     one(one(at, Class::HexDigit)?, Class::HexDigit)
 }
 
-/// The cursor after two hex digits that may stand after `x`.
+/// Returns the cursor after two hex digits if a literal of the kind allows them after `\x`.
 fn pair(at: Cursor<'_>, kind: StringKind) -> Option<Cursor<'_>>
     ensures { Reads (rule.pair kind) at.entry result }
 {
@@ -55,14 +55,14 @@ fn pair(at: Cursor<'_>, kind: StringKind) -> Option<Cursor<'_>>
     }
 }
 
-/// The cursor after `x` and its two digits, by the rule `hex-escape`.
+/// Returns the cursor after `x` and its two digits, by the rule `hex-escape`.
 fn hex(at: Cursor<'_>, kind: StringKind) -> Option<Cursor<'_>>
     ensures { Reads (rule.hex (rule.pair kind)) at.entry result }
 {
     pair(at.past("x")?, kind)
 }
 
-/// Whether the escape of a character may give this one.
+/// Whether `\u{..}` may have this value in a literal of the kind.
 fn allows(kind: StringKind, value: u32) -> bool
     ensures { result ≡ rule.allows kind value }
 {
@@ -73,10 +73,11 @@ fn allows(kind: StringKind, value: u32) -> bool
     }
 }
 
-/// How many hex digits a character's code may have at most.
+/// The largest number of hex digits in `\u{..}`.
 const MOST_DIGITS: u32 = 6;
 
-/// Whether the hex digits, six at most, write a character that is allowed, whatever `_` stand between them.
+/// Whether there are at most six hex digits, and they are the code of a character that the kind allows. Any `_` among
+/// them is skipped.
 pub fn writes_character(code: &[u8], kind: StringKind) -> bool
     requires { IsTrue (list_all is_code_digit code.now) }
     ensures { result ≡ is_code (rule.allows kind) code.now }
@@ -95,7 +96,7 @@ pub fn writes_character(code: &[u8], kind: StringKind) -> bool
     char::from_u32(value).is_some() && allows(kind, value)
 }
 
-/// The cursor after the code of a character: a hex digit and all the hex digits and `_` that follow it.
+/// Returns the cursor after the code of a character: one hex digit and all hex digits and `_` after it.
 fn code(at: Cursor<'_>, kind: StringKind) -> Option<Cursor<'_>>
     ensures { Reads (rule.code (rule.allows kind)) at.entry result }
 {
@@ -107,14 +108,14 @@ fn code(at: Cursor<'_>, kind: StringKind) -> Option<Cursor<'_>>
     Some(end)
 }
 
-/// The cursor after `u{`, a character's code and `}`, by the rule `unicode-escape`.
+/// Returns the cursor after `u{`, the code of a character and `}`, by the rule `unicode-escape`.
 fn unicode(at: Cursor<'_>, kind: StringKind) -> Option<Cursor<'_>>
     ensures { Reads (rule.unicode (rule.allows kind)) at.entry result }
 {
     code(at.past("u{")?, kind)?.past("}")
 }
 
-/// The cursor after an escape: a letter, `x` and two digits, or the code of a character.
+/// Returns the cursor after an escape: a letter, `x` and two digits, or `u{..}` with the code of a character.
 pub fn escape(at: Cursor<'_>, kind: StringKind) -> Option<Cursor<'_>>
     ensures { Reads (rule.escape kind) at.entry result }
 {

@@ -1,4 +1,4 @@
-//! Gaps.
+//! White characters, each of which is a gap.
 
 ghost use Rattle.std.specs.Prelude.{◌≡◌, ◌≤◌, IsTrue, length, take};
 ghost use Rattle.std.specs.List.{list_all};
@@ -11,7 +11,7 @@ use crate::bytes::{Class, holds_ascii, skip};
 use crate::cursor::Cursor;
 use crate::quick::byte_at;
 
-/// How many spaces stand at the front, as many as go by fours.
+/// Counts the spaces at the start, four at a time. It leaves up to three of them uncounted.
 #[inline(always)]
 fn spaces(bytes: &[u8]) -> usize
     ensures within { result ≤ length bytes.now }
@@ -24,11 +24,10 @@ fn spaces(bytes: &[u8]) -> usize
     count
 }
 
-/// What follows the white characters of ASCII at the front of the text, each a piece by the rule
-/// `gap`, and how many characters they are.
+/// Returns the text after the ASCII white characters at its start, and how many characters they are. Each of these is a
+/// piece by the rule `gap`.
 ///
-/// Where none stands, it is the whole text, after 0 characters. At two spaces and `a b` it answers
-/// `a b` and 2.
+/// If the text begins with none, it returns the whole text and 0. For two spaces and `a b` it returns `a b` and 2.
 #[inline(always)]
 pub fn past_white(text: &str) -> (&str, usize)
     ensures passed { IsPastWhite (chars text.now) (chars result.0.now) result.1 }
@@ -41,13 +40,13 @@ pub fn past_white(text: &str) -> (&str, usize)
             break;
         }
         white += 1;
-        // A line often begins with many spaces.
+        // Lines often begin with many spaces.
         white += spaces(&bytes[white..]);
     }
     (&text[white..], white)
 }
 
-/// How many bytes the white characters at the front of the text have, those past ASCII too.
+/// Counts the bytes of all white characters at the start of the text, past ASCII too.
 #[inline(never)]
 fn white_size(text: &str) -> usize
     ensures { result ≡ length (encode_utf8_all (while_front is_white (chars text.now))) }
@@ -55,9 +54,9 @@ fn white_size(text: &str) -> usize
     skip(Cursor::new(text), Class::White).bytes_in(text)
 }
 
-/// The white characters at the front of the text, those past ASCII too, and what follows them.
+/// Splits the text after all white characters at its start, past ASCII too.
 ///
-/// Of two spaces and `a b` they are the two spaces and `a b`.
+/// For two spaces and `a b` it returns the two spaces and `a b`.
 #[inline(always)]
 pub fn split_white(text: &str) -> (&str, &str)
     ensures { SplitsWhite text.now result.0.now result.1.now }
@@ -66,6 +65,6 @@ pub fn split_white(text: &str) -> (&str, &str)
     if byte_at(text.as_bytes(), size).is_ascii() {
         return text.split_at(size);
     }
-    // This is a call of its own so that the one above can cut the text without looking where a character ends.
+    // This call is separate, so that the split above needs no check that it falls between two characters.
     text.split_at(white_size(text))
 }

@@ -1,4 +1,4 @@
-//! Identifiers.
+//! Names and identifiers.
 #![tactic(auto, using(crate::proofs::RuleSteps::steps))]
 
 ghost use Rattle.std.specs.Prelude.{◌≡◌, ◌+◌, ◌∷◌, IsTrue, List, ℕ, codes};
@@ -16,7 +16,7 @@ use crate::cursor::Cursor;
 use crate::piece::PieceKind;
 use crate::text::{before, begins, is_text};
 
-/// The cursor after the name that stands at the cursor, by the rule `name`.
+/// Returns the cursor after the name at the cursor, by the rule `name`.
 pub fn name(at: Cursor<'_>) -> Option<Cursor<'_>>
     ensures { Reads rule.name at.entry result }
 {
@@ -24,8 +24,8 @@ pub fn name(at: Cursor<'_>) -> Option<Cursor<'_>>
     Some(skip(after, Class::IdentifierContinue))
 }
 
-/// Whether the text begins as a literal with letters before its quote does, by the rule
-/// `reserved-prefix`.
+/// Whether the text begins like a literal that has letters before its quote, by the rule `reserved-prefix`. `first` is
+/// its first character.
 #[inline(always)]
 fn begins_literal(text: &str, first: char) -> bool
     requires { (rest : List ℕ) × (chars text.now ≡ first ∷ rest) }
@@ -42,8 +42,8 @@ fn begins_literal(text: &str, first: char) -> bool
     }
 }
 
-/// Whether no raw identifier has the name, by the rule `raw-reserved`: it is `_`, `super`, `self`,
-/// `Self` or `crate`.
+/// Whether a raw identifier must not have the name, by the rule `raw-reserved`: `_`, `super`, `self`, `Self` and
+/// `crate`.
 pub fn is_reserved(name: &str) -> bool
     ensures { result ≡ reserved (chars name.now) }
 {
@@ -54,7 +54,7 @@ pub fn is_reserved(name: &str) -> bool
         || is_text(name, "crate")
 }
 
-/// The cursor after the name of a raw identifier that stands at the cursor, after `r#`.
+/// Returns the cursor after the name of a raw identifier. The cursor `at` is after its `r#`.
 #[inline(never)]
 pub fn raw_name(at: Cursor<'_>) -> Option<Cursor<'_>>
     ensures { Reads rule.raw_name at.entry result }
@@ -66,8 +66,8 @@ pub fn raw_name(at: Cursor<'_>) -> Option<Cursor<'_>>
     Some(end)
 }
 
-/// The cursor after the identifier that stands at the cursor, whatever literal begins there, where
-/// `raw` says whether `r#` does.
+/// Returns the cursor after the identifier at the cursor, even if a literal begins there. `raw` says whether the text
+/// there begins with `r#`.
 pub fn written(at: Cursor<'_>, raw: bool) -> Option<Cursor<'_>>
     requires { begins_with (codes "r#") (chars at.rest.now) ≡ raw }
     ensures { Reads (rule.written raw) at.entry result }
@@ -79,8 +79,8 @@ pub fn written(at: Cursor<'_>, raw: bool) -> Option<Cursor<'_>>
     }
 }
 
-/// The identifier that stands at the cursor, by the rule `identifier`: its kind, and the cursor after
-/// it. `first` is the character at the cursor, and `after` the cursor after that.
+/// Returns the kind of the identifier at the cursor, by the rule `identifier`, and the cursor after it. `first` is the
+/// character at the cursor, and `after` is the cursor after that character.
 #[inline(always)]
 pub fn identifier<'a>(
     at: Cursor<'a>,

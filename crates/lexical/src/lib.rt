@@ -1,13 +1,14 @@
-//! The lexer: which piece of the grammar stands at a byte offset of a text.
+//! The lexer: it finds which piece of the grammar begins at a byte offset of a text.
 //!
-//! [`piece_at`] answers the one piece that stands at the front of what is left of a source, or
-//! that none stands there. The rules are in docs/GRAMMAR.md and, exactly, in `specs/`: a form is a
-//! relation between a piece and all that follows it. No call takes memory. A call may read more of
-//! the text than the piece that it answers: an unclosed `/*` or string is read to the end, and a
-//! lone `'` with the whole identifier after it.
+//! [`piece_at`] returns the piece at the start of a text, which is the rest of a source from some byte offset on. It
+//! returns `None` if no piece begins there; at most one can. The rules are in docs/GRAMMAR.md; their exact definitions
+//! are in `specs/`. A form is a relation between a piece and all the text after it.
 //!
-//! A rule is named by its label in backquotes, such as `block-comment`. `docs/GRAMMAR.md` has all of them, each
-//! with its definition.
+//! No call allocates memory. A call may read more of the text than the piece that it returns. If a `/*` or a string is
+//! not closed, it reads to the end of the text. For a lone `'`, it reads the whole identifier after it.
+//!
+//! A rule is named by its label in backquotes, such as `block-comment`. `docs/GRAMMAR.md` lists all rules with their
+//! definitions.
 #![tactic(auto)]
 
 mod bytes;

@@ -15,8 +15,7 @@ use crate::quoted::{StringKind, string};
 use crate::raw_strings::raw_string;
 use crate::single_quotes::single;
 
-/// The cursor after the literal between quotes that stands at the cursor, by the rule
-/// `quoted-literal`.
+/// Returns the cursor after the literal between quotes at the cursor, by the rule `quoted-literal`.
 #[inline(never)]
 pub fn quoted(at: Cursor<'_>) -> Option<Cursor<'_>>
     ensures { Reads rule.quoted_literal at.entry result }
@@ -36,8 +35,8 @@ pub fn quoted(at: Cursor<'_>) -> Option<Cursor<'_>>
     }
 }
 
-/// The cursor after the string that stands at the cursor: with escapes, which the text `front` opens,
-/// or raw, which `raw_front` opens.
+/// Returns the cursor after the string at the cursor. `front` opens it if it has escapes, and `raw_front` opens it if
+/// it is raw.
 fn any_string<'a>(
     at: Cursor<'a>,
     front: &str,
@@ -55,7 +54,7 @@ fn any_string<'a>(
     }
 }
 
-/// The cursor after the literal that stands at the cursor, by the rule `literal`.
+/// Returns the cursor after the literal at the cursor, by the rule `literal`.
 pub fn literal(at: Cursor<'_>) -> Option<Cursor<'_>>
     ensures { Reads rule.literal at.entry result }
 {

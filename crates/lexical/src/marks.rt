@@ -1,4 +1,4 @@
-//! Marks.
+//! Punctuation marks and lone quotes.
 
 ghost use Rattle.std.specs.Prelude.{◌≡◌, not};
 ghost use Rattle.std.specs.Str.{chars};
@@ -21,7 +21,7 @@ pub fn is_mark(c: char) -> bool
     holds(Class::Mark, c)
 }
 
-/// Whether a comment begins the text.
+/// Whether the text begins with a comment, `//` or `/*`.
 #[inline(always)]
 pub fn begins_comment(text: &str) -> bool
     ensures { result ≡ begins_any comment_fronts (chars text.now) }
@@ -29,7 +29,7 @@ pub fn begins_comment(text: &str) -> bool
     begins(text, "//") || begins(text, "/*")
 }
 
-/// The kind of the mark that stands before `rest`, by the rules `mark` and `joint`.
+/// Returns the kind of a mark that `rest` follows, by the rules `mark` and `joint`.
 #[inline(always)]
 pub fn mark<'a>(mark: char, rest: &str) -> PieceKind<'a>
     ensures { result ≡ kinds.Mark (joint_before (chars rest.now)) mark }
@@ -41,7 +41,8 @@ pub fn mark<'a>(mark: char, rest: &str) -> PieceKind<'a>
     PieceKind::Mark { joint, mark }
 }
 
-/// Whether no character follows the cursor that bars a `'` before the identifier that ends there.
+/// Whether a `'` may come right before an identifier that ends at the cursor. It may not if a `'` follows the
+/// identifier, or if a `#` follows and the identifier is not raw.
 fn is_unbarred(end: Cursor<'_>, raw: bool) -> bool
     ensures { result ≡ not (first_passes (bars_quote raw) (chars end.entry.rest.now)) }
 {
@@ -51,7 +52,7 @@ fn is_unbarred(end: Cursor<'_>, raw: bool) -> bool
     }
 }
 
-/// Whether a lone quote may stand before the cursor, by the rule `lone-quote`.
+/// Whether a lone quote may come right before the cursor, by the rule `lone-quote`.
 #[inline(never)]
 pub fn follows_quote(at: Cursor<'_>) -> bool
     ensures { result ≡ follows (chars at.entry.rest.now) }

@@ -1,4 +1,4 @@
-//! Numbers.
+//! Numbers, read by their characters.
 #![tactic(auto, using(crate::proofs::RuleSteps::steps))]
 
 ghost use Rattle.std.specs.Prelude.{◌≡◌, IsTrue};
@@ -16,7 +16,7 @@ use crate::cursor::Cursor;
 use crate::quoted::suffix;
 use crate::text::begins;
 
-/// The cursor after the digits that stand at the cursor, by the rule `digits`.
+/// Returns the cursor after the digits at the cursor, by the rule `digits`.
 fn digits(at: Cursor<'_>) -> Option<Cursor<'_>>
     ensures { Reads rule.digits at.entry result }
 {
@@ -24,7 +24,7 @@ fn digits(at: Cursor<'_>) -> Option<Cursor<'_>>
     Some(skip(after, Class::DigitOrUnderscore))
 }
 
-/// The cursor after the suffix of a number, by the rule `number-end`.
+/// Returns the cursor after the suffix of a number, by the rule `number-end`.
 fn end(at: Cursor<'_>) -> Option<Cursor<'_>>
     ensures { Reads rule.end at.entry result }
 {
@@ -36,7 +36,7 @@ fn end(at: Cursor<'_>) -> Option<Cursor<'_>>
     }
 }
 
-/// The cursor after the dot of a number, by the rule `dot`.
+/// Returns the cursor after the dot of a number, by the rule `dot`.
 fn dot(at: Cursor<'_>) -> Option<Cursor<'_>>
     ensures { Reads rule.dot at.entry result }
 {
@@ -48,7 +48,7 @@ fn dot(at: Cursor<'_>) -> Option<Cursor<'_>>
     }
 }
 
-/// The cursor after the exponent that stands at the cursor, by the rule `exponent`.
+/// Returns the cursor after the exponent at the cursor, by the rule `exponent`.
 fn exponent(at: Cursor<'_>) -> Option<Cursor<'_>>
     ensures { Reads rule.exponent at.entry result }
 {
@@ -61,7 +61,7 @@ fn exponent(at: Cursor<'_>) -> Option<Cursor<'_>>
     digits(skip(after, Class::Underscore))
 }
 
-/// The cursor after a dot and what follows it in a number.
+/// Returns the cursor after a number's dot and everything that follows the dot in the number.
 fn fraction(at: Cursor<'_>) -> Option<Cursor<'_>>
     ensures { Reads rule.fraction at.entry result }
 {
@@ -72,7 +72,7 @@ fn fraction(at: Cursor<'_>) -> Option<Cursor<'_>>
     }
 }
 
-/// The cursor after what makes a float of the digits before it.
+/// Returns the cursor after the part that makes a float of the digits before it.
 fn float_tail(at: Cursor<'_>) -> Option<Cursor<'_>>
     ensures { Reads rule.float_tail at.entry result }
 {
@@ -82,7 +82,7 @@ fn float_tail(at: Cursor<'_>) -> Option<Cursor<'_>>
     }
 }
 
-/// The cursor after the number that stands at the cursor and begins with no prefix of a base.
+/// Returns the cursor after a number that begins with no prefix of a base.
 fn decimal(at: Cursor<'_>) -> Option<Cursor<'_>>
     ensures { Reads (Then rule.digits rule.tail) at.entry result }
 {
@@ -93,8 +93,8 @@ fn decimal(at: Cursor<'_>) -> Option<Cursor<'_>>
     }
 }
 
-/// The cursor after the digits of the base, where none follows that is too large, by the rule
-/// `base-digits`.
+/// Returns the cursor after the digits of this base, by the rule `base-digits`. A digit that is too large for the base
+/// must not follow.
 fn digits_in(at: Cursor<'_>, base: Base) -> Option<Cursor<'_>>
     ensures { Reads (rule.digits_in (radix base)) at.entry result }
 {
@@ -107,7 +107,7 @@ fn digits_in(at: Cursor<'_>, base: Base) -> Option<Cursor<'_>>
     }
 }
 
-/// The cursor after the prefix of a base and its digits.
+/// Returns the cursor after the prefix of a base and its digits.
 fn prefixed<'a>(at: Cursor<'a>, prefix: &str, base: Base) -> Option<Cursor<'a>>
     requires ascii { IsTrue (all_ascii prefix.now) }
     ensures { Reads (Then (Exactly prefix.now) (rule.digits_in (radix base))) at.entry result }
@@ -115,7 +115,7 @@ fn prefixed<'a>(at: Cursor<'a>, prefix: &str, base: Base) -> Option<Cursor<'a>>
     digits_in(at.past(prefix)?, base)
 }
 
-/// The cursor after the digits of base 16, 8 or 2 with its prefix, by the rule `based`.
+/// Returns the cursor after a prefix and its digits of base 16, 8 or 2, by the rule `based`.
 fn based(at: Cursor<'_>) -> Option<Cursor<'_>>
     ensures { Reads rule.based at.entry result }
 {
@@ -128,7 +128,7 @@ fn based(at: Cursor<'_>) -> Option<Cursor<'_>>
     }
 }
 
-/// Whether the prefix of a base begins the text.
+/// Whether the text begins with the prefix of a base.
 #[tactic(auto)]
 fn begins_based(text: &str) -> bool
     ensures { result ≡ begins_any base_prefixes (chars text.now) }
@@ -136,7 +136,7 @@ fn begins_based(text: &str) -> bool
     begins(text, "0x") || begins(text, "0o") || begins(text, "0b")
 }
 
-/// The cursor after the number that stands at the cursor, by the rule `number`.
+/// Returns the cursor after the number at the cursor, by the rule `number`.
 #[tactic(auto, using(crate::proofs::NumberFinderLemmas::read_numbers, crate::proofs::RuleSteps::steps))]
 #[inline(never)]
 pub fn number(at: Cursor<'_>) -> Option<Cursor<'_>>

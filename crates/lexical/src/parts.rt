@@ -1,5 +1,5 @@
-//! The steps of the lexer, for crates that say why no piece stands somewhere or go over all pieces. Users don't call
-//! them.
+//! The steps of the lexer, for crates that say why no piece begins somewhere or go over all pieces. They are not meant
+//! for users.
 
 pub use crate::bytes::{Base, Class, one, skip};
 pub use crate::class::{PieceStart, piece_start_of};

@@ -1,7 +1,7 @@
-//! Pieces that a few bytes tell.
+//! Pieces that a few bytes decide.
 //!
-//! Most pieces of a source are of ASCII and end before ASCII, and so are found among the bytes, with no character
-//! decoded. Where the bytes tell nothing, [`piece_at`](crate::piece_at) reads the piece by its characters.
+//! Most pieces of a source are ASCII and are followed by ASCII. They are found among the bytes, and no character is
+//! decoded. If the bytes do not decide, [`piece_at`](crate::piece_at) decodes the characters.
 
 ghost use Rattle.std.specs.Prelude.{◌≡◌, ◌==◌, ◌&&◌, ◌||◌, Bool, IfSome, false, get_or, nat_lt, not};
 ghost use Rattle.std.specs.Str.{chars};
@@ -22,7 +22,7 @@ use crate::words::{count_line, count_name};
 use numbers::{long_number_size, number_size};
 use quoted::{byte_size, byte_string_size, character_size, string_size};
 
-/// The byte at the index, or a space where there is none.
+/// Returns the byte at the index, or a space if the index is past the end.
 #[inline(always)]
 pub fn byte_at(bytes: &[u8], index: usize) -> u8
     ensures { result ≡ get_or bytes.now index 32 }
@@ -34,7 +34,7 @@ pub fn byte_at(bytes: &[u8], index: usize) -> u8
     }
 }
 
-/// Whether a name that the byte follows ends there and begins neither a literal nor a raw identifier.
+/// Whether a name ends before this byte, and neither a literal nor a raw identifier can begin with the two.
 #[inline(always)]
 fn ends_name(byte: u8) -> bool
     ensures { result ≡ (nat_lt byte 128 && not ((byte == double_quote) || bars_quote false byte)) }
@@ -42,7 +42,7 @@ fn ends_name(byte: u8) -> bool
     byte.is_ascii() && byte != b'"' && byte != b'\'' && byte != b'#'
 }
 
-/// How many bytes the plain identifier has that stands at the front.
+/// Returns how many bytes the plain identifier at the start has.
 #[inline(always)]
 fn name_size(text: &str) -> Option<usize>
     ensures { IfSome result (IsAsciiAt UnbarredName text.now) }
@@ -59,7 +59,8 @@ fn name_size(text: &str) -> Option<usize>
     }
 }
 
-/// The same, by one byte after the other: the names of lifetimes are short.
+/// Returns how many bytes the plain identifier at the start has, by single bytes. This is faster for the names of
+/// lifetimes, which are short.
 #[inline(always)]
 fn short_name_size(text: &str) -> Option<usize>
     ensures { IfSome result (IsAsciiAt UnbarredName text.now) }
@@ -76,7 +77,7 @@ fn short_name_size(text: &str) -> Option<usize>
     }
 }
 
-/// How many bytes the rest of the line has, of ASCII with no CR.
+/// Returns how many bytes the rest of the line has, if it is ASCII and has no CR.
 #[inline(always)]
 fn line_size(text: &str) -> Option<usize>
     ensures { IfSome result (IsAsciiAt Line text.now) }
@@ -93,7 +94,7 @@ fn line_size(text: &str) -> Option<usize>
     }
 }
 
-/// The line comment at the front, which is no inner doc comment.
+/// Returns the line comment at the start, if it is no inner doc comment.
 #[inline(always)]
 pub fn line_comment(text: &str) -> Option<Piece<'_>>
     ensures { (first : Bool) → IfSome result (λ piece. IsPieceAt first (chars text.now) piece) }
@@ -119,7 +120,7 @@ pub fn line_comment(text: &str) -> Option<Piece<'_>>
     Some(ascii(doc, doc_size + 3))
 }
 
-/// A piece of so many ASCII characters.
+/// Returns a piece of `size` ASCII characters.
 #[inline(always)]
 fn ascii(kind: PieceKind<'_>, size: usize) -> Piece<'_>
     ensures kind { result.kind ≡ kind.entry }
@@ -133,7 +134,7 @@ fn ascii(kind: PieceKind<'_>, size: usize) -> Piece<'_>
     }
 }
 
-/// How long a literal is: all that its piece says besides its kind.
+/// How long a literal is. With the kind, this makes a piece.
 #[derive(Clone, Copy)]
 pub struct Extent {
     /// How many bytes it has.
@@ -142,7 +143,7 @@ pub struct Extent {
     pub chars: usize,
 }
 
-/// The extent of a literal of so many bytes of ASCII.
+/// Returns the extent of a literal of `size` bytes, all ASCII.
 #[inline(always)]
 fn ascii_extent(size: usize) -> Extent
     ensures bytes { result.bytes ≡ size }
@@ -154,7 +155,7 @@ fn ascii_extent(size: usize) -> Extent
     }
 }
 
-/// The extent of the literal of so many bytes at the front of the text, its characters counted.
+/// Returns the extent of the literal in the first `size` bytes of the text. It counts the characters.
 #[inline(always)]
 fn counted(text: &str, size: usize) -> Extent
     requires { IsAt Literal (chars text.now) size }
@@ -166,7 +167,7 @@ fn counted(text: &str, size: usize) -> Extent
     }
 }
 
-/// The extent of the byte or byte string at the front.
+/// Returns the extent of the byte or byte string at the start.
 #[inline(always)]
 pub fn byte_literal(text: &str) -> Option<Extent>
     ensures { IfSome result (IsLiteralAt (chars text.now)) }
@@ -177,7 +178,7 @@ pub fn byte_literal(text: &str) -> Option<Extent>
     }
 }
 
-/// The piece at the front of the text, where a few bytes tell it. `None` says nothing.
+/// Returns the piece at the start of the text if a few bytes decide it. `None` means that they do not.
 #[inline(always)]
 pub fn quick(text: &str) -> Option<Piece<'_>>
     ensures { (first : Bool) → IfSome result (λ piece. IsPieceAt first (chars text.now) piece) }
@@ -221,8 +222,8 @@ pub fn quick(text: &str) -> Option<Piece<'_>>
     }
 }
 
-/// The extent of the number at the front, be it a float or an integer with a base or a suffix, where a few bytes tell
-/// it. `None` says nothing.
+/// Returns the extent of the number at the start if a few bytes decide it: a float, or an integer with a base or a
+/// suffix. `None` means that they do not.
 #[inline(always)]
 pub fn long_number(text: &str) -> Option<Extent>
     ensures { IfSome result (IsLiteralAt (chars text.now)) }
@@ -230,7 +231,7 @@ pub fn long_number(text: &str) -> Option<Extent>
     Some(ascii_extent(long_number_size(text)?))
 }
 
-/// The lone quote at the front, before a name that bars none. `None` says nothing.
+/// Returns the lone quote at the start if a few bytes decide it. `None` means that they do not.
 #[inline(always)]
 pub fn lone_quote(text: &str) -> Option<Piece<'_>>
     ensures { (first : Bool) → IfSome result (λ piece. IsPieceAt first (chars text.now) piece) }
@@ -246,7 +247,7 @@ pub fn lone_quote(text: &str) -> Option<Piece<'_>>
     Some(ascii(quote, 1))
 }
 
-/// How many bytes the literal has that stands at the front, where a few bytes tell it. `None` says nothing.
+/// Returns how many bytes the literal at the start has, if a few bytes decide it. `None` means that they do not.
 #[inline(never)]
 pub fn quick_literal(text: &str) -> Option<usize>
     ensures { IfSome result (IsAt Literal (chars text.now)) }

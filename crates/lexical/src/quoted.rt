@@ -14,18 +14,19 @@ use crate::identifiers::name;
 use crate::skip::one;
 use memchr::memchr3;
 
-/// What a string is made of.
+/// What a string consists of.
 #[derive(Clone, Copy)]
 pub enum StringKind {
-    /// Characters.
+    /// Characters: a string.
     Plain,
-    /// Bytes: characters past ASCII don't stand for themselves.
+    /// Bytes: a byte string. Its text is ASCII; other bytes need escapes.
     Byte,
-    /// The bytes of a string of C: no zero.
+    /// Bytes other than zero: a C string.
     C,
 }
 
-/// The cursor after the suffix of a literal, by the rule `suffix`.
+/// Returns the cursor after the suffix of a literal, by the rule `suffix`. A literal without a suffix leaves the cursor
+/// where it is.
 pub fn suffix(at: Cursor<'_>) -> Cursor<'_>
     ensures { Passes rule.suffix at.entry result }
 {
@@ -35,7 +36,7 @@ pub fn suffix(at: Cursor<'_>) -> Cursor<'_>
     }
 }
 
-/// Whether the character stands for itself.
+/// Whether a string of the kind may contain the character as it is, without an escape.
 fn stands_for_itself(c: char, kind: StringKind) -> bool
     ensures { result ≡ rule.is_plain kind c }
 {
@@ -45,14 +46,15 @@ fn stands_for_itself(c: char, kind: StringKind) -> bool
     }
 }
 
-/// The cursor after a character that stands for itself.
+/// Returns the cursor after one character that needs no escape.
 fn plain(at: Cursor<'_>, kind: StringKind) -> Option<Cursor<'_>>
     ensures { Reads (One (rule.is_plain kind)) at.entry result }
 {
     one(at, |c| stands_for_itself(c, kind))
 }
 
-/// The cursor after all the characters that stand for themselves, up to a quote, a backslash or a CR.
+/// Returns the cursor after all characters that need no escape, at the first quote, backslash, CR or forbidden
+/// character.
 fn skip_plain(at: Cursor<'_>, kind: StringKind) -> Cursor<'_>
     ensures { Passes (Run (rule.is_plain kind)) at.entry result }
 {
@@ -61,7 +63,7 @@ fn skip_plain(at: Cursor<'_>, kind: StringKind) -> Cursor<'_>
     at.after_bytes(count_allowed(&bytes[..size], kind))
 }
 
-/// The cursor after what may stand after a backslash in a string.
+/// Returns the cursor after what may follow a backslash in a string.
 fn escaped(at: Cursor<'_>, kind: StringKind) -> Option<Cursor<'_>>
     ensures { Reads (rule.escaped kind) at.entry result }
 {
@@ -74,8 +76,7 @@ fn escaped(at: Cursor<'_>, kind: StringKind) -> Option<Cursor<'_>>
     }
 }
 
-/// The cursor after a unit of a string, by the rules `string-unit`, `byte-string-unit` and
-/// `c-string-unit`.
+/// Returns the cursor after a unit of a string, by the rules `string-unit`, `byte-string-unit` and `c-string-unit`.
 fn unit(at: Cursor<'_>, kind: StringKind) -> Option<Cursor<'_>>
     ensures { Reads (rule.unit kind) at.entry result }
 {
@@ -88,8 +89,8 @@ fn unit(at: Cursor<'_>, kind: StringKind) -> Option<Cursor<'_>>
     }
 }
 
-/// The cursor after the string with escapes that stands at the cursor, which the text `front` opens,
-/// by the rules `string`, `byte-string` and `c-string`.
+/// Returns the cursor after the string at the cursor, which `front` opens, by the rules `string`, `byte-string` and
+/// `c-string`.
 pub fn string<'a>(at: Cursor<'a>, front: &str, kind: StringKind) -> Option<Cursor<'a>>
     requires ascii { IsTrue (all_ascii front.now) }
     ensures { Reads (Then (Exactly front.now) (rule.body (rule.unit kind) (codes "\""))) at.entry result }

@@ -1,4 +1,4 @@
-//! Strings without escapes.
+//! Raw strings, which have no escapes.
 #![tactic(auto, using(crate::proofs::RuleSteps::steps))]
 
 ghost use Rattle.std.specs.Prelude.{◌≡◌, ◌∷◌, IsTrue};
@@ -17,11 +17,10 @@ use crate::quoted::{StringKind, suffix};
 use crate::text::{before, begins};
 use memchr::memchr2;
 
-/// How many hash signs a raw string may have at most.
+/// The largest number of hash signs of a raw string.
 const MOST_HASHES: usize = 255;
 
-/// The hash signs that stand at the cursor, 255 at most, and the cursor after them, by the rule
-/// `raw-hashes`.
+/// Returns the hash signs at the cursor, at most 255, and the cursor after them, by the rule `raw-hashes`.
 fn hashes(at: Cursor<'_>) -> Option<(&str, Cursor<'_>)>
     ensures { ReadsText rule.hashes at.entry result }
 {
@@ -33,7 +32,8 @@ fn hashes(at: Cursor<'_>) -> Option<(&str, Cursor<'_>)>
     Some((hashes, end))
 }
 
-/// The cursor after all the characters that may stand in a raw string, up to a quote or a CR.
+/// Returns the cursor after all characters that a raw string may contain, at the first quote, CR or forbidden
+/// character.
 fn skip_plain(at: Cursor<'_>, kind: StringKind) -> Cursor<'_>
     ensures { Passes (Run (rule.is_raw_plain kind)) at.entry result }
 {
@@ -42,7 +42,7 @@ fn skip_plain(at: Cursor<'_>, kind: StringKind) -> Cursor<'_>
     at.after_bytes(count_allowed(&bytes[..size], kind))
 }
 
-/// The cursor after a unit of a raw string with these hash signs, by the rule `raw-unit`.
+/// Returns the cursor after a unit of a raw string with these hash signs, by the rule `raw-unit`.
 #[tactic(auto, unfolding(crate::specs::Rule::find))]
 fn raw_unit<'a>(at: Cursor<'a>, kind: StringKind, hashes: &str) -> Option<Cursor<'a>>
     requires { IsTrue (all_ascii hashes.now) }
@@ -62,8 +62,8 @@ fn raw_unit<'a>(at: Cursor<'a>, kind: StringKind, hashes: &str) -> Option<Cursor
     }
 }
 
-/// The cursor after the raw string that stands at the cursor, which the text `front` opens, by the
-/// rules `raw-string`, `raw-byte-string` and `raw-c-string`.
+/// Returns the cursor after the raw string at the cursor, which `front` opens, by the rules `raw-string`,
+/// `raw-byte-string` and `raw-c-string`.
 pub fn raw_string<'a>(at: Cursor<'a>, front: &str, kind: StringKind) -> Option<Cursor<'a>>
     requires ascii { IsTrue (all_ascii front.now) }
     ensures { Reads (rule.raw front.now (may_stand_raw kind)) at.entry result }

@@ -1,6 +1,6 @@
-//! Searches for the character that ends a stretch of text.
+//! Searches for an ASCII character.
 //!
-//! What is searched for is ASCII, so it is found among the bytes: no byte of another character is below 0x80.
+//! The search looks at bytes. No byte of another character is below 0x80, so it finds only the ASCII character.
 
 ghost use Rattle.std.specs.Prelude.{◌≡◌, ◌<◌, ◌==◌, ◌||◌, not};
 ghost use Rattle.std.specs.Str.{IsUtf8, chars};
@@ -11,7 +11,7 @@ ghost use Rattle.lexical.specs.Step.{Passes};
 use crate::cursor::Cursor;
 use memchr::{memchr, memchr2};
 
-/// The cursor before the first `stop`, an ASCII character, or at the end of the text where none stands.
+/// Returns the cursor at the first `stop`, an ASCII character, or at the end of the text if there is none.
 pub fn skip_to(at: Cursor<'_>, stop: u8) -> Cursor<'_>
     requires { stop < 128 }
     ensures { Passes (Run (λ c. not (c == stop))) at.entry result }
@@ -21,7 +21,8 @@ pub fn skip_to(at: Cursor<'_>, stop: u8) -> Cursor<'_>
     at.after_bytes(size)
 }
 
-/// The text from the first `stop` on, an ASCII character, or its end where none stands. It counts no characters.
+/// Returns the text from the first `stop` on, an ASCII character, or the empty end of the text if there is none. It
+/// counts no characters.
 pub fn from_first(text: &str, stop: u8) -> &str
     requires { stop < 128 }
     ensures rest { chars result.now ≡ while_rest (λ c. not (c == stop)) (chars text.now) }
@@ -32,7 +33,7 @@ pub fn from_first(text: &str, stop: u8) -> &str
     &text[before..]
 }
 
-/// The cursor before the first of the two ASCII characters, or at the end of the text where none stands.
+/// Returns the cursor at the first `a` or `b`, two ASCII characters, or at the end of the text if there is none.
 pub fn skip_to_either(at: Cursor<'_>, a: u8, b: u8) -> Cursor<'_>
     requires ascii_a { a < 128 }
     requires ascii_b { b < 128 }

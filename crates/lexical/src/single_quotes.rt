@@ -1,4 +1,4 @@
-//! Characters and bytes.
+//! Character literals and byte literals.
 #![tactic(auto, using(crate::proofs::RuleSteps::steps))]
 
 ghost use Rattle.std.specs.Prelude.{◌≡◌, IsTrue};
@@ -14,7 +14,7 @@ use crate::escapes::escape;
 use crate::quoted::{StringKind, suffix};
 use crate::skip::one;
 
-/// Whether the character stands for itself between single quotes.
+/// Whether a literal of the kind may have the character between single quotes as it is, without an escape.
 pub fn stands_bare(c: char, kind: StringKind) -> bool
     ensures { result ≡ is_plain kind c }
 {
@@ -24,14 +24,14 @@ pub fn stands_bare(c: char, kind: StringKind) -> bool
     }
 }
 
-/// The cursor after one character that may stand bare.
+/// Returns the cursor after one character that needs no escape.
 fn bare(at: Cursor<'_>, kind: StringKind) -> Option<Cursor<'_>>
     ensures { Reads (One (is_plain kind)) at.entry result }
 {
     one(at, |c| stands_bare(c, kind))
 }
 
-/// The cursor after one character that may stand bare, or a backslash and an escape.
+/// Returns the cursor after one character that needs no escape, or after a backslash and its escape.
 fn unit(at: Cursor<'_>, kind: StringKind) -> Option<Cursor<'_>>
     ensures { Reads (rule.unit (is_plain kind) (escape kind)) at.entry result }
 {
@@ -41,8 +41,8 @@ fn unit(at: Cursor<'_>, kind: StringKind) -> Option<Cursor<'_>>
     }
 }
 
-/// The cursor after the literal between single quotes that stands at the cursor, which the text
-/// `front` opens, by the rules `character` and `byte`.
+/// Returns the cursor after the literal between single quotes at the cursor, which `front` opens, by the rules
+/// `character` and `byte`.
 pub fn single<'a>(at: Cursor<'a>, front: &str, kind: StringKind) -> Option<Cursor<'a>>
     requires ascii { IsTrue (all_ascii front.now) }
     ensures { Reads (rule.single front.now (is_plain kind) (escape kind)) at.entry result }

@@ -1,4 +1,4 @@
-//! One character, by a test of it.
+//! A step over one character that passes a test.
 #![tactic(auto, using(crate::proofs::RuleSteps::steps))]
 
 ghost use Rattle.std.specs.Prelude.{◌≡◌, Bool, ℕ};
@@ -7,7 +7,7 @@ ghost use Rattle.lexical.specs.Step.{Passes, Reads};
 
 use crate::cursor::Cursor;
 
-/// The cursor after the character at the cursor, if it passes.
+/// Returns the cursor after one character if the character passes the test, and otherwise `None`.
 pub fn one<F: Fn(char) -> bool>(at: Cursor<'_>, passes: F) -> Option<Cursor<'_>>
     requires { F.IsAlwaysCallable passes }
     ensures { (test : ℕ → Bool) → ((c : ℕ) (b : Bool) → F.post passes c b → b ≡ test c)

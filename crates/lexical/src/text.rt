@@ -1,4 +1,4 @@
-//! The few steps over the bytes of a text.
+//! Basic functions on texts.
 
 ghost use Rattle.std.specs.Prelude.{
   ◌≡◌,
@@ -23,7 +23,7 @@ ghost use Rattle.lexical.specs.Ascii.{all_ascii};
 ghost use Rattle.lexical.specs.Character.{carriage_return};
 ghost use Rattle.lexical.specs.Text.{begins_with, ends_with, is_first_byte};
 
-/// The first character of a text, and the text after it.
+/// Splits a text after its first character, or returns `None` if it is empty.
 #[tactic(auto, using(std::proofs::lemmas::Str::chars_past_char))]
 #[inline(always)]
 pub fn split_first(text: &str) -> Option<(char, &str)>
@@ -35,10 +35,10 @@ pub fn split_first(text: &str) -> Option<(char, &str)>
     Some((first, characters.as_str()))
 }
 
-/// So many bytes are looked at as one: mostly they are ASCII.
+/// How many bytes `char_count` tests at once. Mostly they are ASCII.
 const BLOCK: usize = 64;
 
-/// How many characters the text has: as many as its bytes that begin one.
+/// Counts the characters of a text, which are its bytes that begin one.
 pub fn char_count(text: &str) -> usize
     ensures { result ≡ length (chars text.now) }
 {
@@ -54,7 +54,7 @@ pub fn char_count(text: &str) -> usize
     count + first_bytes(rest)
 }
 
-/// How many of the bytes of a text begin a character.
+/// Counts the bytes of a text that begin a character.
 fn first_bytes(bytes: &[u8]) -> usize
     ensures count { result ≡ count_by is_first_byte bytes.now }
     ensures within { result ≤ length bytes.now }
@@ -80,7 +80,7 @@ pub fn begins(text: &str, front: &str) -> bool
     text.starts_with(front)
 }
 
-/// Whether the text is the ASCII text `ascii`.
+/// Whether the text equals the ASCII text `ascii`.
 pub fn is_text(text: &str, ascii: &str) -> bool
     requires { IsTrue (all_ascii ascii.now) }
     ensures { result ≡ pointwise nat_eq (chars text.now) ascii.now }
@@ -88,7 +88,7 @@ pub fn is_text(text: &str, ascii: &str) -> bool
     text == ascii
 }
 
-/// What stands before `rest`, an end of the text.
+/// Returns the text before `rest`, which must be a suffix of `text`.
 #[inline(always)]
 pub fn before<'a>(text: &'a str, rest: &str) -> &'a str
     requires { (front : List ℕ) × (chars text.now ≡ front ++ chars rest.now) }
@@ -97,7 +97,7 @@ pub fn before<'a>(text: &'a str, rest: &str) -> &'a str
     &text[..text.len() - rest.len()]
 }
 
-/// What follows the ASCII text `front`, if the text begins with it.
+/// Returns the text after the ASCII text `front`, or `None` if the text does not begin with it.
 #[inline(always)]
 pub fn strip<'a>(text: &'a str, front: &str) -> Option<&'a str>
     requires { IsTrue (all_ascii front.now) }
@@ -108,7 +108,7 @@ pub fn strip<'a>(text: &'a str, front: &str) -> Option<&'a str>
     text.strip_prefix(front)
 }
 
-/// The text without the CR at its end, if one stands there.
+/// Returns the text without the CR at its end, if it ends with one.
 pub fn without_return(text: &str) -> &str
     ensures { chars text.now
         ≡ chars result.now ++ (if ends_with carriage_return (chars text.now) then carriage_return ∷ [] else []) }

@@ -1,4 +1,4 @@
-//! Names of ASCII, by words of 8 bytes.
+//! Counts ASCII bytes of names, strings and lines, 8 bytes at a time.
 
 ghost use Rattle.std.specs.Prelude.{◌≡◌, ◌<◌, ◌≤◌, IfNone, IfSome, IsTrue, length, take};
 ghost use Rattle.std.specs.List.{list_all};
@@ -9,11 +9,12 @@ ghost use Rattle.lexical.specs.declared.bytes.Class.TheVariants.{IdentifierConti
 
 use crate::bytes::{Class, count_ascii};
 
-/// How many of the 8 bytes a name of ASCII goes on with, from the first of them on: `None` says all.
+/// Counts the bytes before the first one that continues no ASCII name. `None` means that all 8 continue one.
 ///
-/// They are looked at in one word, with no branch that a processor could predict wrongly. Without its highest bit, a
-/// byte is of a range if one of two sums sets that bit and the other doesn't: the first does from the range's first
-/// byte on, the second past its last. No name has bytes with that bit.
+/// All 8 bytes are tested in one word, so there is no branch that the processor could mispredict. For each range of
+/// bytes, two constants are added to the bytes without their highest bits. The first sum has the highest bit set from
+/// the range's first byte on, the second only past its last byte. So the two differ in that bit exactly within the
+/// range. No byte of an ASCII name has its highest bit set.
 #[inline(always)]
 fn count_in_word(bytes: &[u8; 8]) -> Option<usize>
     ensures all { IfNone result (8 ≡ length (while_front (ascii_in IdentifierContinue) bytes.now)) }
@@ -33,7 +34,7 @@ fn count_in_word(bytes: &[u8; 8]) -> Option<usize>
     Some((stops.trailing_zeros() / 8) as usize)
 }
 
-/// How many bytes at the front are of ASCII, and such that a name goes on with them.
+/// Counts the bytes before the first one that continues no ASCII name.
 #[inline(always)]
 pub fn count_name(bytes: &[u8]) -> usize
     ensures { result ≡ length (while_front (ascii_in IdentifierContinue) bytes.now) }
@@ -48,9 +49,10 @@ pub fn count_name(bytes: &[u8]) -> usize
     count + count_ascii(&bytes[count..], Class::IdentifierContinue)
 }
 
-/// How many of the 8 bytes come before the first that is past ASCII, a quote, a backslash or a CR: `None` says all.
+/// Counts the bytes before the first one that is past ASCII, a quote, a backslash or a CR. `None` means that all 8 come
+/// before it.
 ///
-/// The sums set the highest bit of each byte but those that are looked for.
+/// A sum sets the highest bit of each byte except those that are looked for.
 #[inline(always)]
 fn count_plain_in_word(bytes: &[u8; 8]) -> Option<usize>
     ensures all { IfNone result (8 ≡ length (while_front is_plain_ascii bytes.now)) }
@@ -69,7 +71,7 @@ fn count_plain_in_word(bytes: &[u8; 8]) -> Option<usize>
     Some((hits.trailing_zeros() / 8) as usize)
 }
 
-/// How many bytes come before the first that is past ASCII, a quote, a backslash or a CR, by one byte after the other.
+/// Counts the bytes before the first one that is past ASCII, a quote, a backslash or a CR, byte by byte.
 #[inline(always)]
 fn count_plain_bytes(bytes: &[u8]) -> usize
     ensures { result ≡ length (while_front is_plain_ascii bytes.now) }
@@ -85,7 +87,7 @@ fn count_plain_bytes(bytes: &[u8]) -> usize
     count
 }
 
-/// The same, by words: so many bytes before the first that is past ASCII, a quote, a backslash or a CR.
+/// Counts the bytes before the first one that is past ASCII, a quote, a backslash or a CR, 8 bytes at a time.
 #[inline(always)]
 pub fn count_plain(bytes: &[u8]) -> usize
     ensures { IsTrue (list_all is_plain_ascii (take result bytes.now)) }
@@ -100,7 +102,7 @@ pub fn count_plain(bytes: &[u8]) -> usize
     size + count_plain_bytes(&bytes[size..])
 }
 
-/// The same, of the first 8 bytes, or of all where they are fewer: it needs fewer registers.
+/// Counts like [`count_plain`], but only in the first 8 bytes. It needs fewer registers.
 #[inline(always)]
 pub fn count_few_plain(bytes: &[u8]) -> usize
     ensures { IsTrue (list_all is_plain_ascii (take result bytes.now)) }
@@ -111,9 +113,9 @@ pub fn count_few_plain(bytes: &[u8]) -> usize
     }
 }
 
-/// How many of the 8 bytes come before the first that is past ASCII, a LF or a CR: `None` says all.
+/// Counts the bytes before the first one that is past ASCII, a LF or a CR. `None` means that all 8 come before it.
 ///
-/// The sums set the highest bit of each byte but those that are looked for.
+/// A sum sets the highest bit of each byte except those that are looked for.
 #[inline(always)]
 fn count_line_in_word(bytes: &[u8; 8]) -> Option<usize>
     ensures all { IfNone result (8 ≡ length (while_front is_line_ascii bytes.now)) }
@@ -131,7 +133,7 @@ fn count_line_in_word(bytes: &[u8; 8]) -> Option<usize>
     Some((ends.trailing_zeros() / 8) as usize)
 }
 
-/// How many bytes come before the first that is past ASCII, a LF or a CR, by one byte after the other.
+/// Counts the bytes before the first one that is past ASCII, a LF or a CR, byte by byte.
 #[inline(always)]
 fn count_line_bytes(bytes: &[u8]) -> usize
     ensures { result ≡ length (while_front is_line_ascii bytes.now) }
@@ -147,7 +149,7 @@ fn count_line_bytes(bytes: &[u8]) -> usize
     count
 }
 
-/// The same, by words: so many bytes before the first that is past ASCII, a LF or a CR.
+/// Counts the bytes before the first one that is past ASCII, a LF or a CR, 8 bytes at a time.
 #[inline(always)]
 pub fn count_line(bytes: &[u8]) -> usize
     ensures within { result ≤ length bytes.now }

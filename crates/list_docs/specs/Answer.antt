@@ -12,26 +12,26 @@ use Rattle.messages.specs.Parsed.{first, line_column_of}
 use Rattle.list_docs.specs.Doc.{doc_of}
 use Rattle.list_docs.specs.Item.{State, Nothing, after, line_of_item}
 
--- a line and a column, as `1:0`, and what follows them
+-- a line and a column, as in `1:0`, and then `more`
 abbrev pub at_line_column : LineColumn → List ℕ → List ℕ
 at_line_column start more = decimal start.line ++ (codes ":" ++ (decimal start.column ++ more))
 
--- the line of a doc comment's literal, if there is one
+-- the line for a doc comment's literal, if there is one
 abbrev pub line_of_literal : List ℕ → Option Text → List ℕ
 line_of_literal text None = []
 line_of_literal text (Some literal) =
     at_line_column (line_column_of text literal.span.lo) (codes " " ++ (encode_utf8_all literal.text ++ codes "\n"))
 
--- the lines of a tree, where this was read before it: that of its doc comment, or that of the item whose name it is
+-- the lines for a tree in this state: for its doc comment, or for the item whose name it is
 abbrev pub lines_of : List ℕ → State → TokenTree → List ℕ
 lines_of text state tree = line_of_literal text (doc_of tree) ++ line_of_item state tree
 
--- the lines of these trees, in order
+-- the lines for the trees, in order
 abbrev pub all_lines : List ℕ → State → List TokenTree → List ℕ
 all_lines text state [] = []
 all_lines text state (tree ∷ trees) = lines_of text state tree ++ all_lines text (after state tree) trees
 
--- what is written between old and new is the lines of the trees of the text, in reading order
+-- the lines for the trees of the text, in reading order, are appended to the output
 abbrev pub Writes : List ℕ → Option (List ℕ) → Option (List ℕ) → Type 0
 Writes text old new =
     (stream : Forest) × ParsesTo first text stream × Appends old new (all_lines text Nothing (in_order stream))

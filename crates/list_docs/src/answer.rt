@@ -1,4 +1,4 @@
-//! What the program writes for a text.
+//! Writes the doc comments of a text.
 ghost use Rattle.std.specs.Prelude.{IfErr, OnOk};
 ghost use Rattle.std.specs.Str.{chars};
 ghost use Rattle.messages.specs.Parsed.{MayFail};
@@ -11,11 +11,12 @@ use proc_macro2::{SourceMap, TokenStream};
 use std::alloc::Global;
 use std::io::Write;
 
-/// Writes a line for each doc comment of the text and each item that has one, those inside groups too, in reading
-/// order.
+/// Writes a line for each doc comment of the text and for each item that has one, inside groups too, in reading order.
 ///
-/// Fails with `Fault`, which has line and column, and `MapFull` before anything is written, and with `Memory` and
-/// `Write`; then a beginning of the lines stands. Of `/// x` the line is `1:0 " x"`, and of `fn add` after it `fn add`.
+/// Returns `Fault`, which has line and column, or `MapFull` before anything is written. Returns `Memory` or `Write`
+/// after a prefix of the lines may have been written.
+///
+/// Example: for `/// x` the line is `1:0 " x"`, and for `fn add` after it the line is `fn add`.
 pub fn print_text<W: Write>(alloc: Global, text: &str, writer: &mut W) -> Result<(), Failure>
     ensures ok { OnOk result (Writes (chars text.now) (W.contents writer.old) (W.contents writer.new)) }
     ensures err { IfErr result (MayFail (chars text.now) (W.contents writer.old) (W.contents writer.new)) }

@@ -1,4 +1,4 @@
-//! The text of a doc comment.
+//! Finds the text of a doc comment.
 ghost use Rattle.std.specs.Prelude.{◌≡◌, [], ◌∷◌, IfSome, option_copied};
 ghost use Rattle.proc_macro2.specs.Leaf.{Name, Mark};
 ghost use Rattle.proc_macro2.specs.Trees.{forest, inside};
@@ -7,9 +7,9 @@ ghost use Rattle.list_docs.specs.Doc.{doc_of};
 
 use proc_macro2::{Literal, TokenTree};
 
-/// The literal of a doc comment, where the tree is its group, and `None` of every other tree.
+/// Returns the literal of a doc comment if the tree is the group of one, and `None` otherwise.
 ///
-/// Of the group in `#[doc = "x"]` it is `"x"`.
+/// Example: for the group in `#[doc = "x"]` it is `"x"`.
 pub fn doc_text(tree: &TokenTree) -> Option<&Literal>
     ensures value { option_copied result ≡ doc_of tree.now }
     ensures trees { IfSome result (λ text. (name : Name) × (mark : Mark)

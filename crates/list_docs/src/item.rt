@@ -1,8 +1,8 @@
-//! The items that doc comments document.
+//! Finds the items that doc comments document.
 //!
-//! An item is a keyword and the name right after it. It is documented where that is the first keyword after a doc
-//! comment that isn't inner, with no `:` and no `!` between them: these end the wait, as after the name of a field or
-//! of a macro.
+//! An item is a keyword and the name right after it. It is documented if its keyword is the first one after a doc
+//! comment that isn't inner. A `:` or `!` between them ends the search, since a field or a macro has one after its
+//! name.
 ghost use Rattle.std.specs.Prelude.{◌≡◌, OnOk};
 ghost use Rattle.std.specs.Io.KnownBytes.{Appends};
 ghost use Rattle.list_docs.specs.Item.{after, after_doc, is_keyword, is_mark, line_of_item, seen};
@@ -12,21 +12,21 @@ use proc_macro2::{Ident, TokenTree};
 use std::io;
 use std::io::Write;
 
-/// What was read of a documented item.
+/// How much of a documented item has been read.
 #[derive(Clone, Copy)]
 pub enum State<'a> {
-    /// Nothing.
+    /// Nothing of an item.
     Nothing,
-    /// The mark `!`. A doc comment after it is an inner one.
+    /// The mark `!`. A doc comment right after it is an inner one.
     Inner,
-    /// Its doc comment.
+    /// The item's doc comment.
     Documented,
-    /// Its keyword too. A name comes next.
+    /// The item's doc comment and its keyword. A name comes next.
     Keyword(&'a Ident),
 }
 
 impl<'a> State<'a> {
-    /// What was read when the tree is read too.
+    /// Returns the state after the tree is read too.
     pub fn after(self, tree: &'a TokenTree) -> State<'a>
         ensures { seen result ≡ after (seen self.entry) tree.now }
     {
@@ -40,8 +40,8 @@ impl<'a> State<'a> {
     }
 }
 
-/// What was read when the tree is read after a doc comment. A keyword is waited for until a `:`, as after a field's
-/// name.
+/// Returns the state after a tree that follows a doc comment. The search for a keyword ends at `:`, which follows the
+/// name of a field.
 fn after_doc(tree: &TokenTree) -> State<'_>
     ensures { seen result ≡ after_doc tree.now }
 {
@@ -62,7 +62,7 @@ fn is_mark(tree: &TokenTree, mark: char) -> bool
     }
 }
 
-/// Whether the name of an item stands right after it.
+/// Whether the identifier is a keyword that the name of an item follows.
 fn is_keyword(name: &Ident) -> bool
     ensures { result ≡ is_keyword name.now }
 {
@@ -74,7 +74,7 @@ fn is_keyword(name: &Ident) -> bool
         || name.eq_str("type")
 }
 
-/// Writes a line for a documented item whose name is the next tree. Of `fn` and `add` the line is `fn add`.
+/// Writes a line for a documented item if the tree is its name. For `fn` and `add` the line is `fn add`.
 pub fn print_item<W: Write>(state: State<'_>, tree: &TokenTree, writer: &mut W) -> io::Result<()>
     ensures { OnOk result (Appends (W.contents writer.old) (W.contents writer.new)
         (line_of_item (seen state.entry) tree.now)) }

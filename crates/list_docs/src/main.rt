@@ -1,10 +1,10 @@
-//! Prints the doc comments of a source text, each by its line and column and the literal of its text, and after
-//! them the keyword and the name of their item.
+//! Prints the doc comments of a source text. Each has its line and column and the literal of its text, and after it the
+//! keyword and the name of the item that it documents.
 //!
-//! `list_docs FILE` reads the file, `list_docs` standard input. Lines count from 1, columns count characters from 0.
-//! The status is 0 where the text was read and all was written, 1 where the text has a fault, and 2 where the words
-//! ask for nothing, a read or a write failed, the input isn't UTF-8 or too long, or memory ran out. A line on
-//! standard error says why, but nothing where nobody reads the output any more.
+//! `list_docs FILE` reads the file, and `list_docs` reads standard input. Lines count from 1, and columns count
+//! characters from 0. The status is 0 if the text was read and everything was written, and 1 if the text has a syntax
+//! error. It is 2 if the command line is wrong, if a read or a write failed, if the input isn't UTF-8 or is too long,
+//! or if memory ran out. Then a line on standard error says why, unless the output has no reader any more.
 #![tactic(auto)]
 
 mod answer;
@@ -29,7 +29,7 @@ fn main(rt: HostRuntime) -> ExitCode {
     }
 }
 
-/// The path that the words after the program's name ask for.
+/// Returns the path of the file that the command line names.
 fn asked(rt: &HostRuntime) -> Result<String, Failure> {
     let words = words(rt.alloc(), env::args(rt), USAGE)?;
     path(rt.alloc(), words.as_slice(), USAGE)

@@ -13,11 +13,11 @@ use Rattle.literal_escaper.specs.Unescaping.{code_answer, count_with, digit_coun
 use Rattle.literal_escaper.specs.Unescaping.{next_number, number_with}
 use Rattle.literal_escaper.specs.Text.{while_front}
 
--- the number with one hex digit more
+-- the number with one more hex digit
 abbrev pub hex_step : ℕ → ℕ → ℕ
 hex_step n c = 16 * n + digit_value c
 
--- ---- the count tells whether there are more than six
+-- ---- the count shows whether there are more than six digits
 
 count_step : (n c : ℕ) (text : List ℕ) → n ≤ 7
     → ((m : ℕ) → m ≤ 7 → fold count_with m text ≡ min 7 (m + length (filter is_hex text)))
@@ -36,7 +36,7 @@ pub count_is : (n : ℕ) (text : List ℕ) → n ≤ 7 → fold count_with n tex
 count_is n [] h = omega arith
 count_is n (c ∷ text) h = count_step n c text h (λ m k. count_is m text k)
 
--- ---- the number tells the character
+-- ---- the number determines the character
 
 grows : (n : ℕ) (digits : List ℕ) → n ≤ fold hex_step n digits
 grows n [] = omega arith
@@ -74,7 +74,7 @@ character_is n (c ∷ text) =
     step true ih = character_step n c (filter is_hex text) text ih
     step false ih = ih n
 
--- ---- what the digits give
+-- ---- the unit of the digits
 
 same_test : (count many : ℕ) → count ≡ min 7 many → nat_lt 6 count ≡ nat_lt 6 many
 same_test count many e = cases (nat_lt 6 many) refl

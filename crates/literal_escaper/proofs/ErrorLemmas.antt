@@ -5,13 +5,13 @@ use Rattle.literal_escaper.specs.declared.errors.EscapeError.{EscapeError}
 use Rattle.literal_escaper.specs.Errors.{errors_among}
 use Rattle.literal_escaper.specs.Items.{Item}
 
--- no items, no errors
+-- if no items are left, no errors are
 pub errors_none : {U : Type 0} (items start : List (Item U)) → errors_among items ≡ errors_among start → items ≡ []
     → errors_among start ≡ []
 unfolding errors_among
 errors_none items start same none = sym same ∙ ap errors_among none
 
--- an item that is an error is the first
+-- if the next item is an error, it is the next error
 pub errors_here : {U : Type 0} (items start rest : List (Item U)) (range : Range ℕ) (unit : Result U EscapeError)
     (e : EscapeError)
     → errors_among items ≡ errors_among start → items ≡ (range, unit) ∷ rest → unit ≡ Err e
@@ -20,7 +20,7 @@ unfolding errors_among
 errors_here items start rest range unit e same first is =
     sym same ∙ (ap errors_among first ∙ ap (λ u. errors_among ((range, u) ∷ rest)) is)
 
--- an item that is none is passed by
+-- if the next item is no error, it is skipped
 pub errors_past : {U : Type 0} (items start rest : List (Item U)) (range : Range ℕ) (unit : Result U EscapeError)
     → errors_among items ≡ errors_among start → items ≡ (range, unit) ∷ rest → ((e : EscapeError) → unit ≡ Err e → ⊥)
     → errors_among rest ≡ errors_among start

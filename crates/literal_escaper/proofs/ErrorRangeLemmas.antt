@@ -1,4 +1,4 @@
--- The errors of a content stand at ranges of whole characters.
+-- The ranges of a content's errors consist of whole characters.
 use Rattle.std.proofs.Common.{◌≡◌, ℕ, ◌==◌, List, [], ◌∷◌, Result, Ok, Err, subst, arith}
 use Rattle.std.specs.Str.{IsUtf8, chars}
 use Rattle.std.specs.declared.ops.Range.{Range}
@@ -52,7 +52,7 @@ single_end kind (c ∷ text) =
     (end_of_end text read.rest (only read.unit read.rest).rest (single_front_end kind c text)
     (only_end read.unit read.rest))
 
--- from the front of the content on
+-- a range from the start of the content consists of whole characters
 read_within : (content rest : List ℕ) → IsUtf8 content → IsEnd (chars content) rest
     → IsRangeIn content (read_range (bytes (chars content)) rest)
 read_within content rest t e =

@@ -1,4 +1,4 @@
--- What follows the front of a text is an end of it.
+-- The text after what one step reads is a suffix of the text.
 use Rattle.std.proofs.Common.{◌≡◌, ℕ, ◌-◌, ◌≤◌, Bool, ◌&&◌, ◌==◌, List, [], ◌∷◌, ◌++◌, length, drop, refl, ap, ◌∙◌}
 use Rattle.std.proofs.Common.{arith, append_assoc, length-append, sym}
 use Rattle.std.specs.Prelude.{filter}
@@ -12,7 +12,7 @@ use Rattle.literal_escaper.specs.Items.{Front, front, line_skip, unit_front}
 use Rattle.literal_escaper.specs.Kind.{Kind}
 use Rattle.literal_escaper.specs.Text.{first_is, while_front, while_rest}
 
--- the text ends with the rest
+-- whether the rest is a suffix of the text
 abbrev pub IsEnd : List ℕ → List ℕ → Type 0
 IsEnd text rest = (before : List ℕ) × (text ≡ before ++ rest)
 
@@ -101,7 +101,7 @@ drop_end (c ∷ text) = end_tail c text
 pub line_end : (line : List ℕ) → IsEnd line (while_rest is_blank line)
 line_end line = while_end is_blank line
 
--- what follows the front of a text that isn't empty is an end of what follows its first character
+-- if the text is not empty, the text after one step is a suffix of the text after its first character
 pub front_end : {U : Type 0} (kind : Kind U) (end c : ℕ) (text : List ℕ) → IsEnd text (front kind end (c ∷ text)).rest
 unfolding front line_skip
 front_end {U = U} kind end c text =
@@ -109,7 +109,7 @@ front_end {U = U} kind end c text =
     (λ e. end_of_end text (drop 1 text) _ (drop_end text) (line_end (drop 1 text)))
     (λ e. unit_end kind c text)
 
--- and has a character less at least
+-- the text after one step is shorter by at least one character
 pub front_shrinks : {U : Type 0} (kind : Kind U) (end : ℕ) (text : List ℕ)
     → length (front kind end text).rest ≤ length text - 1
 unfolding front

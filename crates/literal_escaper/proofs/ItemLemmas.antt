@@ -1,4 +1,4 @@
--- The items of a text are those of its front and those of what follows it.
+-- The items of a text are those of one step and those of the text after it.
 use Rattle.std.proofs.Common.{◌≡◌, ℕ, zero, suc, ◌<◌, ◌≤◌, List, [], ◌∷◌, ◌++◌, Option, Some, None, true, false, length}
 use Rattle.std.proofs.Common.{refl, sym, ap, ap₂, ◌∙◌, arith}
 use Rattle.std.specs.Prelude.{IfNone, is_some}
@@ -12,7 +12,7 @@ use Rattle.literal_escaper.specs.Unescaping.{GivesFront, cooked_left, front_item
 use Rattle.literal_escaper.specs.Kind.{Kind}
 use Rattle.literal_escaper.proofs.FrontLemmas.{front_shrinks}
 
--- nothing is left
+-- the empty text has no items
 pub items_none : {U : Type 0} (kind : Kind U) (end : ℕ) (n : ℕ) → items_within kind end n [] ≡ []
 unfolding items_within front
 items_none kind end zero = refl
@@ -30,7 +30,7 @@ within_same kind end (suc n) (suc m) text h k =
     ap (λ items. (front kind end text).items ++ items)
     (within_same kind end n m (front kind end text).rest (omega arith) (omega arith))
 
--- the items of a text
+-- the items of a text are those of one step and those of the text after it
 pub items_past : {U : Type 0} (kind : Kind U) (end : ℕ) (text : List ℕ)
     → items_from kind end text ≡ (front kind end text).items ++ items_from kind end (front kind end text).rest
 unfolding items_within front
@@ -41,7 +41,7 @@ items_past kind end (c ∷ text) =
     (within_same kind end (length text) (length (front kind end (c ∷ text)).rest)
     (front kind end (c ∷ text)).rest (omega arith) (omega arith))
 
--- what was read at a cursor, and what is left behind it
+-- the items from a cursor on are what was read there and the items from the cursor after it on
 pub items_step : {U : Type 0} (kind : Kind U) (at after : ContentCursor) (item : Option (Item U))
     (warning : Option (Range ℕ))
     → GivesFront (front kind at.end (text_at at)) at item warning after
@@ -50,7 +50,7 @@ items_step kind at after item warning given =
     items_past kind at.end (text_at at)
     ∙ ap₂ (λ xs ys. xs ++ ys) (sym given.0) (ap₂ (λ end text. items_from kind end text) (sym given.2) (sym given.1))
 
--- and it is shorter
+-- the text at the cursor after what was read is shorter
 pub step_shorter : {U : Type 0} (kind : Kind U) (at after : ContentCursor) (item : Option (Item U))
     (warning : Option (Range ℕ))
     → GivesFront (front kind at.end (text_at at)) at item warning after → 0 < length (text_at at)
@@ -64,7 +64,7 @@ none_from : {A : Type 0} (x : Option A) → is_some x ≡ false → x ≡ None
 none_from None e = refl
 none_from (Some x) e = absurd (both_ways true e refl)
 
--- nothing was given
+-- if no item was read, the items from both cursors on are the same
 pub step_none : {U : Type 0} (kind : Kind U) (at after : ContentCursor) (item : Option (Item U))
     (warning : Option (Range ℕ))
     → GivesFront (front kind at.end (text_at at)) at item warning after → is_some item ≡ false
@@ -77,7 +77,7 @@ step_none kind at after item warning given none =
 pub items_end : {U : Type 0} (kind : Kind U) (end : ℕ) (text : List ℕ) → text ≡ [] → items_from kind end text ≡ []
 items_end kind end text e = ap (items_from kind end) e ∙ items_none kind end 0
 
--- a call that read up to the next item gives that, and leaves what follows
+-- a call that reads up to the next item returns it, and leaves the items after it
 pub next_left : {U : Type 0} (kind : Kind U) (old : Cooked) (item : Option (Item U)) (warning : Option (Range ℕ))
     (after : ContentCursor)
     → old.warning ≡ None

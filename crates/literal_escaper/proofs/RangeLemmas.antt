@@ -1,4 +1,4 @@
--- The range of each item has whole characters of the content.
+-- The range of each item consists of whole characters of the content.
 use Rattle.std.proofs.Common.{◌≡◌, ℕ, ◌+◌, true, List, [], ◌∷◌, ◌++◌, length, refl, ap, sym, ◌∙◌, subst, arith}
 use Rattle.std.proofs.Common.{length-append}
 use Rattle.std.specs.Str.{IsCharBoundary, IsUtf8, all_scalars as scalars, chars, encode_utf8_all}
@@ -9,7 +9,7 @@ use Rattle.literal_escaper.specs.Items.{between, byte_offset}
 use Rattle.literal_escaper.specs.Within.{IsRangeIn}
 use Rattle.literal_escaper.proofs.FrontLemmas.{IsEnd, end_of_end}
 
--- the bytes of a content, and an end of its characters
+-- whether the content is valid UTF-8 and the text is a suffix of its characters
 pub record EndsIn (content text : List ℕ) : Type 0 where
   pub utf8 : IsUtf8 content
   pub is_end : IsEnd (chars content) text
@@ -24,7 +24,7 @@ split_scalars (c ∷ p) r h =
 bytes-append : (p r : List ℕ) → bytes (p ++ r) ≡ bytes p + bytes r
 bytes-append p r = ap length (encodes-append p r) ∙ length-append (encode_utf8_all p) (encode_utf8_all r)
 
--- what stands before an end
+-- the byte offset of a suffix is the number of bytes before it
 before_end : (content text : List ℕ) (e : EndsIn content text)
     → byte_offset (bytes (chars content)) text ≡ bytes e.is_end.0
 before_end content text e =
@@ -47,7 +47,7 @@ boundary content text e =
 pub ends_further : (content text rest : List ℕ) → EndsIn content text → IsEnd text rest → EndsIn content rest
 ends_further content text rest e f = record { utf8 = e.utf8; is_end = end_of_end (chars content) text rest e.is_end f }
 
--- from one cursor to a later one
+-- the range from one suffix to a later one consists of whole characters
 pub range_between : (content text rest : List ℕ) → EndsIn content text → IsEnd text rest
     → IsRangeIn content (between (bytes (chars content)) text rest)
 range_between content text rest e f =

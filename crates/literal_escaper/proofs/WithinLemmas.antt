@@ -1,4 +1,4 @@
--- The items of a content stand at ranges of whole characters.
+-- The ranges of a content's items consist of whole characters.
 use Rattle.std.proofs.Common.{◌≡◌, ℕ, zero, suc, ◌&&◌, ◌==◌, List, [], ◌∷◌, ◌++◌, Option, Some, None, Result, Err}
 use Rattle.std.proofs.Common.{length, drop, ap, ap₂, sym, ◌∙◌, subst}
 use Rattle.std.specs.Char.{is_whitespace}
@@ -120,7 +120,7 @@ pub raw_items_are_within : {U : Type 0} (of_char : ℕ → Result U EscapeError)
     → AreWithin content (raw_items of_char (chars content))
 raw_items_are_within of_char content t = within_raw of_char content (chars content) (whole_content content t)
 
--- what is left at the front of a content with escapes
+-- the items that are left at the start of a content with escapes have ranges of whole characters
 pub cooked_within : {U : Type 0} (kind : Kind U) (content : List ℕ) (start : Cooked) → IsUtf8 content
     → text_at start.cursor ≡ chars content → start.cursor.end ≡ bytes (chars content) → start.warning ≡ None
     → AreWithin content (cooked_left kind start)
@@ -131,7 +131,7 @@ cooked_within {U = U} kind content start t text end warning =
     in
     subst (λ (xs : List (Item U)). AreWithin content xs) (sym whole) (items_are_within kind content t)
 
--- what is left at the front of a raw content
+-- the items that are left at the start of a raw content have ranges of whole characters
 pub raw_within : {U : Type 0} (of_char : ℕ → Result U EscapeError) (content : List ℕ) (start : ContentCursor)
     → IsUtf8 content
     → text_at start ≡ chars content → start.end ≡ bytes (chars content)

@@ -65,6 +65,6 @@ letter_u = 117
 abbrev pub letter_x : ℕ
 letter_x = 120
 
--- what is skipped after a line end with a backslash before it: spaces, tabs and line ends
+-- whether the character is a space, a tab, LF or CR. These are skipped after a backslash and a line end
 abbrev pub is_blank : ℕ → Bool
 is_blank c = (c == space) || (c == tab) || (c == line_feed) || (c == carriage_return)

@@ -9,17 +9,19 @@ use Rattle.literal_escaper.specs.declared.classes.TheConstants.{CLASSES}
 use Rattle.literal_escaper.specs.Character.{backslash, carriage_return, double_quote, is_blank, line_feed, quote, tab}
 use Rattle.literal_escaper.specs.Escape.{is_code_character, is_hex, letter}
 
--- what doesn't stand for itself in a string, in a character and in a raw string
+-- whether a string cannot have the character by itself
 abbrev pub is_string_special : ℕ → Bool
 is_string_special c = (c == backslash) || (c == double_quote) || (c == carriage_return)
 
+-- whether a character literal cannot have the character by itself
 abbrev pub is_char_special : ℕ → Bool
 is_char_special c = (c == backslash) || (c == line_feed) || (c == tab) || (c == quote) || (c == carriage_return)
 
+-- whether a raw string cannot have the character
 abbrev pub is_raw_special : ℕ → Bool
 is_raw_special c = c == carriage_return
 
--- whether the character is of the class
+-- whether the character is in the class
 abbrev pub is_in : Class → ℕ → Bool
 is_in Blank = is_blank
 is_in White = is_whitespace
@@ -30,6 +32,6 @@ is_in StringSpecial = is_string_special
 is_in CharSpecial = is_char_special
 is_in RawSpecial = is_raw_special
 
--- whether the byte is of one of the classes
+-- whether the byte is in one of `classes`, a set of bits
 abbrev pub has_class : ℕ → ℕ → Bool
 has_class classes byte = not (nat_eq (bit_and (get_or CLASSES byte 0) classes) 0)

@@ -1,4 +1,4 @@
--- The faults and warnings of a content.
+-- The errors and warnings of a content.
 use Rattle.std.specs.Prelude.{ℕ, List, [], ◌∷◌, Option, Some, None, Result, Ok, Err}
 use Rattle.std.specs.List.{filter_map}
 use Rattle.std.specs.declared.ops.Range.{Range}
@@ -12,16 +12,16 @@ use Rattle.literal_escaper.specs.Single.{single}
 use Rattle.literal_escaper.specs.Text.{bytes}
 use Rattle.literal_escaper.specs.Units.{raw_c_char}
 
--- where a fault or a warning stands, and which it is
+-- the range of an error or a warning, and which one it is
 abbrev pub Error : Type 0
 Error = Range ℕ × EscapeError
 
--- the error of a range, if it has one
+-- the error with its range, or none if the result is a unit
 abbrev pub error_at : {U : Type 0} → Range ℕ → Result U EscapeError → Option Error
 error_at range (Ok unit) = None
 error_at range (Err e) = Some (range, e)
 
--- the error of an item, if it is one
+-- the error of an item, or none if the item has a unit
 abbrev pub error_of : {U : Type 0} → Item U → Option Error
 error_of item = error_at item.0 item.1
 
@@ -29,20 +29,20 @@ error_of item = error_at item.0 item.1
 unfoldable pub errors_among : {U : Type 0} → List (Item U) → List Error
 errors_among items = filter_map error_of items
 
--- from the front of the content to after the last character that was read
+-- the range from the start of the content to after the last character that was read
 abbrev pub read_range : ℕ → List ℕ → Range ℕ
 read_range end rest = record { start = 0; end = byte_offset end rest }
 
--- the error of a content that is one unit
+-- the error of a content that must be one unit, if it has one
 abbrev pub single_error : {U : Type 0} → Kind U → List ℕ → Option Error
 single_error kind text = let read = single kind text in error_at (read_range (bytes text) read.rest) read.unit
 
--- one or none
+-- the list of one error, or the empty list
 abbrev pub at_most_one : Option Error → List Error
 at_most_one None = []
 at_most_one (Some e) = e ∷ []
 
--- `content-errors`: the errors and warnings in a content of this mode
+-- `content-errors`: the errors and warnings in a content of this kind
 abbrev pub errors_in : Mode → List ℕ → List Error
 errors_in Char text = at_most_one (single_error string_kind text)
 errors_in Byte text = at_most_one (single_error byte_kind text)

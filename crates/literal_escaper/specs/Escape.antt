@@ -1,4 +1,4 @@
--- Escapes: what stands after a backslash. The first fault from the left is the escape's.
+-- Escapes: what follows a backslash. If an escape has several errors, the first from the left counts.
 use Rattle.std.specs.Prelude.{ℕ, ◌+◌, ◌*◌, Bool, ◌||◌, ◌==◌, nat_lt, if◌then◌else◌, List, [], ◌∷◌, length, filter}
 use Rattle.std.specs.Prelude.{Option, Some, None, Result, Err}
 use Rattle.std.specs.List.{fold}
@@ -18,16 +18,16 @@ use Rattle.literal_escaper.specs.Character.{underscore}
 use Rattle.literal_escaper.specs.Kind.{Kind, character}
 use Rattle.literal_escaper.specs.Text.{while_front, while_rest}
 
--- a unit or a fault, and what follows the characters that were read for it
+-- a unit or an error, and the text after the characters that were read for it
 pub record Read (U : Type 0) : Type 0 where
   pub unit : Result U EscapeError
   pub rest : List ℕ
 
--- a fault, and what follows the last character that was read
+-- an error, and the text after the last character that was read
 abbrev pub fault : {U : Type 0} → EscapeError → List ℕ → Read U
 fault e rest = record { unit = Err e; rest = rest }
 
--- `item-letter`: the character that a letter stands for
+-- `item-letter`: the character that a letter after a backslash means
 abbrev pub letter : ℕ → Option ℕ
 letter c =
     if c == digit_0 then Some 0
@@ -37,7 +37,7 @@ letter c =
     else if (c == backslash) || (c == quote) || (c == double_quote) then Some c
     else None
 
--- its unit
+-- the unit of the character that a letter means, or an error if it means none
 abbrev pub letter_unit : {U : Type 0} → Kind U → Option ℕ → Result U EscapeError
 letter_unit kind None = Err InvalidEscape
 letter_unit kind (Some c) = kind.of_char c
@@ -46,20 +46,20 @@ letter_unit kind (Some c) = kind.of_char c
 abbrev pub is_hex : ℕ → Bool
 is_hex c = is_digit c 16
 
--- the second digit of two, after one of this value
+-- reads the second of two hex digits, after a first digit of this value
 abbrev pub second_digit : {U : Type 0} → Kind U → ℕ → List ℕ → Read U
 second_digit kind high [] = fault TooShortHexEscape []
 second_digit kind high (low ∷ text) =
     if is_hex low then record { unit = kind.of_hex (16 * high + digit_value low); rest = text }
     else fault InvalidCharInHexEscape text
 
--- `item-hex`: two hex digits
+-- `item-hex`: reads two hex digits
 unfoldable pub hex_escape : {U : Type 0} → Kind U → List ℕ → Read U
 hex_escape kind [] = fault TooShortHexEscape []
 hex_escape kind (high ∷ text) =
     if is_hex high then second_digit kind (digit_value high) text else fault InvalidCharInHexEscape text
 
--- what may stand in the braces after the first digit
+-- whether the character may follow the first digit in braces
 abbrev pub is_code_character : ℕ → Bool
 is_code_character c = is_hex c || (c == underscore)
 
@@ -67,23 +67,23 @@ is_code_character c = is_hex c || (c == underscore)
 abbrev pub hex_number : List ℕ → ℕ
 hex_number digits = fold (λ n c. 16 * n + digit_value c) 0 digits
 
--- what the digits in the braces give
+-- the unit of the digits in braces, or an error
 abbrev pub code_unit : {U : Type 0} → Kind U → List ℕ → Result U EscapeError
 code_unit kind digits =
     if nat_lt 6 (length digits) then Err OverlongUnicodeEscape else kind.of_code (character (hex_number digits))
 
--- the end of the braces after these digits
+-- reads the closing brace after `digits`
 abbrev pub closed : {U : Type 0} → Kind U → List ℕ → List ℕ → Read U
 closed kind digits [] = fault UnclosedUnicodeEscape []
 closed kind digits (c ∷ text) =
     if c == close_brace then record { unit = code_unit kind digits; rest = text }
     else fault InvalidCharInUnicodeEscape text
 
--- the digits of a text, the first of which is a hex digit, and the end of the braces
+-- reads the digits at the start of a text, of which the first is a hex digit, and the closing brace
 unfoldable pub coded : {U : Type 0} → Kind U → List ℕ → Read U
 coded kind text = closed kind (filter is_hex (while_front is_code_character text)) (while_rest is_code_character text)
 
--- the digits after `{`, and the end of the braces
+-- reads the digits after `{` and the closing brace
 abbrev pub braced : {U : Type 0} → Kind U → List ℕ → Read U
 braced kind [] = fault UnclosedUnicodeEscape []
 braced kind (c ∷ text) =
@@ -92,13 +92,13 @@ braced kind (c ∷ text) =
     else if is_hex c then coded kind (c ∷ text)
     else fault InvalidCharInUnicodeEscape text
 
--- `item-code`: a character's code in braces
+-- `item-code`: reads a character's code in braces
 unfoldable pub unicode_escape : {U : Type 0} → Kind U → List ℕ → Read U
 unicode_escape kind [] = fault NoBraceInUnicodeEscape []
 unicode_escape kind (c ∷ text) =
     if c == open_brace then braced kind text else fault NoBraceInUnicodeEscape text
 
--- `item-escape`: what stands after a backslash
+-- `item-escape`: reads an escape after a backslash
 unfoldable pub escape : {U : Type 0} → Kind U → List ℕ → Read U
 escape kind [] = fault LoneSlash []
 escape kind (c ∷ text) =

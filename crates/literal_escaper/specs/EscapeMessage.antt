@@ -1,9 +1,9 @@
--- What the errors say.
+-- The messages of the errors.
 use Rattle.std.specs.Prelude.{ℕ, List, codes}
 use Rattle.literal_escaper.specs.declared.errors.EscapeError.{EscapeError}
 use Rattle.literal_escaper.specs.declared.errors.EscapeError.TheVariants as errors
 
--- what is wrong with the content of a literal
+-- the message of an error
 unfoldable pub escape_message : EscapeError → List ℕ
 escape_message errors.ZeroChars = codes "no character stands between the quotes"
 escape_message errors.MoreThanOneChar = codes "more than one character stands between the quotes"

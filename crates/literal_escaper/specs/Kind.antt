@@ -1,4 +1,4 @@
--- What each kind of string makes of the characters and numbers that stand in it.
+-- How each kind of string reads its characters and escapes.
 use Rattle.std.specs.Prelude.{ℕ, ◌&&◌, nat_le, nat_lt, if◌then◌else◌, Result, Ok, Err}
 use Rattle.std.specs.Char.{is_ascii}
 use Rattle.literal_escaper.specs.declared.errors.EscapeError.{EscapeError}
@@ -10,33 +10,33 @@ use Rattle.literal_escaper.specs.Units.{c_byte, c_char}
 
 -- a kind of string with units of this type
 pub record Kind (U : Type 0) : Type 0 where
-  -- of a character, which stands for itself or is meant by a letter after a backslash
+  -- the unit of a character, which is written as it is or meant by a letter after a backslash
   pub of_char : ℕ → Result U EscapeError
-  -- of the number of two hex digits
+  -- the unit of a number of two hex digits
   pub of_hex : ℕ → Result U EscapeError
-  -- of the character whose code stands in braces, or of what is wrong with the code
+  -- the unit of a character that is written by its code in braces. The code may be an error already
   pub of_code : Result ℕ EscapeError → Result U EscapeError
 
--- the character with this code, or what is wrong with the code
+-- the character with this code, or an error
 abbrev pub character : ℕ → Result ℕ EscapeError
 character code =
     if nat_lt 0x10_FFFF code then Err OutOfRangeUnicodeEscape
     else if nat_le 0xD800 code && nat_lt code 0xE000 then Err LoneSurrogateUnicodeEscape
     else Ok code
 
--- a character of a string: any
+-- the unit of a character of a string, which may be any
 abbrev pub any_char : ℕ → Result ℕ EscapeError
 any_char c = Ok c
 
--- in a string, a number of two digits is an ASCII character's
+-- the unit of a number of two hex digits in a string, which must be ASCII
 abbrev pub ascii_char : ℕ → Result ℕ EscapeError
 ascii_char n = if is_ascii n then Ok n else Err OutOfRangeHexEscape
 
--- a character of a byte string: one of ASCII
+-- the unit of a character of a byte string, which must be ASCII
 abbrev pub ascii_byte : ℕ → Result ℕ EscapeError
 ascii_byte c = if is_ascii c then Ok c else Err NonAsciiCharInByte
 
--- in a C string, no character is NUL
+-- the unit of a code in braces in a C string, which must not be zero
 abbrev pub c_code : Result ℕ EscapeError → Result MixedUnit EscapeError
 c_code (Ok c) = c_char c
 c_code (Err e) = Err e

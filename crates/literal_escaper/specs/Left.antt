@@ -1,4 +1,4 @@
--- The errors that are left of a content.
+-- The errors that are left in a content.
 use Rattle.std.specs.Prelude.{List, Option}
 use Rattle.literal_escaper.specs.declared.cooked.Cooked.{Cooked}
 use Rattle.literal_escaper.specs.declared.mode.Mode.{Mode}
@@ -9,7 +9,7 @@ use Rattle.literal_escaper.specs.Kind.{any_char, ascii_byte, byte_kind, c_kind, 
 use Rattle.literal_escaper.specs.Unescaping.{cooked_left, raw_left}
 use Rattle.literal_escaper.specs.Units.{raw_c_char}
 
--- those of a content of this kind: the one of a single unit, or those from a cursor on
+-- the errors that are left in a content of this kind: that of the single unit, or those from the cursor on
 abbrev pub errors_left : Mode → Option Error → Cooked → List Error
 errors_left Char single content = at_most_one single
 errors_left Byte single content = at_most_one single

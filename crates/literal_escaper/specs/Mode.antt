@@ -4,7 +4,7 @@ use Rattle.literal_escaper.specs.declared.mode.Mode.{Mode}
 use Rattle.literal_escaper.specs.declared.mode.Mode.TheVariants.{Char, Byte, Str, RawStr, ByteStr, RawByteStr, CStr}
 use Rattle.literal_escaper.specs.declared.mode.Mode.TheVariants.{RawCStr}
 
--- whether a literal of this mode stands between double quotes
+-- whether a literal of this kind is between double quotes
 abbrev pub is_double_quoted : Mode → Bool
 is_double_quoted Char = false
 is_double_quoted Byte = false
@@ -15,7 +15,7 @@ is_double_quoted RawByteStr = true
 is_double_quoted CStr = true
 is_double_quoted RawCStr = true
 
--- what stands in a literal of this mode before its first quote or its `r`
+-- the prefix of a literal of this kind, without its `r`
 abbrev pub prefix : Mode → List ℕ
 prefix Char = codes ""
 prefix Byte = codes "b"

@@ -1,4 +1,4 @@
-//! The errors of contents.
+//! Finds the errors in the content of a literal.
 
 ghost use Rattle.std.specs.Prelude.{◌≡◌};
 ghost use Rattle.std.specs.Iterator.{YieldsFirst};
@@ -17,7 +17,7 @@ use crate::single::unescape_single;
 use std::marker::Model;
 use std::ops::Range;
 
-/// The error of a content that is one unit, if it has one.
+/// Returns the error of a content that must be one unit, if it has one.
 fn error_of_single<K: Unescape>(src: &str) -> Option<(Range<usize>, EscapeError)>
     ensures { result ≡ single_error K.kind (chars src.now) }
 {
@@ -28,7 +28,7 @@ fn error_of_single<K: Unescape>(src: &str) -> Option<(Range<usize>, EscapeError)
     }
 }
 
-/// The next error of a content with escapes.
+/// Returns the next error of a content with escapes.
 fn next_error<K: Unescape>(content: &mut Cooked<'_>) -> Option<(Range<usize>, EscapeError)>
     ensures { YieldsFirst (λ c. errors_among (cooked_left K.kind c)) content.old result content.new }
 {
@@ -40,7 +40,7 @@ fn next_error<K: Unescape>(content: &mut Cooked<'_>) -> Option<(Range<usize>, Es
     None
 }
 
-/// The next error of a raw content.
+/// Returns the next error of a raw content.
 fn next_raw_error<K: CheckRaw>(
     cursor: &mut ContentCursor<'_>,
 ) -> Option<(Range<usize>, EscapeError)>
@@ -54,7 +54,7 @@ fn next_raw_error<K: CheckRaw>(
     None
 }
 
-/// The errors of a content that are left.
+/// An iterator over the errors and warnings of a content. [`check_for_errors`] makes one.
 #[derive(Drop)]
 pub struct CheckForErrors<'a> {
     mode: Mode,
@@ -95,7 +95,7 @@ impl Iterator for CheckForErrors<'_> {
 }
 
 impl<'a> CheckForErrors<'a> {
-    /// The errors of the whole content.
+    /// Returns an iterator over the errors of the whole content.
     fn new(src: &'a str, mode: Mode) -> Self
         ensures { result ≡ errors_in mode (chars src.now) }
     {
@@ -112,12 +112,13 @@ impl<'a> CheckForErrors<'a> {
     }
 }
 
-/// The errors and warnings of a content of this kind, each with the range of bytes where it stands,
-/// by the rule `content-errors`. For a character or a byte there is one at most, from the front of the
-/// content to after the last character that was read.
+/// Returns the errors and warnings of a content of this kind in order, by the rule `content-errors`.
 ///
-/// `abc` for a character gives 0..2 `MoreThanOneChar`; `a"` for a string gives 1..2 `EscapeOnlyChar`,
-/// and for a raw string nothing.
+/// Each has its range of bytes in the content. For a character or a byte there is at most one. Its range begins at the
+/// start of the content and ends after the last character that was read.
+///
+/// As a character, `abc` has the error `MoreThanOneChar` at 0..2. As a string, `a"` has the error `EscapeOnlyChar` at
+/// 1..2; as a raw string it has none.
 pub fn check_for_errors(src: &str, mode: Mode) -> CheckForErrors<'_>
     ensures value { result ≡ errors_in mode (chars src.now) }
     ensures within { AreWithin src.now result }

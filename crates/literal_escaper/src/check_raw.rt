@@ -1,4 +1,4 @@
-//! The items of raw contents.
+//! Returns the items of raw contents.
 
 ghost use Rattle.std.specs.Prelude.{◌≡◌};
 ghost use Rattle.std.specs.Str.{chars};
@@ -15,7 +15,7 @@ use crate::raw::next_raw_item;
 use std::marker::Model;
 use std::ops::Range;
 
-/// The items of a raw string's content that are left.
+/// An iterator over the items of a raw string's content. [`check_raw_str`] makes one.
 #[derive(Drop)]
 pub struct CheckRawStr<'a> {
     cursor: ContentCursor<'a>,
@@ -46,10 +46,11 @@ impl Iterator for CheckRawStr<'_> {
     }
 }
 
-/// The items of a raw string's content, one for each character: the range of bytes where it stands,
-/// and the character or what is wrong there, by the rules `raw-items` and `string-kind`.
+/// Returns the items of a raw string's content, one for each character, by the rules `raw-items` and `string-kind`.
 ///
-/// `\n` gives 0..1 `\` and 1..2 `n`; a CR gives 0..1 `BareCarriageReturnInRawString`.
+/// An item has its range of bytes in the content, and the character or the error there.
+///
+/// For `\n` the items are `\` at 0..1 and `n` at 1..2. For a CR the item is `BareCarriageReturnInRawString` at 0..1.
 pub fn check_raw_str(src: &str) -> CheckRawStr<'_>
     ensures value { result ≡ raw_items any_char (chars src.now) }
     ensures within { AreWithin src.now result }
@@ -59,7 +60,7 @@ pub fn check_raw_str(src: &str) -> CheckRawStr<'_>
     }
 }
 
-/// The items of a raw byte string's content that are left.
+/// An iterator over the items of a raw byte string's content. [`check_raw_byte_str`] makes one.
 #[derive(Drop)]
 pub struct CheckRawByteStr<'a> {
     cursor: ContentCursor<'a>,
@@ -90,10 +91,11 @@ impl Iterator for CheckRawByteStr<'_> {
     }
 }
 
-/// The items of a raw byte string's content, as [`check_raw_str`] gives those of a raw string's, with
-/// bytes for units, by the rules `raw-items` and `byte-kind`.
+/// Returns the items of a raw byte string's content, one for each character, by the rules `raw-items` and `byte-kind`.
 ///
-/// `aé` gives 0..1 0x61 and 1..3 `NonAsciiCharInByte`.
+/// An item has its range of bytes in the content, and the byte or the error there.
+///
+/// For `aé` the items are 0x61 at 0..1 and `NonAsciiCharInByte` at 1..3.
 pub fn check_raw_byte_str(src: &str) -> CheckRawByteStr<'_>
     ensures value { result ≡ raw_items ascii_byte (chars src.now) }
     ensures within { AreWithin src.now result }
@@ -103,7 +105,7 @@ pub fn check_raw_byte_str(src: &str) -> CheckRawByteStr<'_>
     }
 }
 
-/// The items of a raw C string's content that are left.
+/// An iterator over the items of a raw C string's content. [`check_raw_c_str`] makes one.
 #[derive(Drop)]
 pub struct CheckRawCStr<'a> {
     cursor: ContentCursor<'a>,
@@ -134,10 +136,11 @@ impl Iterator for CheckRawCStr<'_> {
     }
 }
 
-/// The items of a raw C string's content, as [`check_raw_str`] gives those of a raw string's, with
-/// characters other than NUL for units, by the rules `raw-items` and `c-kind`.
+/// Returns the items of a raw C string's content, one for each character, by the rules `raw-items` and `c-kind`.
 ///
-/// `a` and NUL give 0..1 `a` and 1..2 `NulInCStr`.
+/// An item has its range of bytes in the content, and the character or the error there. No character is NUL.
+///
+/// For `a` and NUL the items are `a` at 0..1 and `NulInCStr` at 1..2.
 pub fn check_raw_c_str(src: &str) -> CheckRawCStr<'_>
     ensures value { result ≡ raw_items raw_c_char (chars src.now) }
     ensures within { AreWithin src.now result }

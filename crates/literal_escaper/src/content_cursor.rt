@@ -1,16 +1,16 @@
-//! A cursor over the contents of a literal.
+//! A cursor into the content of a literal.
 
 ghost use Rattle.std.specs.Prelude.{◌≡◌, ◌∷◌, [], ◌≤◌, IfSome, MatchOption, length};
 ghost use Rattle.std.specs.Str.{IsUtf8, chars};
 
-/// Where reading stands in the contents of a literal.
+/// A position in the content of a literal.
 #[derive(Clone, Copy)]
 pub struct ContentCursor<'a> {
-    /// What follows the cursor.
+    /// The content after the cursor.
     pub rest: &'a str,
     /// How many bytes the whole content has.
     pub end: usize,
-    // The rest is a text, and an end of the content.
+    // The rest is valid UTF-8 and no longer than the content.
     pub ghost text: { ∥ IsUtf8 rest.now ∥₁ },
     pub ghost within: { length rest.now ≤ end },
 }
@@ -19,7 +19,7 @@ impl<'a> ContentCursor<'a> {
     ghost use Rattle.literal_escaper.specs.Items.{byte_offset};
     ghost use Rattle.literal_escaper.specs.Text.{bytes};
 
-    /// The front of a content.
+    /// Returns the cursor at the start of a content.
     pub fn new(content: &'a str) -> Self
         ensures rest { chars result.rest.now ≡ chars content.now }
         ensures end { result.end ≡ bytes (chars content.now) }
@@ -30,14 +30,14 @@ impl<'a> ContentCursor<'a> {
         }
     }
 
-    /// How many bytes of the content stand before the cursor.
+    /// Returns how many bytes of the content come before the cursor.
     pub fn byte_offset(self) -> usize
         ensures { result ≡ byte_offset self.entry.end (chars self.entry.rest.now) }
     {
         self.end - self.rest.len()
     }
 
-    /// The character after the cursor, and the cursor after that character.
+    /// Returns the next character, and the cursor after it.
     #[tactic(auto, using(std::proofs::lemmas::Str::chars_past_char))]
     pub fn advance(self) -> Option<(char, Self)>
         ensures { MatchOption result (chars self.entry.rest.now ≡ []) (λ x.

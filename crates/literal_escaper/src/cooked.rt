@@ -1,4 +1,4 @@
-//! Contents with escapes.
+//! Reads contents with escapes, item by item.
 
 ghost use Rattle.std.specs.Iterator.{YieldsFirst};
 ghost use Rattle.literal_escaper.specs.Unescaping.{cooked_left};
@@ -9,12 +9,12 @@ use crate::front::{Front, Item, next_front};
 use crate::kind::Unescape;
 use std::ops::Range;
 
-/// A content with escapes, from a cursor on.
+/// The rest of a content with escapes.
 #[derive(Drop)]
 pub struct Cooked<'a> {
-    /// Where reading stands.
+    /// The cursor at which the rest begins.
     pub cursor: ContentCursor<'a>,
-    /// Where the warning about a white character stands that comes before what follows the cursor.
+    /// The range of a warning about a white character. If there is one, it is the next item.
     pub warning: Option<Range<usize>>,
 }
 
@@ -24,7 +24,7 @@ impl<'a> Cooked<'a> {
     ghost use Rattle.literal_escaper.specs.Unescaping.{text_at};
     ghost use Rattle.literal_escaper.specs.Text.{bytes};
 
-    /// The whole content.
+    /// Returns the content with the cursor at its start.
     pub fn new(content: &'a str) -> Self
         ensures rest { text_at result.cursor ≡ chars content.now }
         ensures end { result.cursor.end ≡ bytes (chars content.now) }
@@ -37,7 +37,7 @@ impl<'a> Cooked<'a> {
     }
 }
 
-/// The next item of the content.
+/// Returns the next item of the content, and moves past it.
 pub fn next_item<K: Unescape>(content: &mut Cooked<'_>) -> Option<Item<K::Unit>>
     ensures { YieldsFirst (cooked_left K.kind) content.old result content.new }
 {

@@ -1,4 +1,4 @@
-//! What can be wrong with the content of a literal.
+//! The errors in the content of a literal.
 
 ghost use Rattle.std.specs.Prelude.{◌≡◌};
 ghost use Rattle.literal_escaper.specs.EscapeMessage.{escape_message};
@@ -7,33 +7,33 @@ ghost use Rattle.literal_escaper.specs.Warning.{is_fault};
 use std::error::Error;
 use std::fmt;
 
-/// A fault in the content of a literal, or a warning about it.
+/// An error in the content of a literal, or a warning about it.
 #[derive(Debug, Drop, PartialEq, Eq)]
 pub enum EscapeError {
-    /// No character where one was wanted: the content of `''`.
+    /// No character in a literal that needs one: the content of `''`.
     ZeroChars,
-    /// A character after the one that was wanted: `ab` in `'ab'`.
+    /// More than one character in a literal for one: `ab` in `'ab'`.
     MoreThanOneChar,
     /// A backslash with nothing after it: `\` at the end.
     LoneSlash,
     /// A backslash before a character that begins no escape: `\z`, or `\` before a CR.
     InvalidEscape,
-    /// A CR that is read by itself in a content with escapes, also before LF: `a` CR LF. It is no part of
-    /// an escape, nor is it skipped after a backslash and LF.
+    /// A CR in a content with escapes: `a` CR LF. It is an error even before LF, unless it is skipped after a backslash
+    /// and LF.
     BareCarriageReturn,
     /// A CR in a raw content: `a` CR.
     BareCarriageReturnInRawString,
-    /// A character that has to be escaped there: `"` in a string, `'` or a tab in a character.
+    /// A character that must be escaped: `"` in a string, `'` or a tab in a character.
     EscapeOnlyChar,
     /// The text ends before the second digit of a hex escape: `\x1`.
     TooShortHexEscape,
-    /// A character that is no hex digit in a hex escape: `\xz`.
+    /// A character that is no hex digit, in a hex escape: `\xz`.
     InvalidCharInHexEscape,
-    /// A hex escape past ASCII where characters are wanted: `\x80` in a string.
+    /// A hex escape past ASCII in a literal of characters: `\x80` in a string.
     OutOfRangeHexEscape,
-    /// No `{` behind `\u`: `\u41`.
+    /// No `{` after `\u`: `\u41`.
     NoBraceInUnicodeEscape,
-    /// A character in the braces that is no hex digit: `\u{4g}`.
+    /// A character in braces that is neither a hex digit nor `_`: `\u{4g}`.
     InvalidCharInUnicodeEscape,
     /// Braces with nothing inside: `\u{}`.
     EmptyUnicodeEscape,
@@ -47,22 +47,22 @@ pub enum EscapeError {
     LoneSurrogateUnicodeEscape,
     /// A number above 10FFFF: `\u{110000}`.
     OutOfRangeUnicodeEscape,
-    /// An escape of a character where bytes are wanted: `\u{41}` in a byte string.
+    /// An escape `\u{..}` in a literal of bytes: `\u{41}` in a byte string.
     UnicodeEscapeInByte,
-    /// A character past ASCII where bytes are wanted: `é` in a byte string.
+    /// A character past ASCII in a literal of bytes: `é` in a byte string.
     NonAsciiCharInByte,
     /// A zero in a C string: `\0`.
     NulInCStr,
-    /// A warning: after a skipped line end and its blanks stands a white character that isn't
-    /// skipped, such as U+00A0.
+    /// A warning: after a skipped line end and the blanks after it comes a white character that is not skipped, such as
+    /// U+00A0.
     UnskippedWhitespaceWarning,
     /// A warning: more than one line end is skipped, as in `\` LF LF.
     MultipleSkippedLinesWarning,
 }
 
 impl EscapeError {
-    /// Whether it is a fault, and not one of the two warnings, by the rule `fatal`: `true` for
-    /// `LoneSlash`, `false` for `MultipleSkippedLinesWarning`.
+    /// Whether it is an error and not one of the two warnings, by the rule `fatal`: `true` for `LoneSlash`, `false` for
+    /// `MultipleSkippedLinesWarning`.
     pub fn is_fatal(&self) -> bool
         ensures { result ≡ is_fault self.now }
     {
@@ -73,7 +73,7 @@ impl EscapeError {
         }
     }
 
-    /// What is wrong, in a few words, as `Display` writes it: `nothing follows the backslash` for `LoneSlash`.
+    /// Returns the message that `Display` writes: `nothing follows the backslash` for `LoneSlash`.
     #[tactic(auto, unfolding(crate::specs::EscapeMessage::escape_message))]
     pub fn message(&self) -> &'static str
         ensures { result.now ≡ escape_message self.now }

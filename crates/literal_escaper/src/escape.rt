@@ -1,4 +1,4 @@
-//! Escapes: what stands after a backslash.
+//! Reads escapes: what follows a backslash.
 
 ghost use Rattle.std.specs.Prelude.{◌≡◌, ◌<◌, ◌≤◌};
 ghost use Rattle.literal_escaper.specs.Escape.{braced, coded, escape as what_escapes, hex_escape as hex_read};
@@ -13,7 +13,7 @@ use crate::content_cursor::ContentCursor;
 use crate::errors::EscapeError;
 use crate::kind::{Unescape, character_of};
 
-/// The character that a letter after a backslash stands for, by the rule `item-letter`.
+/// Returns the character that a letter after a backslash means, by the rule `item-letter`.
 fn simple_escape(c: char) -> Option<char>
     ensures { result ≡ letter c }
 {
@@ -29,7 +29,7 @@ fn simple_escape(c: char) -> Option<char>
     }
 }
 
-/// The unit of a letter after a backslash.
+/// Returns the unit of a letter after a backslash, or an error.
 fn letter_escape<K: Unescape>(c: char) -> Result<K::Unit, EscapeError>
     ensures { result ≡ letter_unit K.kind (letter c) }
 {
@@ -40,7 +40,7 @@ fn letter_escape<K: Unescape>(c: char) -> Result<K::Unit, EscapeError>
     }
 }
 
-/// The unit of two hex digits, the first of which was read.
+/// Returns the unit of two hex digits, of which the first was read, or an error.
 fn low_digit<K: Unescape>(
     high: u32,
     at: ContentCursor<'_>,
@@ -57,7 +57,7 @@ fn low_digit<K: Unescape>(
     (K::of_hex((16 * high + low) as u8), after)
 }
 
-/// The unit of two hex digits, by the rule `item-hex`.
+/// Returns the unit of two hex digits, by the rule `item-hex`, or an error.
 #[tactic(auto, unfolding(crate::specs::Escape::hex_escape))]
 fn hex_escape<K: Unescape>(
     at: ContentCursor<'_>,
@@ -73,21 +73,21 @@ fn hex_escape<K: Unescape>(
     low_digit::<K>(high, after)
 }
 
-/// The largest number that is kept of digits in braces: one digit after the last character's.
+/// The largest number that is kept for the digits in braces: that of the last character with one more digit.
 const LARGEST_CODE: u32 = 0x10F_FFFF;
 
-/// What the digits in braces write.
+/// The number that the digits in braces write.
 #[derive(Clone, Copy)]
 struct Code<'a> {
-    /// How many there are, up to seven.
+    /// How many digits there are. Seven means seven or more.
     count: u32,
-    /// Their number, as long as it may be a character's.
+    /// Their number. Once it is above 10FFFF, further digits leave it unchanged.
     number: u32,
-    /// The cursor after them and the underscores among them.
+    /// The cursor after the digits and the underscores among them.
     after: ContentCursor<'a>,
 }
 
-/// One digit more, up to seven.
+/// Returns the count with one more digit, but at most seven.
 fn one_more(count: u32) -> u32
     requires { count ≤ 7 }
     ensures value { result ≡ next_count count }
@@ -96,7 +96,7 @@ fn one_more(count: u32) -> u32
     if count < 7 { count + 1 } else { count }
 }
 
-/// The number with this digit after it, up to one that is no character's.
+/// Returns the number with the digit after it. A number above 10FFFF stays as it is.
 fn extended(number: u32, digit: u32) -> u32
     requires number { number ≤ LARGEST_CODE }
     requires digit { digit < 16 }
@@ -110,7 +110,7 @@ fn extended(number: u32, digit: u32) -> u32
     }
 }
 
-/// The digits from the cursor on, and the underscores among them.
+/// Reads the digits at the cursor and the underscores among them.
 fn digits(at: ContentCursor<'_>) -> Code<'_>
     ensures count { result.count ≡ digit_count (text_at at.entry) }
     ensures number { result.number ≡ digit_number (text_at at.entry) }
@@ -137,7 +137,7 @@ fn digits(at: ContentCursor<'_>) -> Code<'_>
     }
 }
 
-/// What the digits in braces give.
+/// Returns the unit of this many digits with this number, or an error.
 fn code_escape<K: Unescape>(count: u32, number: u32) -> Result<K::Unit, EscapeError>
     ensures { result ≡ code_answer K.kind count number }
 {
@@ -147,7 +147,7 @@ fn code_escape<K: Unescape>(count: u32, number: u32) -> Result<K::Unit, EscapeEr
     K::of_code(character_of(number))
 }
 
-/// The digits from the cursor on and the end of the braces.
+/// Reads the digits at the cursor and the closing brace after them.
 #[tactic(auto, using(crate::proofs::CodeLemmas::code_unit_is), unfolding(crate::specs::Escape::coded))]
 fn rest_of_code<K: Unescape>(
     at: ContentCursor<'_>,
@@ -162,7 +162,7 @@ fn rest_of_code<K: Unescape>(
     }
 }
 
-/// The unit of a character's code, after the opening brace.
+/// Returns the unit of a character's code and its closing brace, or an error. The opening brace was read.
 fn braced_escape<K: Unescape>(
     at: ContentCursor<'_>,
 ) -> (Result<K::Unit, EscapeError>, ContentCursor<'_>)
@@ -183,7 +183,7 @@ fn braced_escape<K: Unescape>(
     rest_of_code::<K>(at)
 }
 
-/// The unit of a character's code in braces, by the rule `item-code`.
+/// Returns the unit of a character's code in braces, by the rule `item-code`, or an error.
 #[tactic(auto, unfolding(crate::specs::Escape::unicode_escape))]
 fn unicode_escape<K: Unescape>(
     at: ContentCursor<'_>,
@@ -197,7 +197,7 @@ fn unicode_escape<K: Unescape>(
     }
 }
 
-/// The unit of what stands after a backslash, by the rule `item-escape`.
+/// Returns the unit of the escape after a backslash, by the rule `item-escape`, or an error.
 #[tactic(auto, unfolding(crate::specs::Escape::escape))]
 pub fn escape<K: Unescape>(
     at: ContentCursor<'_>,

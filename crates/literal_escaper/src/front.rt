@@ -1,4 +1,4 @@
-//! The front of a content with escapes.
+//! Reads the items at the start of a content with escapes.
 
 ghost use Rattle.std.specs.Prelude.{◌≡◌, ◌<◌, [], ◌∷◌, ◌++◌, IfNone, IfSome, IsFalse, MatchOption, length};
 ghost use Rattle.literal_escaper.specs.Character.{is_blank as blank, line_feed as line_end};
@@ -13,28 +13,28 @@ use crate::escape::escape;
 use crate::kind::Unescape;
 use std::ops::Range;
 
-/// An item: the bytes where it stands, and a unit or what is wrong.
+/// An item: its range of bytes in the content, and a unit or an error.
 pub type Item<U> = (Range<usize>, Result<U, EscapeError>);
 
-/// What the front of a content gives.
+/// What one step at the start of a content reads.
 #[derive(Drop)]
 pub struct Front<'a, U: Copy> {
     /// The first item, if there is one.
     pub item: Option<Item<U>>,
-    /// Where the warning about a white character stands that comes after that item.
+    /// The range of the warning about a white character that comes after that item.
     pub warning: Option<Range<usize>>,
-    /// The cursor after the characters that were read for it.
+    /// The cursor after the characters that were read.
     pub after: ContentCursor<'a>,
 }
 
-/// Whether the character is skipped after a line end with a backslash before it.
+/// Whether the character is skipped after a backslash and a line end.
 fn is_blank(c: char) -> bool
     ensures { result ≡ blank c }
 {
     holds(Class::Blank, c)
 }
 
-/// The cursor after the blanks, and whether a line end is among them.
+/// Returns whether a line end is among the blanks at the cursor, and the cursor after them.
 fn skip_blanks(at: ContentCursor<'_>) -> (bool, ContentCursor<'_>)
     ensures lines { result.0 ≡ skips_line (text_at at.entry) }
     ensures rest { text_at result.1 ≡ while_rest blank (text_at at.entry) }
@@ -52,7 +52,7 @@ fn skip_blanks(at: ContentCursor<'_>) -> (bool, ContentCursor<'_>)
     (lines, after)
 }
 
-/// From the cursor to after the white character that stands at the other.
+/// Returns the range from `start` to after the character at `after`, if that character is white.
 fn unskipped_white(start: ContentCursor<'_>, after: ContentCursor<'_>) -> Option<Range<usize>>
     requires { start.end ≡ after.end }
     ensures { result ≡ white_range start.entry.end (text_at start.entry) (text_at after.entry) }
@@ -65,8 +65,8 @@ fn unskipped_white(start: ContentCursor<'_>, after: ContentCursor<'_>) -> Option
     }
 }
 
-/// The warnings about a backslash and LF at the cursor, after which the line begins: no unit stands
-/// for them and the blanks that follow.
+/// Reads a backslash and LF at the cursor `at`, with the blanks after them. They have no unit, but may have warnings.
+/// `line` is the cursor after the LF.
 #[tactic(auto, unfolding(crate::specs::Items::line_skip))]
 fn skip_line<'a, U: Copy>(at: ContentCursor<'a>, line: ContentCursor<'a>) -> Front<'a, U>
     requires { at.end ≡ line.end }
@@ -92,7 +92,7 @@ fn skip_line<'a, U: Copy>(at: ContentCursor<'a>, line: ContentCursor<'a>) -> Fro
     }
 }
 
-/// The unit of a character and what follows it.
+/// Returns the unit of a character or of the escape that it begins, or an error, and the cursor after it.
 fn read_unit<K: Unescape>(
     c: char,
     after: ContentCursor<'_>,
@@ -109,7 +109,7 @@ fn read_unit<K: Unescape>(
     }
 }
 
-/// The cursor after an LF.
+/// Returns the cursor after an LF.
 fn line_feed(at: ContentCursor<'_>) -> Option<ContentCursor<'_>>
     ensures { MatchOption result (IsFalse (first_is line_end (text_at at.entry)))
         (λ line. (text_at at.entry ≡ line_end ∷ text_at line) × (line.end ≡ at.entry.end)) }
@@ -120,7 +120,8 @@ fn line_feed(at: ContentCursor<'_>) -> Option<ContentCursor<'_>>
     }
 }
 
-/// What stands at the front of the content from the cursor on, unless nothing is left of it.
+/// Reads one step at the cursor: a skipped line end, an escape, or one character. Returns `None` at the end of the
+/// content.
 #[tactic(auto, unfolding(crate::specs::Items::front))]
 pub fn read_front<K: Unescape>(at: ContentCursor<'_>) -> Option<Front<'_, K::Unit>>
     ensures value { MatchOption result (text_at at.entry ≡ []) (λ x.
@@ -141,7 +142,7 @@ pub fn read_front<K: Unescape>(at: ContentCursor<'_>) -> Option<Front<'_, K::Uni
     })
 }
 
-/// The first front from the cursor on that gives an item, or else the end of the content.
+/// Reads from the cursor on until an item is found, or until the end of the content.
 pub fn next_front<K: Unescape>(at: ContentCursor<'_>) -> Front<'_, K::Unit>
     ensures left { items_from K.kind at.entry.end (text_at at.entry)
         ≡ front_items result.item result.warning ++ items_from K.kind result.after.end (text_at result.after) }

@@ -1,4 +1,4 @@
-//! What each kind of string makes of the characters and numbers that stand in it.
+//! How each kind of string reads its characters and escapes.
 
 ghost use Rattle.std.specs.Prelude.{◌≡◌, ◌<◌, ℕ, Result, Ok, Err, refl};
 ghost use Rattle.literal_escaper.specs.declared.errors.EscapeError.TheVariants.{NulInCStr};
@@ -12,57 +12,57 @@ use crate::num::NonZeroChar;
 
 /// A kind of raw content.
 pub trait CheckRaw {
-    /// What such a content is made of.
+    /// The type of its units.
     type Unit: Copy;
 
     // The unit of a character.
     ghost unit_of: { ℕ → Result Self.Unit TheError };
 
-    /// The unit of a character.
+    /// Returns the unit of a character, or an error.
     fn of_char(c: char) -> Result<Self::Unit, EscapeError>
         ensures { result ≡ unit_of c };
 }
 
 /// A kind of content with escapes.
 pub trait Unescape {
-    /// What such a content is made of.
+    /// The type of its units.
     type Unit: Copy;
 
-    // What the kind makes of what stands in a content.
+    // How the kind reads characters and escapes.
     ghost kind: { Kind Self.Unit };
 
     // The unit of NUL.
     ghost NUL: { Result Self.Unit TheError };
 
-    /// The unit of NUL, which `\0` gives.
+    /// The unit of NUL, which `\0` gives, or an error.
     const NUL: Result<Self::Unit, EscapeError>;
 
-    // It is what the kind makes of the character.
+    // NUL is read as any other character.
     ghost nul_is: { NUL ≡ kind.of_char 0 };
 
-    /// The unit of a character.
+    /// Returns the unit of a character, or an error.
     fn of_char(c: char) -> Result<Self::Unit, EscapeError>
         ensures { result ≡ kind.of_char c };
 
-    /// The unit of the number of two hex digits.
+    /// Returns the unit of a number of two hex digits, or an error.
     fn of_hex(byte: u8) -> Result<Self::Unit, EscapeError>
         ensures { result ≡ kind.of_hex byte };
 
-    /// The unit of the character whose code stands in braces, or of what is wrong with the code.
+    /// Returns the unit of the character whose code is in braces, or an error. `code` may be an error already.
     fn of_code(code: Result<char, EscapeError>) -> Result<Self::Unit, EscapeError>
         ensures { result ≡ kind.of_code code };
 }
 
-/// Strings and characters.
+/// Strings and character literals.
 pub struct Str;
 
-/// Byte strings and bytes.
+/// Byte strings and byte literals.
 pub struct Bytes;
 
 /// C strings.
 pub struct CStr;
 
-/// The byte of an ASCII character.
+/// Returns the byte of an ASCII character, or an error.
 fn byte_of(c: char) -> Result<u8, EscapeError>
     ensures { result ≡ ascii_byte c }
 {
@@ -180,7 +180,7 @@ impl Unescape for CStr {
     }
 }
 
-/// The character of this code.
+/// Returns the character that has this code, or an error.
 pub fn character_of(code: u32) -> Result<char, EscapeError>
     ensures { result ≡ character code }
 {

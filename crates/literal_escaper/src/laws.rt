@@ -1,4 +1,4 @@
-//! What is proved of errors, modes and units. The functions compute nothing: their contracts are the laws.
+//! Laws about errors, modes and units. The functions compute nothing: their contracts are the laws.
 ghost use Rattle.std.specs.Prelude.{◌≡◌, ◌↔◌, IsTrue};
 
 use crate::errors::EscapeError;
@@ -6,10 +6,10 @@ use crate::mixed_unit::MixedUnit;
 use crate::mode::Mode;
 use crate::num::{NonZeroChar, NonZeroU8};
 
-/// Two errors, two modes, two units of C strings, and two characters or bytes that are not 0, are equal
-/// exactly if they are the same: of one kind, with the same character or byte.
+/// Two errors, two modes or two units are equal exactly if they are of one kind and have the same character or byte.
+/// The units are those of C strings, and characters and bytes that are not 0.
 ///
-/// The unit of the character `a` equals no other unit, that of the byte 0xE9 not the one of `é`.
+/// The unit of the character `a` equals no other unit. The unit of the byte 0xE9 does not equal that of `é`.
 pub fn equal_errors_modes_and_units()
     ensures errors { (a b : EscapeError) → IsTrue (⟦<EscapeError as PartialEq>⟧.eq a b) ↔ (a ≡ b) }
     ensures modes { (a b : Mode) → IsTrue (⟦<Mode as PartialEq>⟧.eq a b) ↔ (a ≡ b) }

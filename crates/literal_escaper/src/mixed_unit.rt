@@ -6,13 +6,13 @@ use crate::num::{NonZeroChar, NonZeroU8};
 /// A unit of a C string: a character, or a byte past ASCII.
 #[derive(Clone, Copy, Debug, PartialEq, Eq)]
 pub enum MixedUnit {
-    /// A character, which stands for its bytes in UTF-8: `é`, `\u{E9}`, and `\x01` to `\x7F`.
+    /// A character, which is written as its bytes in UTF-8: `é`, `\u{E9}`, and `\x01` to `\x7F`.
     Char(NonZeroChar),
     /// A byte past ASCII: `\x80`.
     HighByte(NonZeroU8),
 }
 
-/// The character itself.
+/// Makes a unit of the character.
 impl From<NonZeroChar> for MixedUnit {
     ghost use Rattle.std.specs.Prelude.{◌≡◌};
     ghost use Rattle.literal_escaper.specs.declared.mixed_unit.MixedUnit.TheVariants.{Char};
@@ -24,7 +24,7 @@ impl From<NonZeroChar> for MixedUnit {
     }
 }
 
-/// The character of the byte up to 0x7F, and else the byte.
+/// Makes the character of a byte up to 0x7F, and of other bytes the byte itself.
 impl From<NonZeroU8> for MixedUnit {
     ghost use Rattle.std.specs.Prelude.{◌≡◌};
     ghost use Rattle.literal_escaper.specs.Units.{byte_unit};
@@ -42,7 +42,7 @@ impl From<NonZeroU8> for MixedUnit {
     }
 }
 
-/// The character, unless it is NUL, which is `NulInCStr`.
+/// Makes a unit of the character. NUL is the error `NulInCStr`.
 impl TryFrom<char> for MixedUnit {
     ghost use Rattle.std.specs.Prelude.{◌≡◌};
     ghost use Rattle.literal_escaper.specs.Units.{c_char};
@@ -59,7 +59,7 @@ impl TryFrom<char> for MixedUnit {
     }
 }
 
-/// The character of the byte up to 0x7F, and else the byte, but for zero, which is `NulInCStr`.
+/// Makes the character of a byte up to 0x7F, and of other bytes the byte itself. Zero is the error `NulInCStr`.
 impl TryFrom<u8> for MixedUnit {
     ghost use Rattle.std.specs.Prelude.{◌≡◌};
     ghost use Rattle.literal_escaper.specs.Units.{c_byte};

@@ -25,16 +25,15 @@ pub enum Mode {
 }
 
 impl Mode {
-    /// Whether such a literal stands between double quotes: `false` for a character and a byte, and
-    /// `true` for the rest.
+    /// Whether a literal of this kind is between double quotes: `false` for a character and a byte, and `true` for the
+    /// rest.
     pub fn in_double_quotes(self) -> bool
         ensures { result ≡ is_double_quoted self }
     {
         !matches!(self, Mode::Char | Mode::Byte)
     }
 
-    /// What stands before the literal's first quote or its `r`: `b`, `c` or nothing. `c` for a C
-    /// string, also a raw one.
+    /// Returns the literal's prefix without its `r`: `b`, `c` or the empty text. For a raw C string it is `c`.
     pub fn prefix_noraw(self) -> &'static str
         ensures { result.now ≡ prefix self }
     {

@@ -1,4 +1,4 @@
-//! Values other than zero.
+//! Characters and bytes other than zero.
 
 use std::marker::Model;
 
@@ -21,7 +21,7 @@ impl Model for NonZeroChar {
 impl NonZeroChar {
     ghost use Rattle.std.specs.Prelude.{◌≡◌, ◌<◌, MatchOption};
 
-    /// The character, unless it is NUL: `a` for `a`, and `None` for U+0000.
+    /// Returns the character, or `None` if it is NUL: `a` for `a`, and `None` for U+0000.
     pub fn new(c: char) -> Option<NonZeroChar>
         ensures { MatchOption result (c ≡ 0) (λ other. (other ≡ c) × (0 < c)) }
     {
@@ -31,7 +31,7 @@ impl NonZeroChar {
         }
     }
 
-    /// The character itself.
+    /// Returns the character as a `char`, which is never NUL.
     pub fn get(self) -> char
         ensures value { result ≡ self }
         ensures within { 0 < result }
@@ -60,14 +60,14 @@ impl Model for NonZeroU8 {
 impl NonZeroU8 {
     ghost use Rattle.std.specs.Prelude.{◌≡◌, ◌<◌, MatchOption};
 
-    /// The byte, unless it is zero: 1 for 1, and `None` for 0.
+    /// Returns the byte, or `None` if it is zero: 1 for 1, and `None` for 0.
     pub fn new(n: u8) -> Option<NonZeroU8>
         ensures { MatchOption result (n ≡ 0) (λ b. (b ≡ n) × (0 < n)) }
     {
         if n == 0 { None } else { Some(NonZeroU8(n)) }
     }
 
-    /// The byte itself.
+    /// Returns the byte as a `u8`, which is never zero.
     pub fn get(self) -> u8
         ensures value { result ≡ self }
         ensures within { 0 < result }

@@ -1,4 +1,4 @@
-//! Raw contents.
+//! Reads raw contents, item by item.
 
 ghost use Rattle.std.specs.Prelude.{◌≡◌};
 ghost use Rattle.std.specs.Iterator.{YieldsFirst};
@@ -11,7 +11,7 @@ use crate::errors::EscapeError;
 use crate::front::Item;
 use crate::kind::CheckRaw;
 
-/// The unit of a character of a raw content.
+/// Returns the unit of a character of a raw content, or an error.
 fn unit<K: CheckRaw>(c: char) -> Result<K::Unit, EscapeError>
     ensures { result ≡ raw_unit K.unit_of c }
 {
@@ -22,7 +22,7 @@ fn unit<K: CheckRaw>(c: char) -> Result<K::Unit, EscapeError>
     }
 }
 
-/// The next item of a raw content, and the cursor after it.
+/// Returns the next item of a raw content, and moves the cursor past it.
 #[tactic(auto, unfolding(crate::specs::Items::raw_items_from))]
 pub fn next_raw_item<K: CheckRaw>(cursor: &mut ContentCursor<'_>) -> Option<Item<K::Unit>>
     ensures { YieldsFirst (raw_left K.unit_of) cursor.old result cursor.new }

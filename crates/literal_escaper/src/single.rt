@@ -1,4 +1,4 @@
-//! Contents that are one unit.
+//! Reads contents that must be one unit.
 
 ghost use Rattle.literal_escaper.specs.Unescaping.{Gives, text_at};
 ghost use Rattle.literal_escaper.specs.Single.{single, single_front};
@@ -9,7 +9,7 @@ use crate::errors::EscapeError;
 use crate::escape::escape;
 use crate::kind::Unescape;
 
-/// The unit of a character and what follows it.
+/// Returns the unit of a character or of the escape that it begins, or an error, and the cursor after it.
 fn first_unit<K: Unescape>(
     c: char,
     after: ContentCursor<'_>,
@@ -26,7 +26,7 @@ fn first_unit<K: Unescape>(
     }
 }
 
-/// The one unit of the content, by the rule `single-item`, and the cursor after what was read.
+/// Returns the one unit of the content, by the rule `single-item`, or an error, and the cursor after what was read.
 #[tactic(auto, unfolding(crate::specs::Single::single))]
 pub fn unescape_single<K: Unescape>(
     at: ContentCursor<'_>,

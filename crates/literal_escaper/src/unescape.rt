@@ -1,4 +1,4 @@
-//! The items of contents with escapes.
+//! Returns the items of contents with escapes.
 
 ghost use Rattle.std.specs.Prelude.{◌≡◌};
 ghost use Rattle.std.specs.Str.{chars};
@@ -16,7 +16,7 @@ use crate::single::unescape_single;
 use std::marker::Model;
 use std::ops::Range;
 
-/// The items of a string's content that are left.
+/// An iterator over the items of a string's content. [`unescape_str`] makes one.
 #[derive(Drop)]
 pub struct UnescapeStr<'a> {
     content: Cooked<'a>,
@@ -47,11 +47,12 @@ impl Iterator for UnescapeStr<'_> {
     }
 }
 
-/// The items of a string's content, which is what stands between the quotes: for each the range of
-/// bytes where it stands, and the character that it gives or what is wrong there, by the rules
-/// `items` and `string-kind`.
+/// Returns the items of a string's content, by the rules `items` and `string-kind`.
 ///
-/// `\x41b` gives 0..4 `A` and 4..5 `b`; `\x80` gives 0..4 `OutOfRangeHexEscape`.
+/// The content is the text between the quotes. An item has its range of bytes in the content, and its character or the
+/// error there.
+///
+/// For `\x41b` the items are `A` at 0..4 and `b` at 4..5. For `\x80` the item is `OutOfRangeHexEscape` at 0..4.
 pub fn unescape_str(src: &str) -> UnescapeStr<'_>
     ensures value { result ≡ items string_kind (chars src.now) }
     ensures within { AreWithin src.now result }
@@ -61,7 +62,7 @@ pub fn unescape_str(src: &str) -> UnescapeStr<'_>
     }
 }
 
-/// The items of a byte string's content that are left.
+/// An iterator over the items of a byte string's content. [`unescape_byte_str`] makes one.
 #[derive(Drop)]
 pub struct UnescapeByteStr<'a> {
     content: Cooked<'a>,
@@ -92,10 +93,11 @@ impl Iterator for UnescapeByteStr<'_> {
     }
 }
 
-/// The items of a byte string's content, as [`unescape_str`] gives those of a string's, with bytes
-/// for units, by the rules `items` and `byte-kind`.
+/// Returns the items of a byte string's content, by the rules `items` and `byte-kind`.
 ///
-/// `\xFF` gives 0..4 0xFF; `\u{41}` gives 0..6 `UnicodeEscapeInByte`.
+/// An item has its range of bytes in the content, and its byte or the error there.
+///
+/// For `\xFF` the item is 0xFF at 0..4. For `\u{41}` the item is `UnicodeEscapeInByte` at 0..6.
 pub fn unescape_byte_str(src: &str) -> UnescapeByteStr<'_>
     ensures value { result ≡ items byte_kind (chars src.now) }
     ensures within { AreWithin src.now result }
@@ -105,7 +107,7 @@ pub fn unescape_byte_str(src: &str) -> UnescapeByteStr<'_>
     }
 }
 
-/// The items of a C string's content that are left.
+/// An iterator over the items of a C string's content. [`unescape_c_str`] makes one.
 #[derive(Drop)]
 pub struct UnescapeCStr<'a> {
     content: Cooked<'a>,
@@ -137,10 +139,12 @@ impl Iterator for UnescapeCStr<'_> {
     }
 }
 
-/// The items of a C string's content, as [`unescape_str`] gives those of a string's, with characters
-/// and bytes past ASCII for units, none of them zero, by the rules `items` and `c-kind`.
+/// Returns the items of a C string's content, by the rules `items` and `c-kind`.
 ///
-/// `\x80` gives 0..4 the byte 0x80; `\0` gives 0..2 `NulInCStr`.
+/// An item has its range of bytes in the content, and its unit or the error there. A unit is a character or a byte past
+/// ASCII, never zero.
+///
+/// For `\x80` the item is the byte 0x80 at 0..4. For `\0` the item is `NulInCStr` at 0..2.
 pub fn unescape_c_str(src: &str) -> UnescapeCStr<'_>
     ensures value { result ≡ items c_kind (chars src.now) }
     ensures within { AreWithin src.now result }
@@ -150,9 +154,10 @@ pub fn unescape_c_str(src: &str) -> UnescapeCStr<'_>
     }
 }
 
-/// The one character of a character literal's content, by the rule `single-item`, or what is wrong.
+/// Returns the one character of a character literal's content, by the rule `single-item`, or the error in it.
 ///
-/// `\n` gives LF, the empty text `ZeroChars`, `ab` `MoreThanOneChar`, and a bare `'` `EscapeOnlyChar`.
+/// For `\n` it returns LF. The empty text is the error `ZeroChars`, `ab` is `MoreThanOneChar`, and a bare `'` is
+/// `EscapeOnlyChar`.
 pub fn unescape_char(src: &str) -> Result<char, EscapeError>
     ensures { result ≡ (single string_kind (chars src.now)).unit }
 {
@@ -160,9 +165,9 @@ pub fn unescape_char(src: &str) -> Result<char, EscapeError>
     unit
 }
 
-/// The one byte of a byte literal's content, by the rule `single-item`, or what is wrong.
+/// Returns the one byte of a byte literal's content, by the rule `single-item`, or the error in it.
 ///
-/// `\xFF` gives 0xFF, `ab` `MoreThanOneChar`, and `\u{41}` `UnicodeEscapeInByte`.
+/// For `\xFF` it returns 0xFF. `ab` is the error `MoreThanOneChar`, and `\u{41}` is `UnicodeEscapeInByte`.
 pub fn unescape_byte(src: &str) -> Result<u8, EscapeError>
     ensures { result ≡ (single byte_kind (chars src.now)).unit }
 {

@@ -1,4 +1,4 @@
--- A text that is written one character after the other.
+-- Texts that are written character by character.
 use Rattle.std.proofs.Common.{◌≡◌, ◌∙◌, ◌++◌, ℕ, List, [], ◌∷◌, refl, sym, ap, append_assoc, append-nil, encode_utf8}
 use Rattle.std.proofs.Common.{length}
 use Rattle.std.specs.Str.{chars, IsUtf8}
@@ -6,7 +6,7 @@ use Rattle.std.proofs.lemmas.List.{nil_from_length}
 use Rattle.std.proofs.lemmas.Str.{chars-nil, chars_past_char, IsUtf8-past_char}
 use Rattle.messages.specs.Each.{each}
 
--- with what is left to come, it is all
+-- what was written, and then the rest of the text, is all of the text
 pub record IsEach (give : ℕ → List ℕ) (text rest old out : List ℕ) : Type 0 where
   pub utf8 : IsUtf8 rest
   pub all : out ++ each give (chars rest) ≡ old ++ each give (chars text)

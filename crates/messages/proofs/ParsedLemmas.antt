@@ -1,4 +1,4 @@
--- That programs which read a text and write what they find fail as they may.
+-- Programs that parse a text and write a result fail only as `MayFail` says.
 use Rattle.std.proofs.Common.{Bool, ◌≡◌, ℕ, List, Option, Some, None, refl, length, Err, if◌then◌else◌, true, false}
 use Rattle.std.specs.Io.KnownBytes.{Keeps}
 use Rattle.std.specs.IoError.{error_kind}
@@ -17,7 +17,7 @@ use Rattle.messages.specs.Parsed.{MayFail}
 use Rattle.messages.specs.declared.errors.Failure.{Failure}
 use Rattle.messages.specs.declared.errors.Failure.TheVariants.{Fault, MapFull as TooLong, Memory as NoMemory, Write}
 
--- known bytes that nobody touched stay
+-- known bytes stay if nothing is written
 pub Keeps-same : (known : Option (List ℕ)) → Keeps known known
 Keeps-same None = tt
 Keeps-same (Some bytes) = refl
@@ -27,7 +27,7 @@ by_memory : (text : List ℕ) (old new : Option (List ℕ)) (error : Error) (is 
 by_memory text old new error true = tt
 by_memory text old new error false = tt
 
--- a write that fails
+-- an error of a write
 pub writing_may_fail : (text : List ℕ) (old new : Option (List ℕ)) (error : Error)
     → MayFail text old new (writing_failed error)
 writing_may_fail text old new error = by_memory text old new error (is_memory (error_kind error))

@@ -1,4 +1,4 @@
--- Which failure an error is, and the status that a program ends with.
+-- The failure for each error, and the exit status of a program.
 use Rattle.std.specs.Prelude.{ℕ, Bool, true, false, if◌then◌else◌, Result, Ok, Err}
 use Rattle.std.specs.IoError.{error_kind}
 use Rattle.std.specs.declared.io.Error.{Error}
@@ -17,14 +17,15 @@ abbrev pub is_closed : ErrorKind → Bool
 is_closed BrokenPipe = true
 is_closed _ = false
 
--- the failure of a read, and of a write
+-- the failure for an error of a read
 abbrev pub reading_failed : Error → Failure
 reading_failed error = if is_memory (error_kind error) then Memory else Read error
 
+-- the failure for an error of a write
 abbrev pub writing_failed : Error → Failure
 writing_failed error = if is_memory (error_kind error) then Memory else Write error
 
--- 1 after a fault of the text, and 2 after any other failure
+-- the exit status after a failure: 1 for a fault of the text, and 2 for any other failure
 abbrev pub failure_status : Failure → ℕ
 failure_status (Usage words) = 2
 failure_status (Fault start) = 1
@@ -34,6 +35,7 @@ failure_status Memory = 2
 failure_status (Read error) = 2
 failure_status (Write error) = 2
 
+-- the exit status of a program: 0 after success
 abbrev pub status_of : Result Unit Failure → ℕ
 status_of (Ok done) = 0
 status_of (Err failure) = failure_status failure

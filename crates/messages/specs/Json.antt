@@ -3,11 +3,11 @@ use Rattle.std.specs.Prelude.{ℕ, ◌+◌, ◌-◌, ◌==◌, List, [], ◌∷�
 use Rattle.std.specs.Str.{chars}
 use Rattle.messages.specs.Each.{each}
 
--- a digit of a number to the base 16
+-- a digit to the base 16
 abbrev pub hex : ℕ → List ℕ
 hex n = if nat_lt n 10 then (48 + n) ∷ [] else (87 + n) ∷ []
 
--- a character in a string of JSON: `"` (34), the backslash (92) and the controls are escaped
+-- a character in a string of JSON. `"` (34), the backslash (92) and control characters are escaped
 abbrev pub escape : ℕ → List ℕ
 escape c =
     if c == 34 then codes "\\\""
@@ -15,5 +15,6 @@ escape c =
     else (if nat_lt c 16 then codes "\\u000" ++ hex c
     else (if nat_lt c 32 then codes "\\u001" ++ hex (c - 16) else encode_utf8 c)))
 
+-- a text in a string of JSON
 abbrev pub escaped : List ℕ → List ℕ
 escaped text = each escape (chars text)

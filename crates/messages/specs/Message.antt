@@ -1,4 +1,4 @@
--- What is said of a failure.
+-- The error messages.
 use Rattle.std.specs.Prelude.{ℕ, ◌+◌, List, [], ◌++◌, codes, decimal, if◌then◌else◌}
 use Rattle.std.specs.IoError.{error_kind}
 use Rattle.proc_macro2.specs.declared.LineColumn.{LineColumn}
@@ -17,8 +17,8 @@ at_line_column path start what =
 abbrev pub of_file : List ℕ → List ℕ → List ℕ
 of_file path what = path ++ (codes ": error: " ++ what)
 
--- what is said of a failure of the program that reads the file, where the system gives its reason. Of output that
--- nobody reads any more nothing is said
+-- the message for a failure of a program that reads the file at this path, with the system's reason if there is one. It
+-- is empty if nobody reads the output any more
 abbrev pub message : List ℕ → List ℕ → Failure → List ℕ
 message path reason (Usage words) = codes "usage: " ++ (words.now ++ codes "\n")
 message path reason (Fault start) =

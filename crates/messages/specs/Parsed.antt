@@ -1,4 +1,4 @@
--- How a program fails that reads a text into a new map and writes what it finds.
+-- The failures of a program that parses a text into a new map and writes a result.
 use Rattle.std.specs.Prelude.{ℕ, ◌≡◌, ◌-◌, List, length, Option}
 use Rattle.std.specs.Io.KnownBytes.{Keeps}
 use Rattle.proc_macro2.specs.Files.{Fits, new_map, next_lo}
@@ -12,11 +12,12 @@ use Rattle.messages.specs.declared.errors.Failure.TheVariants.{Usage, Fault, Not
 abbrev pub first : ℕ
 first = next_lo new_map
 
--- line and column in the text of a position
+-- the line and column of a position in the text
 abbrev pub line_column_of : List ℕ → ℕ → LineColumn
 line_column_of text position = line_column text (position - first)
 
--- at the text's fault, or since the text is too long, and nothing is written; or since memory ran out or a write failed
+-- the program may fail in this way: at the text's fault or because the text is too long, before it wrote anything; or
+-- because memory ran out or a write failed
 abbrev pub MayFail : List ℕ → Option (List ℕ) → Option (List ℕ) → Failure → Type 0
 MayFail text old new (Usage words) = ⊥
 MayFail text old new (Fault start) =

@@ -1,4 +1,4 @@
--- The words that a program is given.
+-- The words after a program's name.
 use Rattle.std.specs.Prelude.{ℕ, Bool, true, false, List, [], ◌∷◌, drop, map, Option, Some, None, String, codes}
 use Rattle.std.specs.Prelude.{string_bytes}
 use Rattle.std.specs.Vec.Iter.{into_iter_items}
@@ -7,7 +7,7 @@ use Rattle.std.specs.declared.io.ErrorKind.{ErrorKind}
 use Rattle.std.specs.declared.io.ErrorKind.TheVariants.{InvalidData}
 use Rattle.std.specs.declared.vec.IntoIter.{IntoIter}
 
--- whether arguments weren't had since they are no text
+-- whether the error is that the arguments are not UTF-8
 abbrev pub is_no_text : ErrorKind → Bool
 is_no_text InvalidData = true
 is_no_text _ = false

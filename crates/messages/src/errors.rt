@@ -13,11 +13,11 @@ use std::io;
 /// Why a program fails.
 #[derive(Debug, Drop)]
 pub enum Failure {
-    /// The words after the program's name ask for nothing: how the program is called.
+    /// The words after the program's name are wrong. The text says how the program is called.
     Usage(&'static str),
-    /// The text has its fault here.
+    /// The text has a syntax error at this line and column.
     Fault(LineColumn),
-    /// The input is UTF-8 up to this byte, counted from 0, and no further.
+    /// The input is not UTF-8. It is valid up to this byte offset.
     NotUtf8(usize),
     /// The text has more characters than a source map has positions.
     MapFull,
@@ -30,8 +30,8 @@ pub enum Failure {
 }
 
 impl Failure {
-    /// That the text of the error was not parsed into the map: line and column of its fault, that it is too
-    /// long, or that memory ran out.
+    /// Returns the failure for a text that was not parsed into the map: `Fault` with the line and column of the fault,
+    /// `MapFull`, or `Memory`.
     pub fn unparsed(error: ParseError, map: &SourceMap) -> Failure
         requires { IfLex error (Holds map.now) }
         ensures fault { IfLex error (λ fault. (start : LineColumn)
@@ -46,7 +46,7 @@ impl Failure {
         }
     }
 
-    /// That a read failed, or memory for what was read ran out.
+    /// Returns the failure for an error of a read: `Memory` if memory ran out, and otherwise `Read`.
     pub fn reading(error: io::Error) -> Failure
         ensures { result ≡ reading_failed error }
     {
@@ -58,7 +58,7 @@ impl Failure {
     }
 }
 
-/// That a write failed, or memory for it ran out.
+/// Makes the failure for an error of a write: `Memory` if memory ran out, and otherwise `Write`.
 impl From<io::Error> for Failure {
     ghost from_gives = { λ error failure. failure ≡ writing_failed error };
 
@@ -81,7 +81,7 @@ impl From<AllocError> for Failure {
     }
 }
 
-/// Whether memory ran out.
+/// Whether the error is that memory ran out.
 fn is_memory(kind: io::ErrorKind) -> bool
     ensures { result ≡ is_memory kind }
 {

@@ -1,4 +1,4 @@
-//! What a program is given: its words and its input.
+//! The words and the input of a program.
 ghost use Rattle.std.specs.Prelude.{◌≡◌, ◌↔◌, Err, IfErr, IfOk, IfSome, IsTrue, IsFalse, Ok, Some, OnErr, map};
 ghost use Rattle.std.specs.Prelude.{option_map, string_bytes};
 ghost use Rattle.std.specs.IoError.{error_kind};
@@ -12,10 +12,10 @@ use std::fs::File;
 use std::io;
 use std::io::Read;
 
-/// The words after the program's name, which is the first of its arguments.
+/// Returns the words after the program's name, which is the first of its arguments.
 ///
-/// Fails with `Usage` where the arguments are no text, and with `Memory` where they weren't had for any other
-/// reason, or memory for the list ran out.
+/// Fails with `Usage` if the arguments are not UTF-8, and with `Memory` if memory runs out, or if the arguments can't
+/// be read for any other reason.
 pub fn words(
     alloc: Global,
     arguments: io::Result<Args>,
@@ -32,15 +32,15 @@ pub fn words(
     }
 }
 
-/// Whether arguments weren't had since they are no text.
+/// Whether the error is that the arguments are not UTF-8.
 fn is_no_text(kind: io::ErrorKind) -> bool
     ensures { result ≡ is_no_text kind }
 {
     matches!(kind, io::ErrorKind::InvalidData)
 }
 
-/// The path that the words name: the only one, or `-` where there is none. Fails with `Usage` exactly where there
-/// are several, and with `Memory`.
+/// Returns the path that the words name: the only word, or `-` if there is none. Fails with `Usage` exactly if there
+/// are several words, and with `Memory` if memory runs out.
 pub fn path(alloc: Global, words: &[String], usage: &'static str) -> Result<String, Failure>
     ensures ok { IfOk result (λ path. path_of (map string_bytes words.now) ≡ Some (string_bytes path)) }
     ensures usage { (result ≡ Err (Failure.Usage usage.entry)) ↔ (path_of (map string_bytes words.now) ≡ None) }
@@ -52,9 +52,10 @@ pub fn path(alloc: Global, words: &[String], usage: &'static str) -> Result<Stri
     }
 }
 
-/// The text of the file at this path, or of standard input where the path is `-`.
+/// Returns the text of the file at this path, or of standard input if the path is `-`.
 ///
-/// Fails with `Read` where the file can't be opened or read, with `NotUtf8` where it is no text, and with `Memory`.
+/// Fails with `Read` if the file can't be opened or read, with `NotUtf8` if it is not UTF-8, and with `Memory` if
+/// memory runs out.
 pub fn read_text(rt: &HostRuntime, path: &str) -> Result<String, Failure> {
     if path == "-" {
         return text_of(rt.alloc(), rt.stdin());
@@ -65,7 +66,7 @@ pub fn read_text(rt: &HostRuntime, path: &str) -> Result<String, Failure> {
     }
 }
 
-/// All that the reader has left, as a text.
+/// Returns all that is left in the reader, as a text.
 fn text_of<R: Read + Drop>(alloc: Global, mut reader: R) -> Result<String, Failure>
     ensures { IfSome (R.remaining reader) (λ bytes. IsTextOf bytes result) }
 {
@@ -76,7 +77,7 @@ fn text_of<R: Read + Drop>(alloc: Global, mut reader: R) -> Result<String, Failu
     }
 }
 
-/// The bytes as a text.
+/// Returns the bytes as a text.
 fn decoded(bytes: Vec<u8>) -> Result<String, Failure>
     ensures { IsTextOf bytes.items result }
 {

@@ -4,7 +4,7 @@ ghost use Rattle.messages.specs.Json.{escape, escaped, hex};
 
 use std::alloc::{AllocError, Global};
 
-/// The text as it stands in a string of JSON.
+/// Returns the text as it is written in a string of JSON.
 pub fn escaped(alloc: Global, text: &str) -> Result<String, AllocError>
     ensures { IfOk result (λ out. string_bytes out ≡ escaped text.now) }
 {
@@ -15,7 +15,7 @@ pub fn escaped(alloc: Global, text: &str) -> Result<String, AllocError>
     Ok(out)
 }
 
-/// Appends a character: a quote, a backslash and the controls are escaped.
+/// Appends a character. A quote, a backslash or a control character is escaped.
 fn push_escaped(out: &mut String, c: char) -> Result<(), AllocError>
     ensures { OnOk result (string_bytes out.new ≡ string_bytes out.old ++ escape c) }
 {
@@ -28,7 +28,7 @@ fn push_escaped(out: &mut String, c: char) -> Result<(), AllocError>
     }
 }
 
-/// Appends what begins the escape of a control, and its last digit.
+/// Appends the escape of a control character, from its beginning and its last digit.
 fn push_control(out: &mut String, front: &str, digit: u8) -> Result<(), AllocError>
     requires { digit < 16 }
     ensures { OnOk result (string_bytes out.new ≡ string_bytes out.old ++ (front.now ++ hex digit)) }
@@ -37,7 +37,7 @@ fn push_control(out: &mut String, front: &str, digit: u8) -> Result<(), AllocErr
     out.push(hex(digit))
 }
 
-/// A digit of a number to the base 16.
+/// Returns a digit to the base 16.
 fn hex(digit: u8) -> char
     requires { digit < 16 }
     ensures { result ∷ [] ≡ hex digit }

@@ -1,5 +1,5 @@
-//! How a program reads its input, and what it says on standard error where it fails, in the one form that
-//! editors read: `FILE:L:C: error: what`; and texts in JSON.
+//! Reads the input of a program, reports errors on standard error, and writes texts in JSON. Error messages have the
+//! form that editors read: `FILE:L:C: error: what`.
 #![tactic(auto)]
 
 mod errors;

@@ -1,4 +1,4 @@
-//! What a program says of its failure, and its status.
+//! The error message of a program, and its exit status.
 ghost use Rattle.std.specs.Prelude.{◌≡◌, ◌++◌, ℕ, List, OnOk, IfSome, codes};
 ghost use Rattle.std.specs.Io.KnownBytes.{Appends};
 ghost use Rattle.std.specs.Process.{exit_status};
@@ -13,8 +13,8 @@ use std::io;
 use std::io::Write;
 use std::process::ExitCode;
 
-/// Says on `errors` why a program failed that reads the file at this path, and answers its status, that of `status`.
-/// A message that can't be written changes nothing.
+/// Writes to `errors` why a program failed, if it did, and returns its exit status. The program reads the file at this
+/// path. If the message can't be written, the exit status stays the same.
 pub fn conclude<E: Write>(
     alloc: Global,
     path: &str,
@@ -29,7 +29,7 @@ pub fn conclude<E: Write>(
     ExitCode::from(status(&outcome))
 }
 
-/// The status of a program: 0 after its work, 1 where the text has a fault, and 2 after any other failure.
+/// Returns the exit status of a program: 0 after success, 1 if the text has a fault, and 2 after any other failure.
 pub fn status(outcome: &Result<(), Failure>) -> u8
     ensures { result ≡ status_of outcome.now }
 {
@@ -40,11 +40,11 @@ pub fn status(outcome: &Result<(), Failure>) -> u8
     }
 }
 
-/// Says on `errors` why a program failed that reads the file at this path, in one line.
+/// Writes to `errors`, in one line, why a program failed. The program reads the file at this path.
 ///
-/// Line and column of a fault count from 1, the column in characters. A failed read or write has the system's reason.
-/// Nothing is said where nobody reads the output any more. Of `(]` in the file `a.rs` the line is
-/// `a.rs:1:2: error: no token stands here, or a delimiter has no match`.
+/// The line and column of a fault count from 1, and the column counts characters. For a failed read or write the line
+/// has the system's reason. Nothing is written if nobody reads the output any more. For `(]` in the file `a.rs` the
+/// line is `a.rs:1:2: error: no token stands here, or a delimiter has no match`.
 pub fn say<E: Write>(alloc: Global, path: &str, failure: &Failure, errors: &mut E) -> io::Result<()>
     ensures { OnOk result ((reason : List ℕ) × Appends (E.contents errors.old) (E.contents errors.new)
         (message path.now reason failure.now)) }
@@ -69,11 +69,11 @@ pub fn say<E: Write>(alloc: Global, path: &str, failure: &Failure, errors: &mut 
     }
 }
 
-/// What is said of a text's fault.
+/// The message for a text's fault.
 const FAULT: &str = "no token stands here, or a delimiter has no match";
 
-/// Says on `errors` what is wrong at this line and column of the file at this path: `FILE:L:C: error: what`, line and
-/// column from 1, the column in characters.
+/// Writes to `errors` what is wrong at this line and column of the file at this path: `FILE:L:C: error: what`. The line
+/// and column in the message count from 1, and the column counts characters.
 pub fn say_at<D: Display + Drop, E: Write>(
     path: &str,
     start: LineColumn,
@@ -84,12 +84,12 @@ pub fn say_at<D: Display + Drop, E: Write>(
         (at_line_column path.now start (text ++ codes "\n")))) }
 {
     let line = start.line;
-    // As wide as the sum needs.
+    // The sum may not fit the type of the column.
     let column = start.column as u128 + 1;
     writeln!(errors, "{path}:{line}:{column}: error: {what}")
 }
 
-/// Says on `errors` what is wrong with the file at this path: `FILE: error: what`.
+/// Writes to `errors` what is wrong with the file at this path: `FILE: error: what`.
 pub fn say_of<D: Display + Drop, E: Write>(path: &str, what: D, errors: &mut E) -> io::Result<()>
     ensures { OnOk result (IfSome (D.output what) (λ text. Appends (E.contents errors.old) (E.contents errors.new)
         (of_file path.now (text ++ codes "\n")))) }

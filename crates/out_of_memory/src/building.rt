@@ -1,4 +1,4 @@
-//! Streams that are made of `x`, `-3i32` and `(y)`, and streams that these are put into.
+//! Streams that are made of `x`, `-3i32` and `(y)`, and streams to which these trees are added.
 
 use crate::fails::Fail;
 use crate::shown::{show_made, show_stream};
@@ -14,7 +14,7 @@ fn ident(alloc: Global, name: &str) -> Result<Ident, IdentError> {
     Ident::new(alloc, name, Span::call_site())
 }
 
-/// The literal `-3i32`.
+/// Returns the literal `-3i32`.
 pub fn minus_three(alloc: Global) -> Result<Literal, AllocError> {
     Literal::i32_suffixed(alloc, -3)
 }
@@ -25,7 +25,7 @@ fn group_of_y(alloc: Global) -> Result<Group, Fail> {
     Ok(Group::new(Delimiter::Parenthesis, stream))
 }
 
-/// `x`, `-3i32` and `(y)`.
+/// Returns the trees `x`, `-3i32` and `(y)`.
 pub fn trees(alloc: Global) -> Result<[TokenTree; 3], Fail> {
     Ok([
         TokenTree::Ident(ident(alloc, "x")?),
@@ -34,7 +34,7 @@ pub fn trees(alloc: Global) -> Result<[TokenTree; 3], Fail> {
     ])
 }
 
-/// The stream of `x` and `(y)`.
+/// Returns the stream of `x` and `(y)`.
 fn x_and_group(alloc: Global) -> Result<TokenStream, Fail> {
     let trees = [
         TokenTree::Ident(ident(alloc, "x")?),
@@ -100,7 +100,7 @@ fn collect<W: Write>(alloc: Global, out: &mut W) -> Result<(), Fail> {
     show_made(out, made)
 }
 
-/// Puts trees into a stream of `a`, `+` and `b`.
+/// Adds trees to a stream of `a`, `+` and `b`.
 pub fn run_extend<W: Write>(
     alloc: Global,
     out: &mut W,
@@ -116,7 +116,8 @@ pub fn run_extend<W: Write>(
     Ok(())
 }
 
-/// A stream of `a`, `+` and `b`, whose list has room for another tree, has none, or is shared by the second stream.
+/// Returns a stream of `a`, `+` and `b`, and a second stream. The list of the first has room for another tree, has
+/// none, or is shared with the second stream.
 fn old_streams(alloc: Global, input: &str) -> Result<(TokenStream, TokenStream), Fail> {
     let mut map = SourceMap::new(alloc);
     match input {
@@ -137,7 +138,7 @@ fn old_streams(alloc: Global, input: &str) -> Result<(TokenStream, TokenStream),
     }
 }
 
-/// The stream of the group that the stream begins with.
+/// Returns the stream inside the group with which the stream begins.
 fn first_inside(alloc: Global, stream: &TokenStream) -> Result<TokenStream, AllocError> {
     match stream.trees().first() {
         Some(TokenTree::Group(group)) => group.stream(),

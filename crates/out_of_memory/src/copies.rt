@@ -1,4 +1,4 @@
-//! What is copied of a stream, and what is taken out of it.
+//! Copies of streams, and parts that are taken out of a stream.
 
 use crate::building::{minus_three, trees};
 use crate::fails::Fail;
@@ -8,7 +8,7 @@ use proc_macro2::{SourceMap, TokenStream, TokenTree};
 use std::alloc::Global;
 use std::io::Write;
 
-/// Copies the stream of a text, or parts of it, and writes the stream again.
+/// Copies the stream of a text, or parts of it, and then writes the stream again.
 pub fn run<W: Write>(alloc: Global, out: &mut W, call: &str, text: &str) -> Result<(), Fail> {
     let stream = TokenStream::from_str(text, &mut SourceMap::new(alloc))?;
     for _ in 0..2 {
@@ -78,7 +78,7 @@ fn copy_one<W: Write>(out: &mut W, tree: &TokenTree) -> Result<(), Fail> {
     show(out, copy)
 }
 
-/// Asks the first tree, a group, for its stream.
+/// Takes the stream out of the first tree, which is a group.
 fn copy_inside<W: Write>(out: &mut W, stream: &TokenStream) -> Result<(), Fail> {
     let Some(TokenTree::Group(group)) = stream.trees().first() else {
         return Err(Fail::NoCase);

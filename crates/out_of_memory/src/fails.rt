@@ -1,4 +1,4 @@
-//! Why a case was not run.
+//! The errors for which a case is not run.
 
 use proc_macro2::{IdentError, ParseError};
 use quoting::QuoteError;
@@ -12,19 +12,19 @@ pub enum Fail {
     /// The arguments name no case.
     #[error("no such case")]
     NoCase,
-    /// The output was not written.
+    /// The output could not be written.
     #[error(transparent)]
     Io(#[from] io::Error),
-    /// A text that the case is about was not parsed.
+    /// The text of the case could not be parsed.
     #[error(transparent)]
     Text(#[from] ParseError),
-    /// A name that the case is about is none.
+    /// The name of the case is not an identifier.
     #[error(transparent)]
     Name(#[from] IdentError),
-    /// What was pushed to a quote has a fault.
+    /// The pieces that were pushed to a quote are wrong.
     #[error(transparent)]
     Quote(#[from] QuoteError),
-    /// Memory ran out, though no allocation was made to fail.
+    /// Memory ran out, although no allocation was made to fail.
     #[error(transparent)]
     Memory(#[from(alloc)] AllocError),
 }

@@ -1,4 +1,4 @@
-//! Headers of impls, and errors told to the compiler.
+//! Headers of impls, and errors for the compiler.
 
 use crate::fails::Fail;
 use crate::watched::{begin, end};
@@ -9,7 +9,7 @@ use std::alloc::Global;
 use std::fmt::Debug;
 use std::io::Write;
 
-/// Writes the header of an impl for the item of the text, its where clause with a bound, or the text as an error.
+/// Writes the header of an impl for the text's item, its where clause with one more bound, or the text as an error.
 pub fn run<W: Write>(alloc: Global, out: &mut W, call: &str, text: &str) -> Result<(), Fail> {
     let mut map = SourceMap::new(alloc);
     let stream = TokenStream::from_str(text, &mut map)?;
@@ -29,7 +29,7 @@ pub fn run<W: Write>(alloc: Global, out: &mut W, call: &str, text: &str) -> Resu
     Ok(())
 }
 
-/// Writes the line after a call, and the text of its stream or its error.
+/// Writes the line after a call, and the text of the stream or of the error that it returned.
 fn print<W: Write, E: Debug + Drop>(
     out: &mut W,
     answer: Result<TokenStream, E>,

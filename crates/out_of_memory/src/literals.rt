@@ -1,4 +1,4 @@
-//! Literals that are made, and the values of literals.
+//! Making literals, and reading the values of literals.
 
 use crate::fails::Fail;
 use crate::watched::{begin, show};
@@ -6,7 +6,7 @@ use proc_macro2::{Literal, SourceMap};
 use std::alloc::{AllocError, Global};
 use std::io::Write;
 
-/// Makes a literal of the text, or of the greatest value.
+/// Makes a literal of the text, or of the greatest value of a type.
 pub fn run<W: Write>(alloc: Global, out: &mut W, call: &str, text: &str) -> Result<(), Fail> {
     for _ in 0..2 {
         begin(out)?;
@@ -75,7 +75,7 @@ fn signed(alloc: Global, call: &str) -> Option<Result<Literal, AllocError>> {
     })
 }
 
-/// Asks the literal of the text for its value.
+/// Reads the value of the text's literal.
 pub fn run_value<W: Write>(alloc: Global, out: &mut W, call: &str, text: &str) -> Result<(), Fail> {
     let literal = Literal::from_str(text, &mut SourceMap::new(alloc))?;
     for _ in 0..2 {

@@ -1,4 +1,4 @@
-//! What the spans of a text's trees are asked of their map.
+//! Looking up the spans of a text's trees in their map.
 
 use crate::fails::Fail;
 use crate::parsing::map_of_x;
@@ -9,7 +9,7 @@ use std::alloc::{AllocError, Global};
 use std::io::Write;
 use std::ops::Range;
 
-/// Asks for the files, bytes or texts of all spans of a text's trees, and of 0..0.
+/// Looks up the files, bytes or texts of all spans of a text's trees, and of the span 0..0.
 pub fn run<W: Write>(alloc: Global, out: &mut W, call: &str, text: &str) -> Result<(), Fail> {
     let mut map = map_of_x(alloc, u32::MAX)?;
     let spans = spans_of(alloc, text, &mut map)?;
@@ -71,7 +71,7 @@ fn show_texts<W: Write>(
     show(out, texts)
 }
 
-/// 0..0, and the spans of the trees of the text, which becomes a file of the map.
+/// Returns the span 0..0, and the spans of the trees of the text, which becomes a file of the map.
 fn spans_of(alloc: Global, text: &str, map: &mut SourceMap) -> Result<Vec<Span>, Fail> {
     let mut spans = Vec::new(alloc);
     spans.push(Span::call_site())?;
@@ -81,7 +81,8 @@ fn spans_of(alloc: Global, text: &str, map: &mut SourceMap) -> Result<Vec<Span>,
     Ok(spans)
 }
 
-/// There is room for the answers, so only a look-up takes memory here and in the like of it.
+/// Looks up the file of each span. The list has room for the results, so only a look-up allocates memory. This is also
+/// true of the functions below.
 fn ask_files(
     map: &SourceMap,
     spans: &[Span],

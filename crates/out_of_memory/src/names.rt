@@ -1,4 +1,4 @@
-//! Identifiers from their names.
+//! Making identifiers from their names.
 
 use crate::fails::Fail;
 use crate::watched::{begin, show};

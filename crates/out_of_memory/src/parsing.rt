@@ -1,4 +1,4 @@
-//! Texts that are parsed, into a map that holds another or without a map.
+//! Texts that are parsed, into a map that has another text, or without a map.
 
 use crate::fails::Fail;
 use crate::shown::{show_made, show_map};
@@ -7,8 +7,8 @@ use proc_macro2::{Literal, ParseError, SourceMap, TokenStream, reprint};
 use std::alloc::Global;
 use std::io::Write;
 
-/// Parses the text as a stream or as a literal, into a map that is large or has four positions, or without a map,
-/// or prints it with no trees made.
+/// Parses the text as a stream or as a literal, into a large map, into a map with four positions, or without a map. Or
+/// prints the text without making trees.
 pub fn run<W: Write>(alloc: Global, out: &mut W, call: &str, text: &str) -> Result<(), Fail> {
     match call {
         "stream" => parse_stream(out, text, &mut map_of_x(alloc, u32::MAX)?),
@@ -21,7 +21,7 @@ pub fn run<W: Write>(alloc: Global, out: &mut W, call: &str, text: &str) -> Resu
     }
 }
 
-/// A map with this limit that holds the text `x`.
+/// Returns a map with this limit that has the text `x`.
 pub fn map_of_x(alloc: Global, limit: u32) -> Result<SourceMap, ParseError> {
     let mut map = SourceMap::with_limit(alloc, limit);
     TokenStream::from_str("x", &mut map)?;

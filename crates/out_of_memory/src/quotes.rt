@@ -1,4 +1,4 @@
-//! What is pushed to a quote, and what it gives.
+//! Pushing trees to a quote, and taking its stream.
 
 use crate::fails::Fail;
 use crate::shown::{show_map, show_stream};
@@ -13,8 +13,8 @@ use std::io::Write;
 /// A template with a name in a group, and a repetition with a group.
 const TEMPLATE: &str = "[#one] #((#each)),*";
 
-/// Pushes to a quote of `x (+ y)`, whose `+` is Joint, fills it, or asks it for its stream, and writes what it gives
-/// then. It is filled by the template that is given, or else by one of its own.
+/// Pushes trees to a quote of `x (+ y)`, whose `+` is Joint, or fills it, or takes its stream, and then writes what it
+/// gives. It is filled with the given template, or with `TEMPLATE` if that is empty.
 pub fn run<W: Write>(alloc: Global, out: &mut W, call: &str, given: &str) -> Result<(), Fail> {
     let template = if given.is_empty() { TEMPLATE } else { given };
     for _ in 0..2 {
@@ -44,7 +44,7 @@ fn push_stream<W: Write>(alloc: Global, out: &mut W, quote: &mut Quote) -> Resul
     show(out, quote.push_stream(stream))
 }
 
-/// Fills a template with a tree for its name, no tree for another, and a tree for each turn of its repetition.
+/// Fills a template with a tree for its name, no tree for another name, and a tree for each turn of its repetition.
 fn fill<W: Write>(
     alloc: Global,
     out: &mut W,
@@ -64,7 +64,7 @@ fn fill<W: Write>(
     show(out, quote.fill(&template, &holes))
 }
 
-/// The same of the template's text, which becomes a file of a map.
+/// Parses the template's text, which becomes a file of a map, and fills it.
 fn parse<W: Write>(alloc: Global, out: &mut W, quote: &mut Quote) -> Result<(), Fail> {
     let mut map = SourceMap::new(alloc);
     let one = TokenStream::from_tree(alloc, name(alloc, "z")?)?;
@@ -81,7 +81,7 @@ fn finish<W: Write>(out: &mut W, quote: &Quote) -> Result<(), Fail> {
     show(out, quote.finish())
 }
 
-/// A quote that shares its trees with no stream, and whose list has no room.
+/// Returns a quote that shares its trees with no stream, and whose list has no room.
 fn x_and_group(alloc: Global) -> Result<Quote, Fail> {
     let plus = TokenTree::Punct(Punct::new('+', Spacing::Joint));
     let inside = TokenStream::from_trees(alloc, [plus, name(alloc, "y")?])?;

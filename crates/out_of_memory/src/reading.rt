@@ -1,4 +1,4 @@
-//! What is read of a stream: its printed text, and its trees.
+//! Reading a stream: printing it, and walking over its trees.
 
 use crate::fails::Fail;
 use crate::shown::{show_stream, show_tree};
@@ -8,10 +8,10 @@ use std::alloc::{AllocError, Global};
 use std::fmt::Display;
 use std::io::Write;
 
-/// No walk of a case takes more steps.
+/// The largest number of steps that a walk of a case takes.
 const STEPS: usize = 100;
 
-/// No stream of a case prints more bytes.
+/// The largest number of bytes that a stream of a case prints.
 const BYTES: usize = 1_000;
 
 /// Prints the stream of the text, or walks over its trees.
@@ -44,7 +44,7 @@ fn print_stream<W: Write>(alloc: Global, out: &mut W, stream: &TokenStream) -> R
     show(out, text)
 }
 
-/// Writes the stream, its first tree, and that tree where it is a group, into texts that have room for them.
+/// Writes the stream, its first tree, and that tree again if it is a group, into texts that have room for them.
 fn write_all<W: Write>(alloc: Global, out: &mut W, stream: &TokenStream) -> Result<(), Fail> {
     let [tree, ..] = stream.trees() else {
         return Err(Fail::NoCase);
@@ -62,7 +62,7 @@ fn write_all<W: Write>(alloc: Global, out: &mut W, stream: &TokenStream) -> Resu
     show(out, (answers, texts))
 }
 
-/// Writes the value after the text, and answers whether that succeeded.
+/// Appends the value to the text, and returns whether that succeeded.
 fn is_written<D: Display>(text: &mut String, value: &D) -> bool {
     write!(text, "{value}").is_ok()
 }
@@ -82,8 +82,8 @@ fn show_walk<W: Write>(alloc: Global, out: &mut W, stream: &TokenStream) -> Resu
     Ok(())
 }
 
-/// Walks over the stream and puts its trees into the list, which has room for them. A step that fails is taken
-/// again. Answers how many were.
+/// Walks over the stream and appends its trees to the list, which has room for them. A step that fails is repeated.
+/// Returns the number of steps that failed.
 fn walk<'a>(stream: &'a TokenStream, trees: &mut Vec<&'a TokenTree>) -> Result<usize, AllocError> {
     let mut walk = stream.walk();
     let mut failures = 0;

@@ -6,7 +6,8 @@ use relayout::{White, relayout, with_doc_comments};
 use std::alloc::Global;
 use std::io::Write;
 
-/// Writes the text with its first white space wider than there is room for, or with comments for its doc attributes.
+/// Writes the text with its first white space so wide that there is no room for it, or with comments for its doc
+/// attributes.
 pub fn run<W: Write>(alloc: Global, out: &mut W, call: &str, text: &str) -> Result<(), Fail> {
     let wide = White::Lines {
         tabs: 0,

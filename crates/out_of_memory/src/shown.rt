@@ -1,4 +1,4 @@
-//! What stands, written whole.
+//! Writes whole streams, trees and maps.
 
 use crate::fails::Fail;
 use crate::watched::{end, show};
@@ -8,7 +8,7 @@ use std::fmt::Debug;
 use std::io;
 use std::io::Write;
 
-/// No map of a case has more positions.
+/// The largest number of positions that a map of a case has.
 const POSITIONS: u32 = 10_000;
 
 /// Writes the line after a call, and the stream that it made or why there is none.
@@ -26,7 +26,7 @@ pub fn show_made<W: Write, E: Debug + Drop>(
     }
 }
 
-/// Writes what the stream prints, and a line for each of its trees, each group before those inside it.
+/// Writes what the stream prints, and a line for each of its trees, where each group comes before the trees inside it.
 pub fn show_stream<W: Write>(out: &mut W, stream: &TokenStream) -> Result<(), Fail> {
     writeln!(out, "stream {stream}")?;
     let mut walk = stream.walk();
@@ -53,7 +53,7 @@ pub fn show_tree<W: Write>(out: &mut W, tree: &TokenTree) -> io::Result<()> {
     }
 }
 
-/// Writes the span and the text of each file of the map, which are found by the spans that it holds.
+/// Writes the span and the text of each file of the map. It finds the files by trying which spans the map holds.
 pub fn show_map<W: Write>(out: &mut W, map: &SourceMap) -> io::Result<()> {
     let mut lo = 0;
     for at in 0..POSITIONS {

@@ -1,4 +1,4 @@
-//! Calls that answer the same, whatever memory there is. Most of them take none.
+//! Calls whose results do not depend on the memory that there is. Most of them allocate none.
 
 use crate::fails::Fail;
 use crate::watched::{begin, show};
@@ -17,7 +17,7 @@ use std::hash::{DefaultHasher, Hash, Hasher};
 use std::io::Write;
 use std::ops::Bound;
 
-/// Does all calls about streams, maps, spans, .. on the text.
+/// Makes all calls about streams, maps, spans and so on with the text.
 pub fn run<W: Write>(alloc: Global, out: &mut W, call: &str, text: &str) -> Result<(), Fail> {
     for _ in 0..2 {
         ask(alloc, out, call, text)?;

@@ -1,4 +1,4 @@
-//! The two lines of the output between which an allocation fails, and the answer after them.
+//! The two lines of the output between which an allocation fails, and the result after them.
 
 use crate::fails::Fail;
 use std::fmt::Debug;
@@ -16,7 +16,7 @@ pub fn end<W: Write>(out: &mut W) -> Result<(), Fail> {
     Ok(())
 }
 
-/// Writes the line after a call, and its answer.
+/// Writes the line after a call, and the call's result.
 pub fn show<W: Write, A: Debug + Drop>(out: &mut W, answer: A) -> Result<(), Fail> {
     end(out)?;
     writeln!(out, "{answer:?}")?;

@@ -28,19 +28,19 @@ use Rattle.outline.specs.Outline.{IsTreesOutline, Outline, entries_of}
 use Rattle.outline.specs.declared.options.Form.{Form}
 use Rattle.outline.proofs.LevelLemmas.{forest-trees_in}
 
--- what the buffer's error says of the text's
+-- what holds of the buffer's error holds of the error in the text
 pub lex_of : (failure : BufferError) (error : ParseError) → failure ≡ Parse error → (P : Extent → Type 0)
     → IfParse failure (λ parse. IfLex parse P) → IfLex error P
 lex_of failure error is P h = subst (λ e. IfParse e (λ parse. IfLex parse P)) is h
 
--- the map of the text holds its fault
+-- the map of the text holds the span of the text's error
 pub fault_is_held : (map : Files) (text : List ℕ) (error : ParseError) → map ≡ with_file new_map text
     → IfLex error (λ fault. (fault.lo ≡ fault.hi) × FaultAt (next_lo new_map) text fault.lo) → IfLex error (Holds map)
 fault_is_held map text (Lex fault) is h = subst (λ m. Holds m fault) (sym is) (fault_held new_map text fault h.0 h.1)
 fault_is_held map text MapFull is h = tt
 fault_is_held map text (Memory refused) is h = tt
 
--- and so what is said of it may be said
+-- the contract allows the failure that an unread text gives
 pub unread_may_fail : (text : List ℕ) (map : Files) (error : ParseError) (failure : Failure)
     → map ≡ with_file new_map text
     → IfLex error (λ fault. (fault.lo ≡ fault.hi) × FaultAt (next_lo new_map) text fault.lo)
@@ -55,7 +55,7 @@ unread_may_fail text map MapFull failure is stands full said too_long no_memory 
 unread_may_fail text map (Memory refused) failure is stands full said too_long no_memory =
     rw (no_memory refused refl) tt
 
--- the trees of the buffer's first cursor are those that the text parses to
+-- the text parses to the trees of the buffer's first cursor
 begin_parses : (text : List ℕ) (trees : Forest) (begin : Cursor) → ParsesTo first text trees → left begin ≡ trees
     → ParsesTo first text (forest (trees_left begin))
 begin_parses text trees begin parses is =

@@ -15,7 +15,7 @@ use Rattle.outline.specs.Files.{AreOf, IsOf, Outcome}
 use Rattle.outline.specs.Tags.{ended}
 use Rattle.outline.specs.declared.options.Form.{Form}
 
--- a file before those that are left
+-- the outcomes of these files are that of the first file and those of the others
 pub of_one : (form : Form) (paths : List (String Global)) (k : ℕ) (path : String Global) (outcome : Outcome)
     (more : List Outcome) → k < length paths → path ≡ get_or paths k path → IsOf form (string_bytes path) outcome
     → AreOf form (map string_bytes (drop (k + 1) paths)) more
@@ -27,7 +27,7 @@ of_one form paths k path outcome more within is one rest =
     ∙ ap (λ n. path ∷ drop n paths) next) in
     subst (λ l. AreOf form (map string_bytes l) (outcome ∷ more)) (sym split) (one, rest)
 
--- no file is left
+-- there are no outcomes if no file is left
 pub of_none : (form : Form) (paths : List (String Global)) (k : ℕ) → length paths ≤ k
     → AreOf form (map string_bytes (drop k paths)) []
 of_none form paths k past = subst (λ l. AreOf form (map string_bytes l) []) (sym (drop_of_length-le paths past)) tt
@@ -43,7 +43,7 @@ pub texts_append : (xs ys : List (String Global))
 texts_append [] ys = refl
 texts_append (x ∷ xs) ys = ap (λ l. string_bytes x ∷ l) (texts_append xs ys)
 
--- the greatest of three
+-- the greatest of three numbers
 pub max_assoc : (a b c : ℕ) → max (max a b) c ≡ max a (max b c)
 max_assoc zero b c = ap (λ n. max n c) (zero-max b) ∙ sym (zero-max (max b c))
 max_assoc (suc a) zero c = ap (λ n. max n c) (max-zero (suc a)) ∙ ap (max (suc a)) (sym (zero-max c))
@@ -54,7 +54,7 @@ never_less : (a b : ℕ) (same : Bool) → cond (is_lt (cond same Equal Greater)
 never_less a b true = refl
 never_less a b false = refl
 
--- what `max` answers
+-- what `max` returns
 pub greater_is : (a b : ℕ) → ord_max nat_cmp a b ≡ max a b
 greater_is a b = by_test (leb_tells (suc b) a)
   where

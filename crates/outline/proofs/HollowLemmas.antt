@@ -1,4 +1,4 @@
--- What is read of hollow trees is hollow of what is read.
+-- Reading hollow trees gives the hollow trees of what is read.
 use Rattle.std.proofs.Common.{◌≡◌, refl, sym, ◌∙◌, ap, ap₂, subst, ℕ, Bool, true, false, ◌&&◌, ◌||◌, List, [], ◌∷◌}
 use Rattle.std.proofs.Common.{◌++◌, Option, Some, None, cond, map, codes, option_map, is_some, if◌then◌else◌}
 use Rattle.std.proofs.lemmas.Bool.{false_from_ne_true}
@@ -40,7 +40,7 @@ use Rattle.outline.specs.Outline.{first_of, last_of}
 abbrev named_so : Bool → List ℕ → Name
 named_so raw name = record { name = name; raw = raw; span = record { lo = 0; hi = 0 } }
 
--- an identifier that is written as `in` has its bytes
+-- an identifier with the text `in` has the bytes of `in`
 in_bytes : (raw : Bool) (name : List ℕ) → is_written (named_so raw name) (codes "in") ≡ true
     → bytes_eq (encode_utf8_all name) (codes "in") ≡ true
 unfolding lib.Utf8.encode
@@ -102,7 +102,7 @@ hollow_pair (Literal l) second = refl
 abbrev pub hollow_sign : Sign → Sign
 hollow_sign sign = record { class = sign.class; trees = map hollow sign.trees }
 
--- the signs of two trees and others, by whether the two are read as one
+-- the signs of two trees and others, if it is known whether the two are one sign
 abbrev pairing : Option Class → TokenTree → TokenTree → List TokenTree → List Sign
 pairing o first second rest = elim o as (λ x. List Sign) [
   | None ↦ record { class = tree_class first; trees = first ∷ [] } ∷ signs_after (Some second) rest
@@ -186,14 +186,14 @@ cut_map f (x ∷ xs) (b ∷ front) back is =
       rest_is = more.rest_is;
     }
 
--- the signs after others are those of their trees
+-- the signs after some signs are the signs of their trees
 signs_behind : (front back : List Sign) (trees : List TokenTree) → signs trees ≡ front ++ back
     → back ≡ signs (trees_of back)
 signs_behind [] back trees is = sym is ∙ ap signs (sym (trees_of-signs trees) ∙ ap trees_of is)
 signs_behind (sign ∷ front) back trees is =
     let behind = behind_first trees sign (front ++ back) is in signs_behind front back behind.rest behind.read
 
--- what is read of hollow trees stands so in the trees
+-- a part of hollow trees that is read is made from a part of the trees that can be read
 pub record IsReal (form : List Class → List Class → Type 0) (trees part rest : List TokenTree) : Type 0 where
   pub front : List TokenTree
   pub after : List TokenTree
@@ -243,7 +243,7 @@ reads_hollow form trees part rest reads =
           (subst (form (classes_of reads.piece)) rest_classes reads.stands);
     }
 
--- what the grammar reads of hollow trees, it reads of the trees
+-- the walk over hollow trees finds the same kind and name as the walk over the trees
 pub real_tells : (form : List Class → List Class → Type 0) (trees part rest : List TokenTree) (kind : ItemKind)
     (name : Option Name) → Reads form trees part rest → Tells (map hollow trees) (map hollow rest) kind name
     → Tells trees rest kind name
@@ -266,7 +266,7 @@ real_tells form trees part rest kind name reads told =
       is = told.is;
     }
 
--- ---- the braces in which items stand
+-- ---- the braces that hold items
 
 hollow_in_braces : (d : Delimiter) (g : Grouped)
     → in_braces d (hollow_group g) ≡ option_map hollow_group (in_braces d g)
@@ -339,7 +339,7 @@ last_is [] g is = cc
 last_is (tree ∷ []) g is = ([], ap (λ t. t ∷ []) (braces_only tree g is))
 last_is (tree ∷ next ∷ trees) g is = ends_longer tree (next ∷ trees) (Group g) (last_is (next ∷ trees) g is)
 
--- the braces in which items stand are the last tree
+-- the braces that hold items are the last tree of the item
 pub body_is_last : (kind : ItemKind) (trees : List TokenTree) (g : Grouped) → body_of kind trees ≡ Some g
     → (front : List TokenTree) × (trees ≡ front ++ Group g ∷ [])
 body_is_last kinds.Module trees g is = last_is trees g is
@@ -360,7 +360,7 @@ body_is_last kinds.TypeAlias trees g is = cc
 body_is_last kinds.Union trees g is = cc
 body_is_last kinds.Use trees g is = cc
 
--- ---- where trees stand
+-- ---- the spans of trees
 
 hollow_extent : (tree : TokenTree) → extent_of (hollow tree) ≡ extent_of tree
 hollow_extent (Group g) = refl

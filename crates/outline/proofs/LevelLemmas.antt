@@ -1,4 +1,4 @@
--- What is read of the levels of a text, by their trees that are almost all empty.
+-- What is read from the levels of a text, whose groups are almost all empty.
 use Rattle.std.proofs.Common.{◌≡◌, refl, sym, ◌∙◌, ap, ap₂, subst, ℕ, suc, ◌+◌, ◌-◌, ◌<◌, ◌≤◌, arith, inl, inr}
 use Rattle.std.proofs.Common.{Bool, true, false, List, [], ◌∷◌, ◌++◌, Option, Some, None}
 use Rattle.std.proofs.Common.{MatchOption, length, map, drop}
@@ -65,7 +65,7 @@ forest_hollow (leaf (tokens.Literal text) lo hi rest) = ap (leaf (tokens.Literal
 forest_hollow (group d lo hi inside rest) =
     ap (group d lo hi (kept_inside d inside)) (forest_hollow rest)
 
--- the trees that a cursor answers
+-- the trees that a cursor returns are hollow
 pub outer_are : (items : List TokenTree) (f : Forest) → forest items ≡ outer f → items ≡ map hollow (trees_in f)
 outer_are items f is = same_trees items (map hollow (trees_in f)) (is ∙ sym (forest_hollow f))
 
@@ -78,14 +78,14 @@ left_after (texts.Punct mark spacing) here rest (lo, hi, is) = (_, ap trees_in i
 left_after (texts.Literal literal) here rest (lo, hi, is) = (_, ap trees_in is)
 left_after (texts.Group delimiter inside) here rest (lo, hi, is) = (_, ap trees_in is)
 
--- one tree more is passed
+-- one more tree is skipped
 pub past_one : (first : TokenText) (here rest : Cursor) (all : List TokenTree) (n : ℕ) → Begins first here rest
     → trees_left here ≡ drop n all → trees_left rest ≡ drop (n + 1) all
 past_one first here rest all n begins is =
     let after = left_after first here rest begins in
     sym (ap (drop 1) (sym is ∙ after.1)) ∙ drop-drop 1 n all
 
--- none is left
+-- no tree is left, so skipping more changes nothing
 pub past_all : (here : Cursor) (all : List TokenTree) (n count : ℕ) → left here ≡ nil → trees_left here ≡ drop n all
     → n < count → trees_left here ≡ drop count all
 past_all here all n count none is more =
@@ -96,7 +96,7 @@ past_all here all n count none is more =
     drop_none : (xs : List TokenTree) (k : ℕ) → length xs ≤ k → [] ≡ drop k xs
     drop_none xs k fits = sym (drop_of_length-le xs fits)
 
--- the last of some trees is passed
+-- the last of some trees is skipped
 pub past_last : (all last rest : List TokenTree) (count : ℕ) → 0 < count → last ≡ drop (count - 1) all
     → rest ≡ drop 1 last → rest ≡ drop count all
 past_last all last rest count some is passed =
@@ -114,7 +114,7 @@ pub even_more : (items old new : List TokenTree) (at count : ℕ) → drop at it
 even_more items old new at count even is =
     sym (drop-drop count at items) ∙ even_start (drop at items) old new count even is
 
--- where the trees after the first of these begin
+-- the trees after a part are those after as many trees as it has
 after_part : (all part rest : List TokenTree) (count : ℕ) → all ≡ part ++ rest → count ≡ length part
     → drop count all ≡ rest
 after_part all part rest count whole counted = ap (drop count) whole ∙ drop_at part rest count (sym counted)
@@ -138,7 +138,7 @@ start_never items all are never inner after reads =
     (subst (λ ts. Reads AreInnerAttributes ts (map hollow inner) (map hollow after)) (sym are)
     (reads_hollow AreInnerAttributes all inner after reads))
 
--- some are left, so that those before them are in the list
+-- trees are left, so as many trees as have been read are in the list
 pub at_within : (items all : List TokenTree) (at : ℕ) → drop at items ≡ map hollow all → (all ≡ [] → ⊥)
     → at ≤ length items
 at_within items [] at even some = absurd (some refl)
@@ -190,7 +190,7 @@ inside_none d body inside after (lo, hi, is) never g (rest, begins) items are =
 
 -- ---- an item
 
--- a header's place and text are those of the hollow trees
+-- the position and the text of a header are the same for hollow trees
 hollow_name_in : (text : List ℕ) (name : Option Name) (header : List TokenTree)
     → name_in text name (map hollow header) ≡ name_in text name header
 hollow_name_in text None header =
@@ -329,7 +329,7 @@ some_group : (body : Option Grouped) → is_some body ≡ true → (g : Grouped)
 some_group None is = cc
 some_group (Some g) is = (g, refl)
 
--- the braces of the item come first where its last tree is left
+-- at the last tree of an item, the braces of the item are the first tree that is left
 pub record HasBody (kind : ItemKind) (part : List TokenTree) (last : Cursor) : Type 0 where
   pub group : Grouped
   pub is : body_of kind part ≡ Some group
@@ -375,14 +375,14 @@ lines_of-append form path text (x ∷ xs) ys =
     ap (λ ls. line ++ ls) (lines_of-append form path text xs ys)
     ∙ sym (append_assoc line (lines_of form path text xs) (lines_of form path text ys))
 
--- these are the lines of declarations that were found, which are all with those of what is left
+-- the lines are those of declarations that, with those of the trees that are left, are all declarations
 pub record CompletesLines (form : Form) (path text : List ℕ) (trees : List TokenTree) (lines : List (List ℕ))
     (levels : List (List TokenTree)) : Type 0 where
   pub found : List Entry
   pub are : lines ≡ lines_of form path text found
   pub all : Completes trees found levels
 
--- nothing is left
+-- if no tree is left, the lines are those of all declarations
 pub lines_all : (form : Form) (path text : List ℕ) (trees : List TokenTree) (lines : List (List ℕ))
     (levels : List Level) → levels ≡ [] → CompletesLines form path text trees lines (stack level_left levels)
     → (whole : Outline) × IsTreesOutline trees whole × (lines ≡ lines_of form path text (entries_of whole))
@@ -390,7 +390,7 @@ lines_all form path text trees lines levels none h =
     let all = completes_all level_left trees h.found levels none h.all in
     (all.0, all.1, h.are ∙ ap (lines_of form path text) all.2)
 
--- the item of the step has its line after those that were found
+-- the line of a step's item comes after the lines before it
 lines_put : (files : Files) (form : Form) (path text : List ℕ) (lines more : List (List ℕ)) (found : List Entry)
     (all : List TokenTree) (step : Step) (depth size : ℕ) (takes : Takes files form path depth all step)
     → files ≡ with_file new_map text → depth ≡ size → lines ≡ lines_of form path text found
@@ -450,7 +450,7 @@ one_listed form path text is entry line put so =
     ap option_to_list so ∙ sym (append-nil (option_to_list (line_of form path (shown text entry))))
     ∙ ap (λ b. lines_of form path text (listed b entry)) put
 
--- ---- what calls answer
+-- ---- the results of calls
 
 pub nil_left : (f : Forest) → true ≡ is_nil f → trees_in f ≡ []
 nil_left nil is = refl

@@ -1,4 +1,4 @@
--- What is put in a line, one piece after the other.
+-- How a line is put together, one piece after the other.
 use Rattle.std.proofs.Common.{◌≡◌, ◌∙◌, ◌++◌, ◌+◌, ℕ, suc, zero, Bool, false, List, [], ◌∷◌, sym, ap, append_assoc}
 use Rattle.std.proofs.Common.{append-nil, arith, encode_utf8, length, nat_le}
 use Rattle.std.specs.Str.{chars, IsUtf8}
@@ -6,7 +6,7 @@ use Rattle.std.proofs.lemmas.List.{nil_from_length}
 use Rattle.std.proofs.lemmas.Str.{chars-nil, chars_past_char, IsUtf8-past_char}
 use Rattle.outline.specs.Line.{in_line, one_line, times}
 
--- once more, at the end
+-- one more copy of the text at the end
 times_last : (k : ℕ) (text : List ℕ) → times (suc k) text ≡ times k text ++ text
 times_last zero text = append-nil text
 times_last (suc k) text = ap (λ l. text ++ l) (times_last k text) ∙ sym (append_assoc text (times k text) text)
@@ -14,7 +14,7 @@ times_last (suc k) text = ap (λ l. text ++ l) (times_last k text) ∙ sym (appe
 pub times_more : (k : ℕ) (text : List ℕ) → times (k + 1) text ≡ times k text ++ text
 times_more k text = let next : k + 1 ≡ suc k = omega arith in ap (λ n. times n text) next ∙ times_last k text
 
--- with what is left to come, which stands after a gap or not, it is all
+-- the text so far, with the rest after a gap or not, is the whole text on one line
 pub record IsInLine (text rest : List ℕ) (gap : Bool) (out : List ℕ) : Type 0 where
   pub utf8 : IsUtf8 rest
   pub all : out ++ one_line gap (chars rest) ≡ one_line false (chars text)

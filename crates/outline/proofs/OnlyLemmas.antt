@@ -1,4 +1,4 @@
--- Trees have no outline but the one that is found.
+-- Trees have no outline except the one that is found.
 use Rattle.std.proofs.Common.{◌≡◌, refl, sym, ◌∙◌, ap, ap₂, subst, List, [], ◌∷◌, ◌++◌, length, arith}
 use Rattle.std.proofs.Common.{Option, Some, None, Result, Ok, Err, IfErr, true, false, ◌==◌, ne_eqb}
 use Rattle.std.proofs.lemmas.List.{append_cancel_right}
@@ -47,7 +47,7 @@ trees_in-forest (Literal l ∷ trees) = ap (λ (ts : List TokenTree). Literal l 
 pub same_trees : (xs ys : List TokenTree) → forest xs ≡ forest ys → xs ≡ ys
 same_trees xs ys same = sym (trees_in-forest xs) ∙ ap trees_in same ∙ trees_in-forest ys
 
--- ---- what is inside
+-- ---- the items inside an item
 
 inner_only : (trees inner rest inner2 rest2 : List TokenTree) → Reads AreInnerAttributes trees inner rest
     → Reads AreInnerAttributes trees inner2 rest2 → rest2 ≡ rest
@@ -71,7 +71,7 @@ inside-never body g trees is held never items are =
     let same : here.all ≡ trees = same_trees here.all trees (here.held ∙ sym held) in
     never here.inner items (subst (λ ts. Reads AreInnerAttributes ts here.inner items) same here.read)
 
--- no items stand there where they have no inner attributes
+-- if the inner attributes of a body cannot be read, then the body has no items
 pub inside_never : {T E : Type 0} (r : Result T E) (body : Option Grouped) (g : Grouped) (trees : List TokenTree)
     → body ≡ Some g → forest trees ≡ g.stream
     → IfErr r (λ _. (inner items : List TokenTree) → Reads AreInnerAttributes trees inner items → ⊥)
@@ -79,7 +79,7 @@ pub inside_never : {T E : Type 0} (r : Result T E) (body : Option Grouped) (g : 
 inside_never (Ok found) body g trees is held never = tt
 inside_never (Err fault) body g trees is held never = inside-never body g trees is held never
 
--- ---- what is told
+-- ---- the kind and the name of an item
 
 pub kind_only : (trees rest : List TokenTree) (kind kind2 : ItemKind) (name name2 : Option Name)
     → Tells trees rest kind name → Tells trees rest kind2 name2 → kind2 ≡ kind
@@ -92,7 +92,7 @@ kind_only trees rest kind kind2 name name2 one other =
     let last : other.last ≡ one.last = cc in
     other.is ∙ ap (λ (p : Place). kind_of p.item) last ∙ sym one.is
 
--- ---- what the outline of all trees has of those that are left
+-- ---- an outline of all trees gives outlines of the trees that are left
 
 abbrev pub Requires : List TokenTree → List (List TokenTree) → Type 0
 Requires trees levels =
@@ -126,7 +126,7 @@ not_before trees part rest reads none =
     let size : length trees ≡ 0 = ap length none in
     omega arith
 
--- an outline that begins with the item that is read
+-- an outline of the trees begins with the item that is read
 requires-item : (old new inside : List TokenTree) (kind : ItemKind) (name : Option Name) (header : List TokenTree)
     (o : Outline) → BeginsWithItem old kind name header inside new → IsOutline old o
     → (within : Outline) × (after : Outline) × IsOutline inside within × IsOutline new after
@@ -166,7 +166,7 @@ requires_item of trees old new inside levels less once twice kind name header h 
     (requires-more (of old) (of new) (of inside) (stack of less) kind name header found
     (subst (λ ls. (os : List Outline) × AreOutlines ls os) (stack_last of levels less old split) (h whole is)))
 
--- the same of one in which there are no items
+-- the trees that are left have outlines after an item without items in it
 pub requires_alone : {T : Type 0} (of : T → List TokenTree) (trees : List TokenTree) (old new : T)
     (levels less once : List T) (kind : ItemKind) (name : Option Name) (header : List TokenTree)
     → Requires trees (stack of levels) → levels ≡ less ++ old ∷ []
@@ -179,7 +179,7 @@ requires_alone of trees old new levels less once kind name header h split found 
 
 -- ---- no outline
 
--- what is left is no item
+-- trees that begin with no item have no outline
 first-stops : (old : List TokenTree) (outer : List (List TokenTree)) → (old ≡ [] → ⊥)
     → ((part rest : List TokenTree) → Reads IsAnyItem old part rest → ⊥)
     → (os : List Outline) × AreOutlines (old ∷ outer) os → ⊥
@@ -196,7 +196,7 @@ item_stops of trees old levels less h split some never whole is =
     first-stops (of old) (stack of less) some never
     (subst (λ ls. (os : List Outline) × AreOutlines ls os) (stack_last of levels less old split) (h whole is))
 
--- what is left begins with an item that has no outline
+-- trees that begin with an item that has no outline have none
 first-closed : (old new part : List TokenTree) (outer : List (List TokenTree)) (kind : ItemKind) (name : Option Name)
     → Reads IsAnyItem old part new → Tells old new kind name → NeverIs kind part
     → (os : List Outline) × AreOutlines (old ∷ outer) os → ⊥
@@ -221,7 +221,7 @@ closed_stops of trees old levels less part new kind name h split reads told neve
     first-closed (of old) new part (stack of less) kind name reads told never
     (subst (λ ls. (os : List Outline) × AreOutlines ls os) (stack_last of levels less old split) (h whole is))
 
--- ---- whether some are left
+-- ---- whether trees are left
 
 pub empty_nil : (trees : List TokenTree) → true ≡ (length trees == 0) → trees ≡ []
 empty_nil [] is = refl

@@ -1,4 +1,4 @@
--- What is left to list.
+-- The declarations that are left to list.
 use Rattle.std.proofs.Common.{◌≡◌, refl, sym, ◌∙◌, ap, subst, ℕ, suc, List, [], ◌∷◌, ◌++◌, length, map}
 use Rattle.std.proofs.Common.{append_assoc, append-nil, reverse, Option, Some, None, MatchOption}
 use Rattle.std.proofs.lemmas.List.{length-map, length-reverse, reverse-append}
@@ -19,25 +19,25 @@ use Rattle.outline.specs.Outline.{entries_of, entries_onto, entry_of}
 use Rattle.outline.specs.Outline.{is_listed, item, last_of, listed, nothing, seen}
 use Rattle.outline.specs.declared.entries.Entry.{Entry as Given}
 
--- the items that are left, the innermost first
+-- the outlines are those of the trees that are left, the innermost first
 abbrev pub AreOutlines : List (List TokenTree) → List Outline → Type 0
 AreOutlines [] [] = Unit {0}
 AreOutlines [] (o ∷ os) = ⊥
 AreOutlines (items ∷ outer) [] = ⊥
 AreOutlines (items ∷ outer) (o ∷ os) = IsOutline items o × AreOutlines outer os
 
--- the declarations among them
+-- the declarations of the outlines that are left
 abbrev pub rests : List Outline → List Entry
 rests [] = []
 rests (o ∷ os) = entries_onto (length os) o (rests os)
 
--- those that were found, and those of what is left, are those of all items
+-- the declarations so far and those of the trees that are left are the declarations of all items
 abbrev pub Completes : List TokenTree → List Entry → List (List TokenTree) → Type 0
 Completes trees found levels =
     (os : List Outline) → AreOutlines levels os
     → (whole : Outline) × IsTreesOutline trees whole × (found ++ rests os ≡ entries_of whole)
 
--- what is left of levels, the innermost first, by what is left of each. They stand with the innermost last
+-- the trees that are left in each level, the innermost first. The list of levels has the innermost last
 abbrev pub stack : {T : Type 0} → (T → List TokenTree) → List T → List (List TokenTree)
 stack of levels = map of (reverse levels)
 
@@ -48,7 +48,7 @@ stack_last of levels less last split = ap (map of) (ap reverse split ∙ reverse
 stack_length : {T : Type 0} (of : T → List TokenTree) (levels : List T) → length (stack of levels) ≡ length levels
 stack_length of levels = length-map (reverse levels) of ∙ length-reverse levels
 
--- the items of a level in the program
+-- the trees that are left in a level of the program
 abbrev pub items_left : Items → List TokenTree
 items_left items = items.left.now
 
@@ -122,7 +122,7 @@ as_many [] (o ∷ os) are = absurd are
 as_many (items ∷ outer) [] are = absurd are
 as_many (items ∷ outer) (o ∷ os) are = ap suc (as_many outer os are.1)
 
--- those that were found are followed by this one, if it is listed
+-- the declarations so far, and then this one if it is listed
 abbrev pub IsPut : List Entry → List Entry → ℕ → ItemKind → Option Name → List TokenTree → Type 0
 IsPut found more depth kind name header =
     more ≡ found ++ listed (is_listed kind name) (entry_of depth kind name header)
@@ -157,7 +157,7 @@ completes_item of trees found more old new inside levels less once twice kind na
     (subst (Completes trees found) (stack_last of levels less old split) h) begins
     (subst (λ n. IsPut found more n kind name header) (sym (stack_length of less)) put))
 
--- the same of one in which there are no items
+-- the declarations are complete after an item without items in it
 pub completes_alone : {T : Type 0} (of : T → List TokenTree) (trees : List TokenTree) (found more : List Entry)
     (old new : T) (levels less once : List T) (kind : ItemKind) (name : Option Name) (header : List TokenTree)
     → Completes trees found (stack of levels) → levels ≡ less ++ old ∷ []
@@ -170,7 +170,7 @@ completes_alone of trees found more old new levels less once kind name header h 
     (subst (Completes trees found) (stack_last of levels less old split) h) begins
     (subst (λ n. IsPut found more n kind name header) (sym (stack_length of less)) put)))
 
--- what was put in after it was seen
+-- the entry of an item is appended if it is listed
 pub is_put : (found more : List Given) (entry : Given) (depth size : ℕ) (it : AnyItem) (inside : Items)
     → Opens depth it entry inside → depth ≡ size
     → map seen more ≡ map seen found ++ listed (is_listed entry.kind (option_copied entry.name)) (seen entry)
@@ -179,7 +179,7 @@ is_put found more entry depth size it inside opens deep put =
     subst (λ n. IsPut (map seen found) (map seen more) n it.kind (option_copied it.name) entry.header.now) deep
     (subst (λ (e : Entry). map seen more ≡ map seen found ++ listed (is_listed e.kind e.name) e) opens.is put)
 
--- ---- the tree before the last
+-- ---- the last tree but one
 
 pub last_of-two : (front : List TokenTree) (before last : TokenTree)
     → last_of ((front ++ before ∷ []) ++ last ∷ []) ≡ extent_of before

@@ -1,4 +1,4 @@
--- Spans of a map's one text.
+-- Spans in a map that has only one text.
 use Rattle.std.proofs.Common.{◌≡◌, ◌∙◌, ◌+◌, ◌-◌, ◌≤◌, ◌&&◌, ◌++◌, ◌⊎◌, inl, inr, ℕ, Bool, true, false, List, [], ◌∷◌}
 use Rattle.std.proofs.Common.{refl, sym, ap, ap₂, subst, arith, length, nat_le, zero, suc, if◌then◌else◌, max, min, ◌≢◌}
 use Rattle.std.proofs.Math.Bool.{and-false}
@@ -14,7 +14,7 @@ use Rattle.pm_span.specs.declared.location.LineColumn.{LineColumn}
 use Rattle.messages.specs.Parsed.{first, line_column_of}
 use Rattle.outline.specs.Answer.{is_in, place_in, through}
 
--- a file of the map is the text, or the empty one before it
+-- a file of the map is the text, or the empty file before it
 pub one_of_two : (text source : List ℕ) (lo : ℕ) → IsFile (with_file new_map text) source lo
     → ((source ≡ text) × (lo ≡ 1)) ⊎ ((source ≡ []) × (lo ≡ 0))
 one_of_two text source lo file = by_front file.before file.after file.whole file.begins
@@ -37,7 +37,7 @@ is_text text = record { before = [] ∷ []; after = []; whole = refl; begins = r
 pub is_empty : (text : List ℕ) → IsFile (with_file new_map text) [] 0
 is_empty text = record { before = []; after = text ∷ []; whole = refl; begins = refl }
 
--- ---- the test
+-- ---- whether the map holds a span
 
 both_true : (a b : Bool) → (a && b) ≡ true → (a ≡ true) × (b ≡ true)
 both_true true true is = (refl, refl)
@@ -87,7 +87,7 @@ false_not false never = refl
 pub not_held : (text : List ℕ) (span : Extent) → (Holds (with_file new_map text) span → ⊥) → is_in text span ≡ false
 not_held text span never = false_not (is_in text span) (λ is. never (in_held text span is))
 
--- ---- where it starts
+-- ---- where a span begins
 
 pub starts_in : (text : List ℕ) (span : Extent) (start : LineColumn) → Holds (with_file new_map text) span
     → StartsAt (with_file new_map text) span start → start ≡ place_in text span
@@ -116,7 +116,7 @@ through_if : (text : List ℕ) (from to : Extent) (both : Bool) → (is_in text 
 through_if text from to both is =
     ap (λ b. if b then between text (min from.lo to.lo - first) (max from.hi to.hi - first) else []) is
 
--- both are in the text, or in no file
+-- both spans are in the text, or in no file
 one_file : (text : List ℕ) (from to : Extent) → AreInOneFile (with_file new_map text) from to
     → ((is_in text from ≡ true) × (is_in text to ≡ true))
     ⊎ (((is_in text from && is_in text to) ≡ false) × (joined from to ≡ nowhere))
@@ -172,14 +172,14 @@ in_one text from to is also =
       second_to = other.1;
     }
 
--- the first is in no file
+-- the first span is in no file
 pub through_unheld : (text : List ℕ) (from to : Extent) → (Holds (with_file new_map text) from → ⊥)
     → chars [] ≡ through text from to
 through_unheld text from to never =
     chars-nil
     ∙ sym (through_if text from to false (ap (λ b. b && is_in text to) (not_held text from never)))
 
--- they don't join
+-- the two spans cannot be joined
 pub through_apart : (text : List ℕ) (from to : Extent) → (AreInOneFile (with_file new_map text) from to → ⊥)
     → chars [] ≡ through text from to
 through_apart text from to never =
@@ -188,7 +188,7 @@ through_apart text from to never =
     let are = both_true (is_in text from) (is_in text to) both in
     never (in_one text from to are.0 are.1))))
 
--- they join to what is in no file
+-- the two spans join to a span in no file
 pub through_nowhere : (text : List ℕ) (from to span : Extent) → AreInOneFile (with_file new_map text) from to
     → span ≡ joined from to → span ≡ nowhere → chars [] ≡ through text from to
 through_nowhere text from to span one joins none = by_file (one_file text from to one)
@@ -202,7 +202,7 @@ through_nowhere text from to span one joins none = by_file (one_file text from t
         absurd (omega (arith, least, zeroth))
     by_file (inr (is, nil)) = chars-nil ∙ sym (through_if text from to false is)
 
--- they join to a span of the text
+-- the two spans join to a span in the text
 pub through_some : (text source : List ℕ) (from to span : Extent) → AreInOneFile (with_file new_map text) from to
     → span ≡ joined from to → span ≢ nowhere → HasText (with_file new_map text) span (chars source)
     → chars source ≡ through text from to

@@ -13,7 +13,7 @@ use Rattle.std.specs.Ordering.{is_lt, nat_cmp}
 use Rattle.std.specs.String.{string_cmp}
 use Rattle.outline.specs.Tags.{ended}
 
--- a line is written, before those that are left
+-- the lines from one on are written as this line and then the next lines
 pub ended_one : (lines : List (String Global)) (k : ℕ) (line : String Global) (old between new : Option (List ℕ))
     → k < length lines → line ≡ get_or lines k line
     → Appends old between (string_bytes line ++ codes "\n")
@@ -35,7 +35,7 @@ ended_none lines k known past =
     subst (λ l. Appends known known (ended (map string_bytes l))) (sym (drop_of_length-le lines past))
     (Appends-nil known)
 
--- texts in order are so by their bytes
+-- lines in the order of strings are in the order of their bytes
 pub sorted_bytes : (lines : List (String Global)) → IsSorted string_cmp lines
     → IsSorted (slice_cmp nat_cmp) (map string_bytes lines)
 sorted_bytes [] h = λ k d low high. absurd (omega arith)

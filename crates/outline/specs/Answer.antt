@@ -1,4 +1,4 @@
--- What is listed of a text.
+-- The lines that the program writes for a text.
 use Rattle.std.specs.Prelude.{ℕ, ◌≡◌, ◌+◌, ◌-◌, ◌&&◌, Bool, false, List, [], ◌∷◌, ◌++◌, Option, Some, None, is_some}
 use Rattle.std.specs.Prelude.{length, max, min, nat_le, if◌then◌else◌}
 use Rattle.std.specs.Option.{option_to_list}
@@ -17,15 +17,15 @@ use Rattle.outline.specs.declared.options.Form.{Form}
 
 -- ---- a span of the text
 
--- whether it has the span
+-- whether the span is in the text
 abbrev pub is_in : List ℕ → Extent → Bool
 is_in text span = nat_le first span.lo && nat_le span.hi (first + length text)
 
--- the span's line and column, or those of the text's front
+-- the line and the column where the span begins, or those of the text's start if the span is not in the text
 abbrev pub place_in : List ℕ → Extent → LineColumn
 place_in text span = line_column_of text (if is_in text span then span.lo else first)
 
--- what stands from the one span through the other
+-- the text from the start of one span to the end of the other
 abbrev pub through : List ℕ → Extent → Extent → List ℕ
 through text from to =
     if is_in text from && is_in text to
@@ -34,12 +34,12 @@ through text from to =
 
 -- ---- a declaration of the text
 
--- its name, or the header without the body on one line
+-- the name of a declaration, or its header on one line, without the body
 abbrev pub name_in : List ℕ → Option Name → List TokenTree → List ℕ
 name_in text (Some name) header = spelling name
 name_in text None header = one_line false (through text (first_of header) (last_of header))
 
--- as it is shown
+-- a declaration as it is shown
 abbrev pub shown : List ℕ → Entry → Line
 shown text entry = record {
   depth = entry.depth;
@@ -49,15 +49,15 @@ shown text entry = record {
   start = place_in text (first_of entry.header);
 }
 
--- the lines of these, in order
+-- the lines of the declarations, in order
 abbrev pub lines_of : Form → List ℕ → List ℕ → List Entry → List (List ℕ)
 lines_of form path text [] = []
 lines_of form path text (entry ∷ entries) =
     option_to_list (line_of form path (shown text entry)) ++ lines_of form path text entries
 
--- ---- a text
+-- ---- all declarations of a text
 
--- these are the lines of the declarations of the text's items
+-- these are the lines of the declarations in the text
 pub record Lists (form : Form) (path text : List ℕ) (lines : List (List ℕ)) : Type 0 where
   pub trees : List TokenTree
   pub parses : ParsesTo first text (forest trees)
@@ -65,7 +65,7 @@ pub record Lists (form : Form) (path text : List ℕ) (lines : List (List ℕ)) 
   pub are : IsTreesOutline trees outline
   pub each : lines ≡ lines_of form path text (entries_of outline)
 
--- the text parses, to trees that are no file of items
+-- the text parses, but its trees are not the items of a file
 pub record IsUnlisted (text : List ℕ) : Type 0 where
   pub trees : List TokenTree
   pub parses : ParsesTo first text (forest trees)

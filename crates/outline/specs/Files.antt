@@ -7,29 +7,29 @@ use Rattle.outline.specs.declared.files.Listed.{Listed}
 use Rattle.outline.specs.declared.options.Form.{Form}
 use Rattle.outline.specs.declared.options.Form.TheVariants.{Lines, Json, Ctags}
 
--- the lines that were had of a file, and the status that it is worth
+-- the lines of a file and its status
 pub record Outcome : Type 0 where
   pub lines : List (List ℕ)
   pub status : ℕ
 
--- it in the program
+-- the program's record of a file, as its lines and its status
 abbrev pub outcome_of : Listed → Outcome
 outcome_of listed = record { lines = map string_bytes listed.lines.items; status = listed.status }
 
--- the file at this path is listed: its text's lines are had, and the status is 0; or there are none, and it is 1 or 2
+-- a file at this path has these lines and the status 0, or it has no lines and the status 1 or 2
 abbrev pub IsOf : Form → List ℕ → Outcome → Type 0
 IsOf form path outcome =
     ((outcome.status ≡ 0) × ((text : List ℕ) × Lists form path text outcome.lines))
     ⊎ ((outcome.lines ≡ []) × ((outcome.status ≡ 1) ⊎ (outcome.status ≡ 2)))
 
--- these files are, one after the other
+-- the files at these paths have these lines and statuses, in order
 abbrev pub AreOf : Form → List (List ℕ) → List Outcome → Type 0
 AreOf form [] [] = Unit {0}
 AreOf form [] (outcome ∷ outcomes) = ⊥
 AreOf form (path ∷ paths) [] = ⊥
 AreOf form (path ∷ paths) (outcome ∷ outcomes) = IsOf form path outcome × AreOf form paths outcomes
 
--- the lines of all of them, in order
+-- the lines of all files, in order
 abbrev pub all_lines : List Outcome → List (List ℕ)
 all_lines [] = []
 all_lines (outcome ∷ outcomes) = outcome.lines ++ all_lines outcomes
@@ -39,7 +39,7 @@ abbrev pub worst : List Outcome → ℕ
 worst [] = 0
 worst (outcome ∷ outcomes) = max outcome.status (worst outcomes)
 
--- what is written of these lines: each with its end, or a `tags` file
+-- the lines are written to the output: each with its end, or as a `tags` file
 abbrev pub Writes : Form → List (List ℕ) → Option (List ℕ) → Option (List ℕ) → Type 0
 Writes Lines lines old new = Appends old new (ended lines)
 Writes Json lines old new = Appends old new (ended lines)

@@ -14,11 +14,11 @@ trees_in (leaf token lo hi rest) = token_tree token lo hi ∷ trees_in rest
 trees_in (group d lo hi inside rest) =
     Group (record { delimiter = d; stream = inside; span = record { lo = lo; hi = hi } }) ∷ trees_in rest
 
--- the group, and of the trees inside only what `outer` keeps
+-- a group in which only those trees are left that `kept_inside` keeps
 abbrev pub hollow_group : Grouped → Grouped
 hollow_group g = record g { stream = kept_inside g.delimiter g.stream }
 
--- the tree, likewise
+-- a tree. If it is a group, only those trees are left in it that `kept_inside` keeps
 abbrev pub hollow : TokenTree → TokenTree
 hollow (Group g) = Group (hollow_group g)
 hollow (Ident i) = Ident i

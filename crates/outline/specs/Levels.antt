@@ -1,4 +1,4 @@
--- What is read of levels: the file, and the braces of each declaration that is open.
+-- The levels that are open while items are read: the file, and the braces of declarations.
 use Rattle.std.specs.Prelude.{◌≡◌, ℕ, ◌<◌, ◌⊎◌, List, ◌∷◌, Option, is_some, length, option_map, string_bytes}
 use Rattle.std.specs.Option.{option_to_list}
 use Rattle.pm_span.specs.Files.{Files, new_map, with_file}
@@ -24,15 +24,15 @@ use Rattle.outline.specs.declared.options.Form.{Form}
 abbrev pub trees_left : Cursor → List TokenTree
 trees_left cursor = trees_in (left cursor)
 
--- those that a level has
+-- the trees that a level has left
 abbrev pub level_left : Level → List TokenTree
 level_left level = trees_left level.rest
 
--- the group comes first
+-- the group is the first tree that the cursor has left
 abbrev pub BeginsWith : Cursor → Grouped → Type 0
 BeginsWith cursor group = (rest : List TokenTree) × (trees_left cursor ≡ Group group ∷ rest)
 
--- the step takes the item at the front of the trees, which is in so many, and has its line
+-- the step takes the item at the start of the trees, which is in `depth` declarations, and has the line of this item
 pub record Takes (files : Files) (form : Form) (path : List ℕ) (depth : ℕ) (trees : List TokenTree) (step : Step)
     : Type 0 where
   pub part : List TokenTree
@@ -50,7 +50,7 @@ pub record Takes (files : Files) (form : Form) (path : List ℕ) (depth : ℕ) (
   pub line : (text : List ℕ) → files ≡ with_file new_map text → option_to_list (option_map string_bytes step.line)
       ≡ lines_of form path text (listed (is_listed kind name) (entry_of depth kind name header))
 
--- an item is at the front of the trees that has no outline
+-- the trees begin with an item that has no outline
 pub record IsClosed (trees : List TokenTree) : Type 0 where
   pub part : List TokenTree
   pub rest : List TokenTree
@@ -60,6 +60,6 @@ pub record IsClosed (trees : List TokenTree) : Type 0 where
   pub told : Tells trees rest kind name
   pub never : NeverIs kind part
 
--- no item is, or one that has no outline
+-- the trees begin with no item, or with one that has no outline
 abbrev pub IsStopped : List TokenTree → Type 0
 IsStopped trees = ((part rest : List TokenTree) → Reads IsAnyItem trees part rest → ⊥) ⊎ IsClosed trees

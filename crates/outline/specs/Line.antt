@@ -9,8 +9,8 @@ use Rattle.outline.specs.declared.lines.Shown.{Shown}
 use Rattle.outline.specs.declared.options.Form.{Form}
 use Rattle.outline.specs.declared.options.Form.TheVariants.{Lines, Json, Ctags}
 
--- how many declarations it stands in, what is declared, whether it has a name, its name or its header, and where it
--- begins
+-- a declaration as it is shown: the number of declarations it is in, its kind, whether it has a name, its name or
+-- header, and where it begins
 pub record Line : Type 0 where
   pub depth : ℕ
   pub kind : ItemKind
@@ -18,7 +18,7 @@ pub record Line : Type 0 where
   pub name : List ℕ
   pub start : LineColumn
 
--- it in the program
+-- the program's record of a shown declaration, as a `Line`
 abbrev pub seen : Shown → Line
 seen x = record {
   depth = x.depth;
@@ -28,7 +28,7 @@ seen x = record {
   start = x.start;
 }
 
--- the word for a kind of declaration
+-- the word for a kind of item
 abbrev pub word_of : ItemKind → List ℕ
 word_of kinds.Constant = codes "const"
 word_of kinds.Enum = codes "enum"
@@ -48,38 +48,38 @@ word_of kinds.TypeAlias = codes "type"
 word_of kinds.Union = codes "union"
 word_of kinds.Use = codes "use"
 
--- the text so many times
+-- the text, repeated so many times
 abbrev pub times : ℕ → List ℕ → List ℕ
 times zero text = []
 times (suc n) text = text ++ times n text
 
--- two spaces for each level, of 32 at most
+-- two spaces for each level, for at most 32 levels
 abbrev pub indent : ℕ → List ℕ
 indent depth = times (min depth 32) (codes "  ")
 
--- what is declared: the word and the name, or the header
+-- the word for the kind and the name, or the header if there is no name
 abbrev pub title : Line → List ℕ
 title x = if x.named then word_of x.kind ++ (codes " " ++ x.name) else x.name
 
--- `FILE:L:C: fn name`, the line and the column from 1
+-- the line `FILE:L:C: fn name`. Line and column count from 1
 abbrev pub plain : List ℕ → Line → List ℕ
 plain path x =
     path ++ (codes ":" ++ (decimal x.start.line ++ (codes ":" ++ (decimal (x.start.column + 1) ++ (codes ": "
     ++ (indent x.depth ++ title x))))))
 
--- an object of JSON
+-- the declaration as a JSON object
 abbrev pub json : List ℕ → Line → List ℕ
 json path x =
     codes "{\"file\":\"" ++ (escaped path ++ (codes "\",\"line\":" ++ (decimal x.start.line ++ (codes ",\"column\":"
     ++ (decimal (x.start.column + 1) ++ (codes ",\"kind\":\"" ++ (word_of x.kind ++ (codes "\",\"name\":\""
     ++ (escaped x.name ++ (codes "\",\"depth\":" ++ (decimal x.depth ++ codes "}")))))))))))
 
--- that of a `tags` file
+-- the line of a declaration in a `tags` file
 abbrev pub tag : List ℕ → Line → List ℕ
 tag path x =
     x.name ++ (codes "\t" ++ (path ++ (codes "\t" ++ (decimal x.start.line ++ (codes ";\"\t" ++ word_of x.kind)))))
 
--- in a `tags` file only what has a name has one
+-- the line of a declaration. A `tags` file has lines only for items with names
 abbrev pub line_of : Form → List ℕ → Line → Option (List ℕ)
 line_of Lines path x = Some (plain path x)
 line_of Json path x = Some (json path x)
@@ -87,11 +87,11 @@ line_of Ctags path x = if x.named then Some (tag path x) else None
 
 -- ---- a header
 
--- a character after a gap or not: spaces (32) and controls are gaps, and a space stands for a gap before another
+-- a character, and a space before it if it is after a gap. Spaces (32) and control characters are gaps
 abbrev pub in_line : Bool → ℕ → List ℕ
 in_line gap c = if nat_le c 32 then [] else (if gap then 32 ∷ encode_utf8 c else encode_utf8 c)
 
--- characters on one line, the first of them after a gap or not: a space for each gap, but for one at the end
+-- the characters on one line, with one space for each gap except at the end. The first may be after a gap
 abbrev pub one_line : Bool → List ℕ → List ℕ
 one_line gap [] = []
 one_line gap (c ∷ cs) = in_line gap c ++ one_line (nat_le c 32) cs

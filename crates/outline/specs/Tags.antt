@@ -1,20 +1,20 @@
--- Lines, and what is written of them.
+-- How lines are written.
 use Rattle.std.specs.Prelude.{ℕ, List, [], ◌∷◌, ◌++◌, Option, codes}
 use Rattle.std.specs.Cmp.Lexicographic.{slice_cmp}
 use Rattle.std.specs.Io.KnownBytes.{Appends}
 use Rattle.std.specs.List.Sorted.{IsPermutation, IsSorted}
 use Rattle.std.specs.Ordering.{nat_cmp}
 
--- each line with its end
+-- the lines, each with its end
 abbrev pub ended : List (List ℕ) → List ℕ
 ended [] = []
 ended (line ∷ lines) = line ++ (codes "\n" ++ ended lines)
 
--- a `tags` file of these lines
+-- the text of a `tags` file with these lines
 abbrev pub tags : List (List ℕ) → List ℕ
 tags lines = codes "!_TAG_FILE_SORTED\t1\t//\n" ++ ended lines
 
--- what is written between old and new is a `tags` file of these lines, in the order of their bytes
+-- a `tags` file with these lines, in the order of their bytes, is written between `old` and `new`
 pub record WritesTags (lines : List (List ℕ)) (old new : Option (List ℕ)) : Type 0 where
   pub sorted : List (List ℕ)
   pub same : IsPermutation lines sorted

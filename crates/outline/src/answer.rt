@@ -1,4 +1,4 @@
-//! What the program lists of a text.
+//! The lines that the program writes for a text.
 ghost use Rattle.std.specs.Prelude.{◌≡◌, ℕ, IfErr, IfOk, List, None, is_some, map as mapped, option_map};
 ghost use Rattle.std.specs.Prelude.{string_bytes};
 ghost use Rattle.std.specs.Str.{chars};
@@ -23,18 +23,19 @@ use proc_macro2::{LineColumn, SourceMap, TokenStream};
 use std::alloc::{AllocError, Global};
 use token_buffer::{BufferError, TokenBuffer};
 
-/// Where a file has what is no declaration.
+/// An error: where a file has something that is no item.
 #[derive(Clone, Copy)]
 pub struct Unlisted {
-    /// Where that begins.
+    /// The line and the column of the error.
     pub start: LineColumn,
-    /// What doesn't fit.
+    /// The error in the trees.
     pub fault: Fault,
 }
 
-/// The lines of the declarations in the text of the file at this path, in reading order; or where it has no such.
+/// Returns the lines of the declarations in the text, in reading order. `path` is the path of the file.
 ///
-/// Fails with `Fault` where the text doesn't parse, with `MapFull` where it is too long, and with `Memory`.
+/// If the text parses but its trees are no items, it returns `Unlisted`. Fails with `Fault` if the text does not parse,
+/// with `MapFull` if it is too long, and with `Memory`.
 pub fn lines_of(
     alloc: Global,
     form: Form,
@@ -58,7 +59,7 @@ pub fn lines_of(
     }
 }
 
-/// The map of this text alone.
+/// A source map that has only this text.
 fn map_of(alloc: Global, text: &str) -> Result<SourceMap, Failure>
     ensures ok { IfOk result (λ map. map ≡ with_file new_map (chars text.now)) }
     ensures err { IfErr result (MayFail (chars text.now) None None) }
@@ -71,7 +72,7 @@ fn map_of(alloc: Global, text: &str) -> Result<SourceMap, Failure>
     Ok(map)
 }
 
-/// The same of a text that has too many bytes or tokens for a buffer: all of its trees are made.
+/// Does the same as `lines_of`, but builds all trees of the text, which has too many bytes or tokens for a buffer.
 fn lines_by_trees(
     alloc: Global,
     form: Form,
@@ -94,7 +95,7 @@ fn lines_by_trees(
     }
 }
 
-/// The lines of these entries of the map's one text.
+/// The lines of these entries. The map has only their text.
 fn all_lines(
     alloc: Global,
     form: Form,
@@ -114,7 +115,7 @@ fn all_lines(
     Ok(lines)
 }
 
-/// The line of an entry of the map's one text.
+/// Returns the line of an entry. The map has only the entry's text.
 pub fn entry_line(
     alloc: Global,
     form: Form,
@@ -139,7 +140,7 @@ pub fn entry_line(
 }
 
 impl<'a> Entry<'a> {
-    /// It under this name or header, where it begins.
+    /// The entry as it is shown, with this name or header and this start.
     fn shown<'b>(&self, name: &'b str, start: LineColumn) -> Shown<'b>
         ensures { seen_line result ≡ record {
           depth = self.now.depth;
@@ -159,7 +160,7 @@ impl<'a> Entry<'a> {
     }
 }
 
-/// The name as it is written.
+/// The name as it is written, with `r#` if it is raw.
 fn spelled(alloc: Global, name: &Ident) -> Result<String, AllocError>
     ensures { IfOk result (λ out. string_bytes out ≡ spelling name.now) }
 {
@@ -168,7 +169,7 @@ fn spelled(alloc: Global, name: &Ident) -> Result<String, AllocError>
     Ok(out)
 }
 
-/// The text from the first tree of the entry's header through the one before the last.
+/// The text of the entry's header, without the last tree if there are several.
 fn header_of<'a>(entry: &Entry<'_>, map: &'a SourceMap) -> &'a str
     ensures { (text : List ℕ) → map.now ≡ with_file new_map text → chars result.now
         ≡ through text (first_of entry.now.header.now) (last_of entry.now.header.now) }
@@ -176,7 +177,7 @@ fn header_of<'a>(entry: &Entry<'_>, map: &'a SourceMap) -> &'a str
     through(first_of(entry.header), last_of(entry.header), map)
 }
 
-/// The text from the one span through the other.
+/// The text from the start of one span to the end of the other.
 fn through(from: Span, to: Span, map: &SourceMap) -> &str
     ensures { (text : List ℕ) → map.now ≡ with_file new_map text → chars result.now ≡ through text from to }
 {
@@ -192,7 +193,7 @@ fn through(from: Span, to: Span, map: &SourceMap) -> &str
     }
 }
 
-/// Where the span begins, if the map holds it.
+/// The line and the column where the span begins, or those of the text's start if the span is not in the map.
 fn start_of(span: Span, map: &SourceMap) -> LineColumn
     ensures { (text : List ℕ) → map.now ≡ with_file new_map text → result ≡ place_in text span }
 {
@@ -204,14 +205,14 @@ fn start_of(span: Span, map: &SourceMap) -> LineColumn
 }
 
 impl Stop {
-    /// What is said of it.
+    /// The error with its line and column.
     fn unlisted(self, map: &SourceMap) -> Unlisted {
         let fault = self.fault;
         let start = self.place(map);
         Unlisted { start, fault }
     }
 
-    /// Where the fault stands: at its tree, or after the last one.
+    /// The line and the column of the error: at its tree, or after the last tree.
     fn place(self, map: &SourceMap) -> LineColumn {
         if let Some(span) = self.fault.span {
             return start_of(span, map);
@@ -223,7 +224,7 @@ impl Stop {
     }
 }
 
-/// Where the span ends, if the map holds it.
+/// The line and the column where the span ends, or those of the text's start if the span is not in the map.
 fn end_of(span: Span, map: &SourceMap) -> LineColumn {
     if map.holds(span) {
         span.end(map)

@@ -1,4 +1,4 @@
-//! The declarations among trees.
+//! The declarations in trees.
 ghost use Rattle.std.specs.Prelude.{◌≡◌, ◌++◌, IfErr, IfOk, List, OnOk, map, option_copied};
 ghost use Rattle.pm_stream.specs.declared.stream.TokenTree.{TokenTree as Tree};
 ghost use Rattle.declarations.specs.Forms.{AreAttributes, AreInnerAttributes};
@@ -13,31 +13,32 @@ use pm_stream::TokenTree;
 use pm_token::Ident;
 use std::alloc::{AllocError, Global};
 
-/// A declaration.
+/// A declaration that may be listed.
 #[derive(Clone, Copy)]
 pub struct Entry<'a> {
-    /// How many declarations it stands in.
+    /// The number of declarations that it is in.
     pub depth: usize,
-    /// What is declared.
+    /// The kind of the item.
     pub kind: ItemKind,
-    /// Its name, but for an `impl` and a block of foreign items.
+    /// The name, or `None` if it has none, such as an `impl` or an `extern` block.
     pub name: Option<&'a Ident>,
-    /// Its trees after its attributes.
+    /// The trees of the item after its attributes.
     pub header: &'a [TokenTree],
 }
 
-/// Where trees are no declarations.
+/// An error: where trees are no items.
 #[derive(Clone, Copy)]
 pub struct Stop {
-    /// What doesn't fit.
+    /// The error in the trees.
     pub fault: Fault,
-    /// The last tree before the end, at which more may be missing.
+    /// The span of the last tree, after which more trees may be missing.
     pub last: Option<Span>,
 }
 
-/// The declarations of a file, in reading order, each before those in it; or where trees are no items.
+/// Returns the declarations of a file in reading order, each before those in it.
 ///
-/// Of `mod m { fn f() {} } struct S;` they are `m`, `f` at the depth 1, and `S`.
+/// If the trees are no items, it returns a `Stop`. For `mod m { fn f() {} } struct S;` it returns `m`, `f` with the
+/// depth 1, and `S`.
 pub fn entries<'a>(
     alloc: Global,
     trees: &'a [TokenTree],
@@ -52,10 +53,10 @@ pub fn entries<'a>(
         Ok(items) => items,
         Err(stop) => return Ok(Err(stop)),
     };
-    // What is left of the file and of each declaration that is open, the innermost last.
+    // The items that are left of the file and of each open declaration. The innermost comes last.
     let mut levels = Vec::new(alloc);
     levels.push(items)?;
-    // A step takes an item or leaves a declaration: there are fewer than the bound, which no memory has trees for.
+    // Each step takes an item or leaves a declaration. The bound is never reached: memory cannot hold so many trees.
     'walk: for _ in 0..u64::MAX {
         let Some(mut here) = levels.pop() else {
             return Ok(Ok(entries));
@@ -82,7 +83,7 @@ pub fn entries<'a>(
     Err(AllocError)
 }
 
-/// Puts in an entry that is listed.
+/// Appends the entry if it is listed.
 fn push_listed<'a>(entries: &mut Vec<Entry<'a>>, entry: Entry<'a>) -> Result<(), AllocError>
     ensures { OnOk result (map seen entries.new.items ≡ map seen entries.old.items
         ++ listed (is_listed entry.entry.kind (option_copied entry.entry.name)) (seen entry.entry)) }
@@ -93,7 +94,7 @@ fn push_listed<'a>(entries: &mut Vec<Entry<'a>>, entry: Entry<'a>) -> Result<(),
     Ok(())
 }
 
-/// Whether an item is listed: it has a name, or a header in place of one.
+/// Returns whether the item is listed: it has a name, or its header is shown instead of one.
 pub fn is_listed(entry: &Entry<'_>) -> bool
     ensures { result ≡ is_listed entry.now.kind (option_copied entry.now.name) }
 {
@@ -116,7 +117,7 @@ fn items_of(trees: &[TokenTree]) -> Result<Items<'_>, Stop>
     }
 }
 
-/// The entry of an item that is in so many, and the items in it.
+/// The entry of an item, and the items in its braces. `depth` is the number of declarations that it is in.
 fn open_item<'a>(depth: usize, item: &AnyItem<'a>) -> Result<(Entry<'a>, Items<'a>), Stop>
     ensures ok { IfOk result (λ found. Opens depth item.now found.0 found.1) }
     ensures none { IfErr result (λ stop. NeverOpens item.now) }
@@ -131,7 +132,7 @@ fn open_item<'a>(depth: usize, item: &AnyItem<'a>) -> Result<(Entry<'a>, Items<'
     }
 }
 
-/// The items in an item.
+/// The items in the braces of an item, or none if it has no such braces.
 fn items_in<'a>(item: &AnyItem<'a>) -> Result<Items<'a>, Stop>
     ensures ok { IfOk result (λ inside. AreInside (body_of item.now.kind item.now.trees.now) inside.left.now) }
     ensures none { IfErr result (λ stop. (items : List Tree)
@@ -143,7 +144,7 @@ fn items_in<'a>(item: &AnyItem<'a>) -> Result<Items<'a>, Stop>
     }
 }
 
-/// The entry of an item that is in so many.
+/// Returns the entry of an item. `depth` is the number of declarations that it is in.
 pub fn entry_of<'a>(depth: usize, item: &AnyItem<'a>) -> Result<Entry<'a>, Stop>
     ensures ok { IfOk result (λ entry. (attributes : List Tree)
         × Reads AreAttributes item.now.trees.now attributes entry.header.now
@@ -162,7 +163,7 @@ pub fn entry_of<'a>(depth: usize, item: &AnyItem<'a>) -> Result<Entry<'a>, Stop>
     }
 }
 
-/// Where the first of the trees stands.
+/// Returns the span of the first tree.
 pub fn first_of(trees: &[TokenTree]) -> Span
     ensures { result ≡ first_of trees.now }
 {
@@ -172,7 +173,7 @@ pub fn first_of(trees: &[TokenTree]) -> Span
     }
 }
 
-/// Where the tree before the last stands, or the only one.
+/// Returns the span of the last tree but one, or of the only tree.
 pub fn last_of(trees: &[TokenTree]) -> Span
     ensures { result ≡ last_of trees.now }
 {
@@ -186,7 +187,7 @@ pub fn last_of(trees: &[TokenTree]) -> Span
 }
 
 impl Stop {
-    /// The fault of these trees.
+    /// Returns the error in these trees.
     pub fn at(fault: Fault, trees: &[TokenTree]) -> Stop {
         let last = match trees.split_last() {
             Some((last, _)) => Some(last.span()),

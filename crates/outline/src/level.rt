@@ -1,4 +1,4 @@
-//! What is open while a text's items are read.
+//! The part of a file that is open while its items are read.
 ghost use Rattle.std.specs.Prelude.{◌≡◌, drop, map as mapped};
 ghost use Rattle.token_buffer.specs.Reads.{left};
 ghost use Rattle.outline.specs.Hollow.{hollow, trees_in};
@@ -6,14 +6,14 @@ ghost use Rattle.outline.specs.Hollow.{hollow, trees_in};
 use pm_stream::TokenTree;
 use token_buffer::Cursor;
 
-/// A file, or the braces of a declaration, of which some items were read.
+/// A file, or the braces of a declaration. Some of its items may have been read.
 #[derive(Drop)]
 pub struct Level<'a> {
-    /// Its trees, with almost all groups empty.
+    /// The trees of the level. Almost all groups in them are empty.
     pub trees: Vec<TokenTree>,
-    /// How many of them were read.
+    /// The number of trees that have been read.
     pub at: usize,
-    /// What is left.
+    /// The trees that are left, with all that is in their groups.
     pub rest: Cursor<'a>,
     ghost even: { drop at trees.items ≡ mapped hollow (trees_in (left rest)) },
 }

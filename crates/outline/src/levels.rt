@@ -1,4 +1,4 @@
-//! The lines of the declarations of a text, without trees of what isn't read: bodies of functions, and the like.
+//! The lines of a text's declarations. No trees are built for what is not read, such as the bodies of functions.
 ghost use Rattle.std.specs.Prelude.{◌≡◌, ◌+◌, ◌-◌, ◌++◌, ◌<◌, ◌≤◌, ℕ, IfErr, IfOk, List, [], OnOk, drop, length};
 ghost use Rattle.std.specs.Prelude.{map as mapped, option_copied, option_map, string_bytes};
 ghost use Rattle.std.specs.Option.{option_to_list};
@@ -20,18 +20,18 @@ use proc_macro2::SourceMap;
 use std::alloc::{AllocError, Global};
 use token_buffer::Cursor;
 
-/// An item that was read.
+/// An item that has been read.
 #[derive(Drop)]
 struct Step {
-    /// Its line, if it has one.
+    /// The line of the item, if it is listed.
     line: Option<String>,
-    /// How many trees it has.
+    /// The number of its trees.
     count: usize,
-    /// Whether its last tree is braces in which items stand.
+    /// Whether its last tree is a group in braces that holds items.
     has_body: bool,
 }
 
-/// The lines of the declarations that a file's trees are, in reading order; or where they are no items.
+/// Returns the lines of the declarations of a file in reading order, or a `Stop` if its trees are no items.
 pub fn lines_in(
     alloc: Global,
     form: Form,
@@ -50,10 +50,10 @@ pub fn lines_in(
         Ok(level) => level,
         Err(stop) => return Ok(Err(stop)),
     };
-    // The file and each declaration that is open, the innermost last.
+    // The file and each open declaration. The innermost comes last.
     let mut levels = Vec::new(alloc);
     levels.push(first)?;
-    // A step takes an item or leaves a declaration: there are fewer than the bound, which no memory has trees for.
+    // Each step takes an item or leaves a declaration. The bound is never reached: memory cannot hold so many trees.
     'walk: for _ in 0..u64::MAX {
         let Some(level) = levels.pop() else {
             return Ok(Ok(lines));
@@ -84,7 +84,7 @@ pub fn lines_in(
     Err(AllocError)
 }
 
-/// Puts in a line, if there is one.
+/// Appends the line, if there is one.
 fn push_line(lines: &mut Vec<String>, line: Option<String>) -> Result<(), AllocError>
     ensures { OnOk result (mapped string_bytes lines.new.items ≡ mapped string_bytes lines.old.items
         ++ option_to_list (option_map string_bytes line)) }
@@ -111,7 +111,7 @@ fn level_of(alloc: Global, whole: Cursor<'_>) -> Result<Result<Level<'_>, Stop>,
     Ok(Ok(Level { trees, at, rest }))
 }
 
-/// The items in the group that comes first.
+/// The items in the group that the cursor is at.
 fn inside_of(alloc: Global, body: Cursor<'_>) -> Result<Result<Level<'_>, Stop>, AllocError>
     requires { (group : Grouped) × BeginsWith body group }
     ensures ok { IfOk result (λ found. IfOk found (λ level. (group : Grouped) → BeginsWith body.entry group
@@ -125,7 +125,7 @@ fn inside_of(alloc: Global, body: Cursor<'_>) -> Result<Result<Level<'_>, Stop>,
     }
 }
 
-/// What is left after so many trees.
+/// The cursor after so many trees.
 fn past(cursor: Cursor<'_>, count: usize) -> Cursor<'_>
     ensures { trees_left result ≡ drop count (trees_left cursor.entry) }
 {
@@ -139,7 +139,7 @@ fn past(cursor: Cursor<'_>, count: usize) -> Cursor<'_>
     here
 }
 
-/// The level after so many of its trees, with the last of which the cursor begins.
+/// The level after so many more of its trees. `last` is the cursor at the last of these trees.
 fn passed<'a>(level: Level<'a>, count: usize, last: Cursor<'a>) -> Level<'a>
     requires within { level.at + count ≤ length level.trees.items }
     requires some { 0 < count }
@@ -154,7 +154,7 @@ fn passed<'a>(level: Level<'a>, count: usize, last: Cursor<'a>) -> Level<'a>
     }
 }
 
-/// The first of the items that are left of a level, which are in so many.
+/// Reads the next item of a level. `depth` is the number of declarations that the item is in.
 fn step_of(
     alloc: Global,
     form: Form,
@@ -184,7 +184,7 @@ fn step_of(
     }))
 }
 
-/// The line of an entry of the map's one text, if it is listed.
+/// The line of an entry, if it is listed. The map has only the entry's text.
 fn listed_line(
     alloc: Global,
     form: Form,

@@ -9,22 +9,22 @@ use messages::escaped;
 use proc_macro2::LineColumn;
 use std::alloc::{AllocError, Global};
 
-/// A declaration, as it is shown.
+/// A declaration as it is shown.
 #[derive(Clone, Copy)]
 pub struct Shown<'a> {
-    /// How many declarations it stands in.
+    /// The number of declarations that it is in.
     pub depth: usize,
-    /// What is declared.
+    /// The kind of the item.
     pub kind: ItemKind,
-    /// Whether it has a name.
+    /// Whether the item has a name.
     pub named: bool,
-    /// Its name, or its header.
+    /// The name of the item, or its header if it has no name.
     pub name: &'a str,
-    /// Where it begins.
+    /// The line and the column where it begins.
     pub start: LineColumn,
 }
 
-/// The line of a declaration in the file at this path, without its end. In a `tags` file only what has a name has one.
+/// Returns the line of a declaration, without a line end. A `tags` file has lines only for items with names.
 pub fn line_of(
     alloc: Global,
     form: Form,
@@ -41,13 +41,13 @@ pub fn line_of(
     }
 }
 
-/// `FILE:L:C: fn name`, the line and the column from 1.
+/// The line `FILE:L:C: fn name`. Line and column count from 1.
 fn plain(alloc: Global, path: &str, shown: Shown<'_>) -> Result<String, AllocError>
     ensures { IfOk result (λ out. string_bytes out ≡ plain path.now (seen shown.entry)) }
 {
     let mut out = String::new(alloc);
     let line = shown.start.line;
-    // As wide as the sum needs.
+    // The type is wide enough that the sum cannot overflow.
     let column = shown.start.column as u128 + 1;
     write!(out, "{path}:{line}:{column}: ")?;
     push_indent(&mut out, shown.depth)?;
@@ -55,13 +55,13 @@ fn plain(alloc: Global, path: &str, shown: Shown<'_>) -> Result<String, AllocErr
     Ok(out)
 }
 
-/// An object of JSON.
+/// The declaration as a JSON object.
 fn json(alloc: Global, path: &str, shown: Shown<'_>) -> Result<String, AllocError>
     ensures { IfOk result (λ out. string_bytes out ≡ json path.now (seen shown.entry)) }
 {
     let mut out = String::new(alloc);
     let line = shown.start.line;
-    // As wide as the sum needs.
+    // The type is wide enough that the sum cannot overflow.
     let column = shown.start.column as u128 + 1;
     let file = escaped(alloc, path)?;
     let word = word_of(shown.kind);
@@ -75,7 +75,7 @@ fn json(alloc: Global, path: &str, shown: Shown<'_>) -> Result<String, AllocErro
     Ok(out)
 }
 
-/// A line of a `tags` file.
+/// The line of a declaration in a `tags` file.
 fn tag(alloc: Global, path: &str, shown: Shown<'_>) -> Result<String, AllocError>
     ensures { IfOk result (λ out. string_bytes out ≡ tag path.now (seen shown.entry)) }
 {
@@ -87,7 +87,7 @@ fn tag(alloc: Global, path: &str, shown: Shown<'_>) -> Result<String, AllocError
     Ok(out)
 }
 
-/// Appends two spaces for each level, of 32 at most.
+/// Appends two spaces for each level, for at most 32 levels.
 fn push_indent(out: &mut String, depth: usize) -> Result<(), AllocError>
     ensures { OnOk result (string_bytes out.new ≡ string_bytes out.old ++ indent depth) }
 {
@@ -97,7 +97,7 @@ fn push_indent(out: &mut String, depth: usize) -> Result<(), AllocError>
     Ok(())
 }
 
-/// Appends what is declared: the word and the name, or the header.
+/// Appends the word for the kind and the name, or the header if there is no name.
 fn push_title(out: &mut String, shown: Shown<'_>) -> Result<(), AllocError>
     ensures { OnOk result (string_bytes out.new ≡ string_bytes out.old ++ title (seen shown.entry)) }
 {

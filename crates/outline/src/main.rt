@@ -1,18 +1,19 @@
-//! Lists what Rust files declare: modules, types, functions and so on, in reading order.
+//! Lists what Rust files declare: modules, types, functions and other items, in reading order.
 //!
-//! `outline FILE..` writes a line `FILE:L:C: fn name` for each declaration, where it begins after its attributes. What
-//! stands in a module, a trait, an `impl` or a block of foreign items is listed under it, indented by two spaces a
-//! level, in at most 32 levels. An `impl` and a block of foreign items are listed by their header as it is written,
-//! with a space for each run of white space. Imports and macro calls aren't listed, but for `macro_rules!`, and
-//! functions' bodies aren't read.
+//! `outline FILE..` writes a line `FILE:L:C: fn name` for each declaration. The position is where the declaration
+//! begins after its attributes. The items of a module, a trait, an `impl` or an `extern` block are listed under it,
+//! indented by two spaces a level, for at most 32 levels. An `impl` or an `extern` block is listed by its header as it
+//! is written, with one space for each run of white space. Imports and macro calls are not listed, except
+//! `macro_rules!`. The bodies of functions are not read.
 //!
-//! `--json` writes for each an object on a line, with the fields `file`, `line`, `column`, `kind`, `name` and `depth`.
-//! `--ctags` writes a `tags` file for editors, of the declarations that have names. Standard input is the file `-`, and
-//! is read where no file is named. Lines and columns count from 1, columns in characters.
+//! `--json` writes one JSON object a line for each declaration, with the fields `file`, `line`, `column`, `kind`,
+//! `name` and `depth`. `--ctags` writes a `tags` file for editors, with the declarations that have names. The file `-`
+//! is standard input, which is also read if no file is named. Lines and columns count from 1. Columns are characters.
 //!
-//! The status is 0 where all texts are listed, 1 where one doesn't parse or has what is no declaration, and 2 where
-//! the words ask for nothing, a read or a write failed, a text isn't UTF-8 or is too long, or memory ran out. A line on
-//! standard error says why. Of such a file nothing is listed; the others still are, unless it was a write that failed.
+//! The status is 0 if all texts are listed, and 1 if a text does not parse or has something that is no item. It is 2 if
+//! the arguments are wrong, a read or a write failed, a text is not UTF-8 or is too long, or memory ran out. A line on
+//! standard error gives the reason. Nothing of such a file is listed. The other files are listed, unless a write
+//! failed.
 #![tactic(auto)]
 
 mod answer;
@@ -39,7 +40,7 @@ fn main(rt: HostRuntime) -> ExitCode {
     }
 }
 
-/// Lists what the words after the program's name ask for, and answers the status.
+/// Does what the program's arguments say, and returns the exit status.
 fn run(rt: &HostRuntime) -> Result<u8, Failure> {
     let words = words(rt.alloc(), env::args(rt), USAGE)?;
     let options = options_of(rt.alloc(), words.as_slice())?;

@@ -1,4 +1,4 @@
-//! What declarations are called.
+//! The words and names by which declarations are shown.
 ghost use Rattle.std.specs.Prelude.{◌≡◌, ◌++◌, IfOk, OnOk, false, string_bytes};
 ghost use Rattle.std.specs.Str.{chars};
 ghost use Rattle.outline.specs.Line.{in_line, one_line, word_of};
@@ -6,7 +6,7 @@ ghost use Rattle.outline.specs.Line.{in_line, one_line, word_of};
 use declarations::ItemKind;
 use std::alloc::{AllocError, Global};
 
-/// The word for a kind of declaration.
+/// Returns the word for a kind of item.
 pub fn word_of(kind: ItemKind) -> &'static str
     ensures { result.now ≡ word_of kind }
 {
@@ -29,7 +29,7 @@ pub fn word_of(kind: ItemKind) -> &'static str
     }
 }
 
-/// The text on one line: a space for each run of spaces and controls.
+/// Returns the text on one line, with one space for each run of spaces and control characters.
 pub fn one_line(alloc: Global, text: &str) -> Result<String, AllocError>
     ensures { IfOk result (λ out. string_bytes out ≡ one_line false (chars text.now)) }
 {
@@ -42,7 +42,7 @@ pub fn one_line(alloc: Global, text: &str) -> Result<String, AllocError>
     Ok(out)
 }
 
-/// Appends a character, after a space where a gap is before it, unless it is part of one.
+/// Appends a character, and a space before it if it is after a gap. Appends nothing if it is itself part of a gap.
 fn push_in_line(out: &mut String, gap: bool, c: char) -> Result<(), AllocError>
     ensures { OnOk result (string_bytes out.new ≡ string_bytes out.old ++ in_line gap c) }
 {

@@ -1,4 +1,4 @@
-//! What the words after the program's name ask for.
+//! What the arguments of the program say.
 ghost use Rattle.std.specs.Prelude.{◌≡◌, ◌⊎◌, IfErr, IfOk, None, OnOk, Some, map, string_bytes};
 ghost use Rattle.messages.specs.declared.errors.Failure.TheVariants.{Memory};
 ghost use Rattle.outline.specs.Options.{asks, no_wish, or_input, other_word, usage_of, wishes_of, with_word, word_of};
@@ -6,30 +6,30 @@ ghost use Rattle.outline.specs.Options.{asks, no_wish, or_input, other_word, usa
 use messages::Failure;
 use std::alloc::{AllocError, Global};
 
-/// How the program is called.
+/// The usage line of the program.
 pub const USAGE: &str = "outline [--json|--ctags] [FILE..]";
 
-/// How declarations are listed.
+/// The form in which declarations are listed.
 #[derive(Clone, Copy, Debug, PartialEq, Eq)]
 pub enum Form {
-    /// A line for each.
+    /// A line for each declaration.
     Lines,
-    /// An object of JSON on a line for each.
+    /// A JSON object on a line for each declaration.
     Json,
     /// A `tags` file for editors.
     Ctags,
 }
 
-/// What is listed.
+/// What the arguments ask the program to do.
 #[derive(Drop)]
 pub struct Options {
-    /// How.
+    /// The form in which declarations are listed.
     pub form: Form,
-    /// The paths of the files, `-` for standard input.
+    /// The paths of the files. The path `-` is standard input.
     pub paths: Vec<String>,
 }
 
-/// What a word says.
+/// The meaning of an argument.
 #[derive(Clone, Copy, Debug, PartialEq, Eq)]
 enum Word {
     Json,
@@ -38,10 +38,10 @@ enum Word {
     Path,
 }
 
-/// What the words ask for: options anywhere, the last of which counts, and paths, of which standard input is one where
-/// there is no other.
+/// Returns what the arguments say. Options may be anywhere, and the last one counts. All other arguments are paths.
 ///
-/// Fails with `Usage` where a word begins with `-` that is no option, and with `Memory`.
+/// If there is no path, standard input is read. Fails with `Usage` if an argument begins with `-` and is no option, and
+/// with `Memory`.
 pub fn options_of(alloc: Global, words: &[String]) -> Result<Options, Failure>
     ensures ok { IfOk result (λ options. asks no_wish (map string_bytes words.now) ≡ Some (wishes_of options)) }
     ensures err { IfErr result (λ failure.
@@ -59,7 +59,7 @@ pub fn options_of(alloc: Global, words: &[String]) -> Result<Options, Failure>
     Ok(options)
 }
 
-/// What the word says.
+/// The meaning of an argument.
 fn word_of(word: &str) -> Word
     ensures { result ≡ word_of word.now }
 {
@@ -70,7 +70,7 @@ fn word_of(word: &str) -> Word
     }
 }
 
-/// The same of a word that is no option that is known.
+/// The meaning of an argument that is no known option.
 fn other_word(word: &str) -> Word
     ensures { result ≡ other_word word.now }
 {
@@ -82,7 +82,7 @@ fn other_word(word: &str) -> Word
 }
 
 impl Options {
-    /// What is asked for before any word.
+    /// The options before any argument is read.
     fn new(alloc: Global) -> Options
         ensures { wishes_of result ≡ no_wish }
     {
@@ -92,7 +92,7 @@ impl Options {
         }
     }
 
-    /// Takes a word.
+    /// Takes one argument into account.
     fn take(&mut self, alloc: Global, known: Word, word: &str) -> Result<(), AllocError>
         ensures { OnOk result (wishes_of self.new ≡ with_word known word.now (wishes_of self.old)) }
     {
@@ -105,7 +105,7 @@ impl Options {
         Ok(())
     }
 
-    /// Standard input is read where no file is named.
+    /// Adds standard input if there is no path.
     fn read_input_at_least(&mut self, alloc: Global) -> Result<(), AllocError>
         ensures { OnOk result (wishes_of self.new ≡ or_input (wishes_of self.old)) }
     {

@@ -1,4 +1,4 @@
-//! What is written of lines.
+//! Writes lines and `tags` files.
 ghost use Rattle.std.specs.Prelude.{OnOk, map, string_bytes};
 ghost use Rattle.std.specs.Io.KnownBytes.{Appends};
 ghost use Rattle.outline.specs.Tags.{WritesTags, ended};
@@ -6,7 +6,7 @@ ghost use Rattle.outline.specs.Tags.{WritesTags, ended};
 use std::io;
 use std::io::Write;
 
-/// Writes the lines.
+/// Writes the lines, each with a line end.
 pub fn print_all<W: Write>(lines: &[String], writer: &mut W) -> io::Result<()>
     ensures { OnOk result (Appends (W.contents writer.old) (W.contents writer.new)
         (ended (map string_bytes lines.now))) }
@@ -17,7 +17,7 @@ pub fn print_all<W: Write>(lines: &[String], writer: &mut W) -> io::Result<()>
     Ok(())
 }
 
-/// Writes a `tags` file of these lines, sorted by their bytes.
+/// Writes a `tags` file with these lines, sorted by their bytes.
 pub fn print_tags<W: Write>(lines: &mut Vec<String>, writer: &mut W) -> io::Result<()>
     ensures { OnOk result (WritesTags (map string_bytes lines.old.items) (W.contents writer.old)
         (W.contents writer.new)) }

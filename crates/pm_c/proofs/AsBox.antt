@@ -1,4 +1,4 @@
--- A live handle and its parts own what a box at the same types owns.
+-- A live handle and its parts own what a box of the same types owns.
 use mir.Syntax.{impl, tnil, dnil}
 use mathlib.Core.Path.{◌≡◌, sym, subst}
 use mathlib.Core.Bool.{Bool, true}

@@ -1,4 +1,4 @@
--- How many trees a stream has, and how many records.
+-- The number of trees in a stream, and the number of records.
 use Rattle.std.proofs.Common.{◌≡◌, ◌+◌, ◌≤◌, ℕ, List, [], ◌∷◌, length, refl, sym, ap, ◌∙◌, arith}
 use Rattle.std.proofs.Common.{◌++◌, Result, Ok, Err, append_assoc, flat_map}
 use Rattle.pm_c.specs.declared.records.PmTree.{PmTree}
@@ -28,7 +28,7 @@ pub length-records : (start : ℕ) (trees : List TokenTree) → length (records_
 length-records start [] = refl
 length-records start (tree ∷ trees) = omega (arith, length-records (start + length (kept_text tree)) trees)
 
--- a stream has its trees in reading order at least
+-- a stream has at least as many trees in reading order as directly in it
 width-onto : (stream : Forest) (more : List TokenTree)
     → length more + width stream ≤ length (in_order_onto stream more)
 width-onto nil more = omega arith
@@ -36,7 +36,7 @@ width-onto (leaf token lo hi rest) more = omega (arith, width-onto rest more)
 width-onto (group d lo hi inside rest) more =
     omega (arith, width-onto inside (in_order_onto rest more), width-onto rest more)
 
--- a tree has no more inside than this
+-- the tree has at most `n` trees directly inside it
 abbrev pub HasAtMost : ℕ → TokenTree → Type 0
 HasAtMost n tree = inner_width tree ≤ n
 
@@ -55,18 +55,18 @@ widths-onto (group d lo hi inside rest) more n few h =
     (widths-onto inside (in_order_onto rest more) n (omega (arith, few))
     (widths-onto rest more n (omega (arith, few, outer)) h))
 
--- no tree of a stream has more inside than the stream has in all
+-- no tree of a stream has more trees inside it than the stream has in all
 pub widths_in_order : (stream : Forest) → All (HasAtMost (length (in_order stream))) (in_order stream)
 widths_in_order stream =
     widths-onto stream [] (length (in_order stream)) (omega arith) (All-nil (HasAtMost (length (in_order stream))))
 
--- what holds where there is an error holds of each error
+-- a fact that holds if there is an error holds for each error
 pub on_error : {T E : Type 0} (r : Result T E) (P : E → Type 0) (Q R : Type 0) → OnErr r Q → (Q → R)
     → IfErr r (λ error. P error → R)
 on_error (Ok x) P Q R h f = tt
 on_error (Err error) P Q R h f = λ p. f h
 
--- one record more
+-- one more record is appended
 pub one_record :
     (old new whole : List PmTree) (made : PmTree) (start next : ℕ) (tree : TokenTree) (trees rest : List TokenTree)
     → trees ≡ tree ∷ rest → made ≡ record_of start tree → next ≡ start + length (kept_text tree)
@@ -76,7 +76,7 @@ one_record old new whole made start next tree trees rest first is moved grown al
     ap (λ l. l ++ records_from next rest) grown
     ∙ append_assoc old (made ∷ []) (records_from next rest) ∙ ap (λ l. old ++ l) inner ∙ all
 
--- one text more
+-- one more text is appended
 pub one_text :
     (old new whole : List ℕ) (tree : TokenTree) (trees rest : List TokenTree) → trees ≡ tree ∷ rest
     → new ≡ old ++ kept_text tree → old ++ flat_map kept_text trees ≡ whole → new ++ flat_map kept_text rest ≡ whole

@@ -1,4 +1,4 @@
--- What C is told of a text that doesn't parse.
+-- The record for C of a text that doesn't parse.
 use Rattle.std.proofs.Common.{◌≡◌, ℕ, List, length, sym, subst, refl, arith, inl}
 use Rattle.std.specs.Str.{chars, IsUtf8}
 use Rattle.explain.specs.Explained.{IsExplained}
@@ -10,7 +10,7 @@ use Rattle.pm_c.specs.Calls.{ExplainAnswer}
 use Rattle.pm_c.specs.Reasons.{reason_number, told_of}
 use Rattle.pm_c.specs.declared.records.PmExplanation.{PmExplanation}
 
--- no reason has the number of none
+-- no reason has the number 0, which means that there is no reason
 positive : (reason : Reason) → reason_number reason ≡ 0 → ⊥
 positive reasons.UnclosedComment e = omega (arith, e)
 positive reasons.BareReturnInDoc e = omega (arith, e)

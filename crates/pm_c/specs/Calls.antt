@@ -1,4 +1,4 @@
--- What each call answers, and what it leaves of the session.
+-- What each call returns, and how it changes the session.
 use Rattle.std.specs.Prelude.{ℕ, Bool, ◌≡◌, ◌≢◌, ◌↔◌, ◌⊎◌, ◌≤◌, List, [], ◌∷◌, flat_map, length}
 use Rattle.std.specs.Prelude.{Some, None, Result, Ok, Err, false}
 use Rattle.std.specs.Char.{IsScalar}
@@ -39,12 +39,12 @@ use Rattle.pm_c.specs.declared.records.PmLineColumn.{PmLineColumn}
 use Rattle.pm_c.specs.declared.records.PmRange.{PmRange}
 use Rattle.pm_c.specs.declared.session.Session.{Session}
 
--- the code is one of these
+-- the code is one of the list
 abbrev pub IsAmong : List ℕ → ℕ → Type 0
 IsAmong [] code = ⊥
 IsAmong (one ∷ others) code = (code ≡ one) ⊎ IsAmong others code
 
--- the session has read nothing, and lends nothing
+-- the session has read nothing, and its results are empty
 pub record IsNew (session : Session) : Type 0 where
   pub map : session.map ≡ new_map
   pub streams : session.streams.slots ≡ []
@@ -53,38 +53,38 @@ pub record IsNew (session : Session) : Type 0 where
   pub text : string_bytes session.text ≡ []
   pub bytes : session.bytes.items ≡ []
 
--- nothing of the session is another but its records and its text
+-- only the session's records of trees and its text may differ
 abbrev pub KeepsAllButListing : Session → Session → Type 0
 KeepsAllButListing old new = new ≡ record old { trees = new.trees; text = new.text }
 
--- nothing of the session is another but its text
+-- only the session's text may differ
 abbrev pub KeepsAllButText : Session → Session → Type 0
 KeepsAllButText old new = new ≡ record old { text = new.text }
 
--- nothing of the session is another but its bytes
+-- only the session's bytes may differ
 abbrev pub KeepsAllButBytes : Session → Session → Type 0
 KeepsAllButBytes old new = new ≡ record old { bytes = new.bytes }
 
--- the bytes are a text that isn't a literal
+-- the bytes are UTF-8, but not a literal
 abbrev pub IsOtherText : List ℕ → Type 0
 IsOtherText bytes = IsUtf8 bytes × (IsWholeLiteral (chars bytes) → ⊥)
 
--- the bytes are a text that has more characters than the map has room for
+-- the bytes are a text with more characters than the map has positions left
 abbrev pub Overflows : Files → List ℕ → Type 0
 Overflows map bytes = IsUtf8 bytes × (Fits map (length (chars bytes)) → ⊥)
 
--- the session's text is this, and the answer says how many bytes it has
+-- the session's text is `text`, and the answer has the number of its bytes
 pub record HasText (session : Session) (text : List ℕ) (answer : PmAnswer) : Type 0 where
   pub value : chars (string_bytes session.text) ≡ text
   pub bytes : answer.bytes ≡ length (string_bytes session.text)
 
--- the code of an error
+-- the code for an error of parsing
 abbrev pub refusal_code : ParseError → ℕ
 refusal_code (Lex fault) = FAULT
 refusal_code MapFull = MAP_FULL
 refusal_code (Memory error) = NO_MEMORY
 
--- the error is a fault at this position
+-- the error is a syntax error at this position
 abbrev pub IsFaultAt : ParseError → ℕ → Type 0
 IsFaultAt (Lex fault) at = at ≡ fault.lo
 IsFaultAt MapFull at = ⊥
@@ -92,13 +92,13 @@ IsFaultAt (Memory error) at = ⊥
 
 -- ---- streams
 
--- the stream has this number now, which no stream had before
+-- the stream got this number, which no stream had before
 pub record IsKept (old : Session) (stream : Forest) (new : Session) (number : ℕ) : Type 0 where
   pub vacant : get old.streams number ≡ None
   pub stands : Updates old.streams new.streams number (Some stream)
   pub map : new.map ≡ old.map
 
--- the bytes are a text that was parsed, it is a file of the map, and its stream has this number
+-- the bytes are a text that parses, it is a new file of the map, and its stream got this number
 pub record IsRead (old : Session) (bytes : List ℕ) (new : Session) (number : ℕ) : Type 0 where
   pub utf8 : IsUtf8 bytes
   pub stream : Forest
@@ -107,12 +107,12 @@ pub record IsRead (old : Session) (bytes : List ℕ) (new : Session) (number : �
   pub stands : Updates old.streams new.streams number (Some stream)
   pub map : new.map ≡ with_file old.map (chars bytes)
 
--- what is left where a text is read
+-- how the session changes if the text of `pm_parse` is not read into a stream
 pub record LeavesRead (old : Session) (read : Files) (code : ℕ) (new : Session) : Type 0 where
-  -- bytes that aren't UTF-8 change nothing, and no more does a text that doesn't fit
+  -- bytes that aren't UTF-8, and texts that don't fit, change nothing
   pub not_utf8 : code ≡ NOT_UTF8 → new ≡ old
   pub map_full : code ≡ MAP_FULL → new ≡ old
-  -- a text with a fault changes the map alone
+  -- a text with a syntax error changes only the map
   pub fault : code ≡ FAULT → new ≡ record old { map = read }
   -- memory may run out before the map has the text, or later
   pub memory : code ≡ NO_MEMORY → (new.map ≡ old.map) ⊎ (new.map ≡ read)
@@ -121,24 +121,24 @@ pub record LeavesRead (old : Session) (read : Files) (code : ℕ) (new : Session
   pub streams : (code ≡ DONE → ⊥) → SameValues old.streams new.streams
   pub rest : new ≡ record old { map = new.map; streams = new.streams }
 
--- `pm_parse`
+-- the result of `pm_parse`, and how it changes the session
 pub record ParseAnswer (old : Session) (bytes : List ℕ) (new : Session) (answer : PmAnswer) : Type 0 where
   pub codes : IsAmong (DONE ∷ FAULT ∷ MAP_FULL ∷ NO_MEMORY ∷ NOT_UTF8 ∷ TOO_LONG ∷ []) answer.code
   pub done : answer.code ≡ DONE → IsRead old bytes new answer.number
   pub fault : answer.code ≡ FAULT → FaultAt (next_lo old.map) (chars bytes) answer.number
   pub not_utf8 : (answer.code ≡ NOT_UTF8) ↔ (IsUtf8 bytes → ⊥)
   pub map_full : (answer.code ≡ MAP_FULL) ↔ Overflows old.map bytes
-  -- the number that the stream would get doesn't go into 32 bits
+  -- the number that the stream would get doesn't fit in 32 bits
   pub too_long : answer.code ≡ TOO_LONG → 4294967296 ≤ old.streams.vacant_key
   pub left : LeavesRead old (with_file old.map (chars bytes)) answer.code new
 
--- a stream had this number, and none has it now; the others keep theirs
+-- a stream had this number and is gone; the others keep their numbers
 pub record IsFreed (old : Session) (number : ℕ) (new : Session) : Type 0 where
   pub stream : Forest
   pub stood : get old.streams number ≡ Some stream
   pub gone : Updates old.streams new.streams number None
 
--- `pm_stream_free`
+-- the result of `pm_stream_free`, and how it changes the session
 pub record FreeAnswer (old : Session) (number : ℕ) (new : Session) (code : ℕ) : Type 0 where
   pub codes : IsAmong (DONE ∷ NO_STREAM ∷ []) code
   pub done : code ≡ DONE → IsFreed old number new
@@ -146,14 +146,14 @@ pub record FreeAnswer (old : Session) (number : ℕ) (new : Session) (code : ℕ
   pub unchanged : code ≡ NO_STREAM → new ≡ old
   pub rest : new ≡ record old { streams = new.streams }
 
--- the session's text is the printed stream of this number, and has so many bytes
+-- the session's text is the printed stream of this number, and the answer has the number of its bytes
 pub record IsPrinted (old : Session) (number : ℕ) (new : Session) (answer : PmAnswer) : Type 0 where
   pub stream : Forest
   pub stands : get old.streams number ≡ Some stream
   pub text : string_bytes new.text ≡ encode_utf8_all (printed stream)
   pub bytes : answer.bytes ≡ length (string_bytes new.text)
 
--- `pm_print`
+-- the result of `pm_print`, and how it changes the session
 pub record PrintAnswer (old : Session) (number : ℕ) (new : Session) (answer : PmAnswer) : Type 0 where
   pub codes : IsAmong (DONE ∷ NO_MEMORY ∷ NO_STREAM ∷ []) answer.code
   pub done : answer.code ≡ DONE → IsPrinted old number new answer
@@ -161,13 +161,13 @@ pub record PrintAnswer (old : Session) (number : ℕ) (new : Session) (answer : 
   pub unchanged : answer.code ≡ NO_STREAM → new ≡ old
   pub rest : KeepsAllButText old new
 
--- the session's text is the printed text of these bytes, and has so many bytes
+-- the session's text is the printed text of these bytes, and the answer has the number of its bytes
 pub record IsReprinted (bytes : List ℕ) (new : Session) (answer : PmAnswer) : Type 0 where
   pub utf8 : IsUtf8 bytes
   pub prints : PrintsText (next_lo new_map) (chars bytes) (string_bytes new.text)
   pub count : answer.bytes ≡ length (string_bytes new.text)
 
--- `pm_reprint`
+-- the result of `pm_reprint`, and how it changes the session
 pub record ReprintAnswer (old : Session) (bytes : List ℕ) (new : Session) (answer : PmAnswer) : Type 0 where
   pub codes : IsAmong (DONE ∷ FAULT ∷ MAP_FULL ∷ NO_MEMORY ∷ NOT_UTF8 ∷ []) answer.code
   pub done : answer.code ≡ DONE → IsReprinted bytes new answer
@@ -186,13 +186,13 @@ pub record IsListed (old : Session) (number : ℕ) (new : Session) (answer : PmA
   pub trees_count : answer.number ≡ length new.trees.items
   pub bytes : answer.bytes ≡ length (string_bytes new.text)
 
--- the stream of this number has too many trees, or too long texts
+-- the stream of this number has too many trees, or too many bytes in its texts
 pub record IsStreamTooLong (old : Session) (number : ℕ) : Type 0 where
   pub stream : Forest
   pub stands : get old.streams number ≡ Some stream
   pub too_long : IsTooLong stream
 
--- `pm_list`
+-- the result of `pm_list`, and how it changes the session
 pub record ListAnswer (old : Session) (number : ℕ) (new : Session) (answer : PmAnswer) : Type 0 where
   pub codes : IsAmong (DONE ∷ NO_MEMORY ∷ NO_STREAM ∷ TOO_LONG ∷ []) answer.code
   pub done : answer.code ≡ DONE → IsListed old number new answer
@@ -201,9 +201,9 @@ pub record ListAnswer (old : Session) (number : ℕ) (new : Session) (answer : P
   pub unchanged : answer.code ≡ NO_STREAM → new ≡ old
   pub rest : KeepsAllButListing old new
 
--- ---- pieces, and what is copied
+-- ---- pieces, and copies of results
 
--- `pm_pieces`
+-- the result of `pm_pieces`, and how it changes the session
 pub record PiecesAnswer (old : Session) (bytes : List ℕ) (new : Session) (answer : PmAnswer) : Type 0 where
   pub codes : IsAmong (DONE ∷ NO_MEMORY ∷ NOT_UTF8 ∷ TOO_LONG ∷ []) answer.code
   pub done : answer.code ≡ DONE → ListsPieces bytes new.pieces.items answer.bytes
@@ -213,7 +213,7 @@ pub record PiecesAnswer (old : Session) (bytes : List ℕ) (new : Session) (answ
   pub unchanged : IsAmong (NOT_UTF8 ∷ TOO_LONG ∷ []) answer.code → new ≡ old
   pub rest : new ≡ record old { pieces = new.pieces }
 
--- `pm_copy_text`, `pm_copy_bytes`, `pm_copy_trees`, `pm_copy_pieces`: the buffer before and after
+-- `pm_copy_text`, `pm_copy_bytes`, `pm_copy_trees`, `pm_copy_pieces`: how the buffer changes
 pub record CopyAnswer {T : Type 0} (lent old new : List T) (code : ℕ) : Type 0 where
   pub codes : IsAmong (DONE ∷ NO_ROOM ∷ []) code
   pub done : code ≡ DONE → new ≡ lent
@@ -222,13 +222,13 @@ pub record CopyAnswer {T : Type 0} (lent old new : List T) (code : ℕ) : Type 0
 
 -- ---- why a text doesn't parse
 
--- the text doesn't parse, for the reason that is told, where it is told
+-- the text doesn't parse, and the answer has the reason and where it is
 pub record TellsReason (bytes : List ℕ) (answer : PmExplanation) : Type 0 where
   pub explained : Explained
   pub holds : IsExplained (next_lo new_map) (chars bytes) explained
   pub told : answer ≡ told_of explained
 
--- `pm_explain`
+-- the result of `pm_explain`
 pub record ExplainAnswer (bytes : List ℕ) (answer : PmExplanation) : Type 0 where
   pub codes : IsAmong (DONE ∷ MAP_FULL ∷ NO_MEMORY ∷ NOT_UTF8 ∷ []) answer.code
   pub parses : answer.code ≡ DONE → answer.reason ≡ 0 → Parses (next_lo new_map) (chars bytes)
@@ -238,7 +238,7 @@ pub record ExplainAnswer (bytes : List ℕ) (answer : PmExplanation) : Type 0 wh
 
 -- ---- identifiers and literals
 
--- `pm_ident_check`
+-- the result of `pm_ident_check`
 pub record IdentAnswer (raw : Bool) (bytes : List ℕ) (code : ℕ) : Type 0 where
   pub codes : IsAmong (DONE ∷ NAME_EMPTY ∷ NAME_NUMBER ∷ NAME_INVALID ∷ NAME_RESERVED ∷ NOT_UTF8 ∷ NO_MEMORY ∷ []) code
   pub not_utf8 : (code ≡ NOT_UTF8) ↔ (IsUtf8 bytes → ⊥)
@@ -248,15 +248,15 @@ pub record IdentAnswer (raw : Bool) (bytes : List ℕ) (code : ℕ) : Type 0 whe
   pub invalid : IsUtf8 bytes → ((code ≡ NAME_INVALID) ↔ (ident_fault raw (chars bytes) ≡ Some faults.Invalid))
   pub reserved : IsUtf8 bytes → ((code ≡ NAME_RESERVED) ↔ (ident_fault raw (chars bytes) ≡ Some faults.Reserved))
 
--- `pm_literal_check`
+-- the result of `pm_literal_check`
 pub record LiteralAnswer (bytes : List ℕ) (code : ℕ) : Type 0 where
   pub codes : IsAmong (DONE ∷ NO_LITERAL ∷ NOT_UTF8 ∷ []) code
   pub done : (code ≡ DONE) ↔ (IsUtf8 bytes × IsWholeLiteral (chars bytes))
   pub not_utf8 : (code ≡ NOT_UTF8) ↔ (IsUtf8 bytes → ⊥)
   pub no_literal : (code ≡ NO_LITERAL) ↔ IsOtherText bytes
 
--- the text is a literal, and is the next file of the map: the answer says where it begins and how many
--- characters it has
+-- the text is a literal and the next file of the map, and the answer has its first position and its number of
+-- characters
 pub record IsReadLiteral (old : Session) (bytes : List ℕ) (new : Session) (answer : PmAnswer) : Type 0 where
   pub utf8 : IsUtf8 bytes
   pub whole : IsWholeLiteral (chars bytes)
@@ -264,7 +264,7 @@ pub record IsReadLiteral (old : Session) (bytes : List ℕ) (new : Session) (ans
   pub count : answer.bytes ≡ length (chars bytes)
   pub map : new.map ≡ with_file old.map (chars bytes)
 
--- `pm_read_literal`
+-- the result of `pm_read_literal`, and how it changes the session
 pub record ReadLiteralAnswer (old : Session) (bytes : List ℕ) (new : Session) (answer : PmAnswer) : Type 0 where
   pub codes : IsAmong (DONE ∷ MAP_FULL ∷ NO_LITERAL ∷ NO_MEMORY ∷ NOT_UTF8 ∷ []) answer.code
   pub done : answer.code ≡ DONE → IsReadLiteral old bytes new answer
@@ -275,13 +275,13 @@ pub record ReadLiteralAnswer (old : Session) (bytes : List ℕ) (new : Session) 
   pub unchanged : IsAmong (NOT_UTF8 ∷ MAP_FULL ∷ NO_MEMORY ∷ []) answer.code → new ≡ old
   pub rest : new ≡ record old { map = new.map }
 
--- a call that makes a literal with this text, and refuses no value
+-- a call that makes a literal with this text, and takes every value
 pub record MakeAnswer (literal : List ℕ) (old new : Session) (answer : PmAnswer) : Type 0 where
   pub codes : IsAmong (DONE ∷ NO_MEMORY ∷ []) answer.code
   pub done : answer.code ≡ DONE → HasText new literal answer
   pub rest : KeepsAllButText old new
 
--- `pm_string`
+-- the result of `pm_string`, and how it changes the session
 pub record StringAnswer (bytes : List ℕ) (old new : Session) (answer : PmAnswer) : Type 0 where
   pub codes : IsAmong (DONE ∷ NO_MEMORY ∷ NOT_UTF8 ∷ []) answer.code
   pub done : answer.code ≡ DONE → IsUtf8 bytes × HasText new (string_text (chars bytes)) answer
@@ -289,7 +289,7 @@ pub record StringAnswer (bytes : List ℕ) (old new : Session) (answer : PmAnswe
   pub unchanged : answer.code ≡ NOT_UTF8 → new ≡ old
   pub rest : KeepsAllButText old new
 
--- `pm_character`
+-- the result of `pm_character`, and how it changes the session
 pub record CharacterAnswer (c : ℕ) (old new : Session) (answer : PmAnswer) : Type 0 where
   pub codes : IsAmong (DONE ∷ NO_CHARACTER ∷ NO_MEMORY ∷ []) answer.code
   pub done : answer.code ≡ DONE → HasText new (character_text c) answer
@@ -302,7 +302,7 @@ pub record MakesCString (bytes : List ℕ) (session : Session) (answer : PmAnswe
   pub text : IsCStringText bytes (chars (string_bytes session.text))
   pub count : answer.bytes ≡ length (string_bytes session.text)
 
--- `pm_c_string`
+-- the result of `pm_c_string`, and how it changes the session
 pub record CStringAnswer (bytes : List ℕ) (old new : Session) (answer : PmAnswer) : Type 0 where
   pub codes : IsAmong (DONE ∷ NO_CHARACTER ∷ NO_MEMORY ∷ []) answer.code
   pub done : answer.code ≡ DONE → MakesCString bytes new answer
@@ -310,31 +310,31 @@ pub record CStringAnswer (bytes : List ℕ) (old new : Session) (answer : PmAnsw
   pub unchanged : answer.code ≡ NO_CHARACTER → new ≡ old
   pub rest : KeepsAllButText old new
 
--- the error is the fault of this number in the content of a literal
+-- the error is the one with this number in the content of a literal
 pub record IsNumbered (error : ConversionErrorKind) (number : ℕ) : Type 0 where
   pub fault : EscapeError
   pub is : error ≡ FailedToUnescape fault
   pub numbered : number ≡ fault_number fault
 
--- there is no value, since the content of the literal has the fault of this number
+-- there is no value, since the content of the literal has the error of this number
 pub record IsFaulty (value : Result (List ℕ) ConversionErrorKind) (number : ℕ) : Type 0 where
   pub error : ConversionErrorKind
   pub is : value ≡ Err error
   pub numbered : IsNumbered error number
 
--- the literal's value is the session's text, and the answer says how many bytes it has
+-- the literal's value is the session's text, and the answer has the number of its bytes
 pub record HasTextValue (value : Result (List ℕ) ConversionErrorKind) (session : Session) (answer : PmAnswer) : Type 0
   where
     pub is : value ≡ Ok (chars (string_bytes session.text))
     pub count : answer.bytes ≡ length (string_bytes session.text)
 
--- the literal's value is the session's bytes, and the answer says how many they are
+-- the literal's value is the session's bytes, and the answer has their number
 pub record HasBytesValue (value : Result (List ℕ) ConversionErrorKind) (session : Session) (answer : PmAnswer) : Type 0
   where
     pub is : value ≡ Ok session.bytes.items
     pub count : answer.bytes ≡ length session.bytes.items
 
--- `pm_str_value`, `pm_byte_str_value`, `pm_cstr_value`: why a literal, by its bytes, has no value, and what is left
+-- `pm_str_value`, `pm_byte_str_value`, `pm_cstr_value`: why a literal has no value, and how the session changes
 pub record ValueAnswer (value : Result (List ℕ) ConversionErrorKind) (bytes : List ℕ) (old new : Session)
     (answer : PmAnswer) : Type 0 where
   pub codes : IsAmong (DONE ∷ NO_LITERAL ∷ NO_MEMORY ∷ NOT_UNESCAPED ∷ NOT_UTF8 ∷ OTHER_KIND ∷ []) answer.code
@@ -345,24 +345,24 @@ pub record ValueAnswer (value : Result (List ℕ) ConversionErrorKind) (bytes : 
   pub no_literal : (answer.code ≡ NO_LITERAL) ↔ IsOtherText bytes
   pub unchanged : (answer.code ≡ DONE → ⊥) → new ≡ old
 
--- ---- look-ups
+-- ---- positions and spans
 
 -- the span between two positions
 abbrev pub span : ℕ → ℕ → Extent
 span lo hi = record { lo = lo; hi = hi }
 
--- the positions are in order, and a file of the map has all from the first to the last
+-- the positions are in order, and one file of the map has all from the first to the last
 abbrev pub IsHeld : Files → ℕ → ℕ → Type 0
 IsHeld map lo hi = (lo ≤ hi) × Holds map (span lo hi)
 
--- `pm_line_column`
+-- the result of `pm_line_column_of`
 pub record LineColumnAnswer (map : Files) (position : ℕ) (answer : PmLineColumn) : Type 0 where
   pub codes : IsAmong (DONE ∷ NOT_HELD ∷ []) answer.code
   pub done : answer.code ≡ DONE
       → StartsAt map (span position position) (record { line = answer.line; column = answer.column })
   pub not_held : (answer.code ≡ NOT_HELD) ↔ (IsHeld map position position → ⊥)
 
--- `pm_byte_range`
+-- the result of `pm_byte_range`
 pub record ByteRangeAnswer (map : Files) (lo hi : ℕ) (answer : PmRange) : Type 0 where
   pub codes : IsAmong (DONE ∷ NOT_HELD ∷ []) answer.code
   pub done : answer.code ≡ DONE → HasBytes map (span lo hi) (record { start = answer.start; end = answer.end })
@@ -373,7 +373,7 @@ pub record LendsSource (old : Session) (span : Extent) (session : Session) (answ
   pub text : IsTextOf old.map span (chars (string_bytes session.text))
   pub count : answer.bytes ≡ length (string_bytes session.text)
 
--- `pm_source_text`
+-- the result of `pm_source_text`, and how it changes the session
 pub record SourceTextAnswer (old : Session) (lo hi : ℕ) (new : Session) (answer : PmAnswer) : Type 0 where
   pub codes : IsAmong (DONE ∷ NOT_HELD ∷ NO_MEMORY ∷ []) answer.code
   pub done : answer.code ≡ DONE → LendsSource old (span lo hi) new answer
@@ -387,7 +387,7 @@ pub record LendsName (old : Session) (span : Extent) (session : Session) (answer
   pub text : HasName old.map span (chars (string_bytes session.text))
   pub count : answer.bytes ≡ length (string_bytes session.text)
 
--- `pm_file_name`
+-- the result of `pm_file_name`, and how it changes the session
 pub record FileNameAnswer (old : Session) (lo hi : ℕ) (new : Session) (answer : PmAnswer) : Type 0 where
   pub codes : IsAmong (DONE ∷ NOT_HELD ∷ NO_MEMORY ∷ []) answer.code
   pub done : answer.code ≡ DONE → LendsName old (span lo hi) new answer
@@ -400,7 +400,7 @@ abbrev pub AreJoined : Files → ℕ → ℕ → ℕ → ℕ → Type 0
 AreJoined map lo hi other_lo other_hi =
     (other_lo ≤ other_hi) × AreInOneFile map (span lo hi) (span other_lo other_hi)
 
--- `pm_join`
+-- the result of `pm_join`
 pub record JoinAnswer (map : Files) (lo hi other_lo other_hi : ℕ) (answer : PmRange) : Type 0 where
   pub codes : IsAmong (DONE ∷ NOT_HELD ∷ NOT_JOINED ∷ []) answer.code
   pub one_file : answer.code ≡ DONE → AreJoined map lo hi other_lo other_hi

@@ -1,9 +1,9 @@
--- The faults of a literal's content, as the codes of C number them.
+-- The errors in the content of a literal, as numbers for C.
 use Rattle.std.specs.Prelude.{ℕ}
 use Rattle.proc_macro2.specs.declared.EscapeError.{EscapeError}
 use Rattle.proc_macro2.specs.declared.EscapeError.TheVariants as faults
 
--- they count from 0, in the order in which they are declared
+-- the number of an error; the errors count from 0, in the order in which they are declared
 abbrev pub fault_number : EscapeError → ℕ
 fault_number faults.ZeroChars = 0
 fault_number faults.MoreThanOneChar = 1

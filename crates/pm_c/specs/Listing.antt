@@ -25,20 +25,20 @@ abbrev pub spacing_number : Spacing → ℕ
 spacing_number Alone = 0
 spacing_number Joint = 1
 
--- how many trees there are, without those inside of groups
+-- the number of trees in the stream, without those inside groups
 abbrev pub width : Forest → ℕ
 width nil = 0
 width (leaf token lo hi rest) = 1 + width rest
 width (group d lo hi inside rest) = 1 + width rest
 
--- the text that is kept of a tree, in bytes: that of an identifier or a literal as it is written
+-- the bytes of a tree's text in the listing: of an identifier or a literal as it is written, and none of others
 abbrev pub kept_text : TokenTree → List ℕ
 kept_text (Group g) = []
 kept_text (Ident i) = spelling i
 kept_text (Punct p) = []
 kept_text (Literal l) = encode_utf8_all l.text
 
--- the record of a tree whose text begins at this byte
+-- the record of a tree whose text begins at this byte offset
 abbrev pub record_of : ℕ → TokenTree → PmTree
 record_of start (Group g) =
     record {
@@ -63,7 +63,8 @@ record_of start (Literal l) =
       count = length (encode_utf8_all l.text);
     }
 
--- the records of trees in order, of which the first has its text at this byte, and each other after the one before
+-- the records of trees in order; the text of the first begins at this byte offset, and each other text follows the one
+-- before
 abbrev pub records_from : ℕ → List TokenTree → List PmTree
 records_from start [] = []
 records_from start (tree ∷ trees) = record_of start tree ∷ records_from (start + length (kept_text tree)) trees
@@ -73,14 +74,14 @@ abbrev pub IsTooLong : Forest → Type 0
 IsTooLong stream =
     (4294967296 ≤ length (in_order stream)) ⊎ (4294967296 ≤ length (flat_map kept_text (in_order stream)))
 
--- how many trees stand right inside the tree
+-- the number of trees directly inside the tree
 abbrev pub inner_width : TokenTree → ℕ
 inner_width (Group g) = width g.stream
 inner_width (Ident i) = 0
 inner_width (Punct p) = 0
 inner_width (Literal l) = 0
 
--- a number of the tree's record doesn't go into 32 bits, or that of the byte where its text ends
+-- a number of the tree's record, or the byte offset where its text ends, doesn't fit in 32 bits
 abbrev pub IsLongTree : ℕ → TokenTree → Type 0
 IsLongTree start tree = (4294967296 ≤ start + length (kept_text tree)) ⊎ (4294967296 ≤ inner_width tree)
 

@@ -1,4 +1,4 @@
--- Why a text doesn't parse, as the codes of C number it.
+-- Why a text doesn't parse, as numbers for C.
 use Rattle.std.specs.Prelude.{ℕ, Option, None, Some}
 use Rattle.explain.specs.declared.explained.Explained.{Explained}
 use Rattle.explain.specs.declared.explained.Opener.{Opener}
@@ -8,7 +8,7 @@ use Rattle.pm_c.specs.Faults.{fault_number}
 use Rattle.pm_c.specs.declared.codes.TheConstants.{DONE}
 use Rattle.pm_c.specs.declared.records.PmExplanation.{PmExplanation}
 
--- reasons count from 1, in the order in which they are declared
+-- the number of a reason; the reasons count from 1, in the order in which they are declared
 abbrev pub reason_number : Reason → ℕ
 reason_number reasons.UnclosedComment = 1
 reason_number reasons.BareReturnInDoc = 2
@@ -30,21 +30,22 @@ reason_number reasons.StrayCloser = 17
 reason_number reasons.MismatchedCloser = 18
 reason_number reasons.UnclosedOpener = 19
 
--- of the content of a literal its fault, and of all else 0
+-- the number of the error for the content of a literal, and 0 for every other reason
 abbrev pub detail_number : Reason → ℕ
 detail_number (reasons.Content error) = fault_number error
 detail_number other = 0
 
--- where an opener begins and ends, and 0 of none
+-- where an opener begins, and 0 if there is none
 abbrev pub opener_start : Option Opener → ℕ
 opener_start None = 0
 opener_start (Some opener) = opener.at.start
 
+-- where an opener ends, and 0 if there is none
 abbrev pub opener_end : Option Opener → ℕ
 opener_end None = 0
 opener_end (Some opener) = opener.at.end
 
--- what C is told of a text that doesn't parse
+-- the record for C of an explanation
 abbrev pub told_of : Explained → PmExplanation
 told_of x = record {
   code = DONE;

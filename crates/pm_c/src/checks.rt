@@ -1,4 +1,4 @@
-//! Which texts are names and literals.
+//! Checks whether texts are names or literals.
 ghost use Rattle.pm_c.specs.Calls.{IdentAnswer, LiteralAnswer};
 
 use crate::codes::{
@@ -8,7 +8,7 @@ use proc_macro2::{Ident, IdentError, Literal, Span};
 use std::alloc::Global;
 use std::str;
 
-/// Which fault a name has.
+/// Returns the code that says whether `name` is the name of an identifier, or why it is not.
 pub(crate) fn ident(alloc: Global, name: &[u8], raw: bool) -> u32
     ensures { IdentAnswer raw name.now result }
 {
@@ -30,7 +30,7 @@ pub(crate) fn ident(alloc: Global, name: &[u8], raw: bool) -> u32
     }
 }
 
-/// Whether a text is a literal.
+/// Returns the code that says whether the text is a literal.
 pub(crate) fn literal(text: &[u8]) -> u32
     ensures { LiteralAnswer text.now result }
 {

@@ -1,10 +1,10 @@
-//! The faults of a literal's content as numbers.
+//! The errors in the content of a literal, as numbers.
 ghost use Rattle.std.specs.Prelude.{◌≡◌};
 ghost use Rattle.pm_c.specs.Faults.{fault_number};
 
 use proc_macro2::EscapeError;
 
-/// The number of a fault: the faults count from 0 in the order in which they are declared.
+/// Returns the number of an error. The errors count from 0, in the order in which they are declared.
 pub(crate) fn fault_number(fault: &EscapeError) -> u32
     ensures { result ≡ fault_number fault.now }
 {

@@ -1,4 +1,4 @@
-//! A session that C holds by its address.
+//! The handle of a session, which C holds by its address.
 ghost use Rattle.std.specs.Prelude.{◌≡◌, Bool, Some, None, true, false, MatchOption};
 ghost use Rattle.std.specs.Box.Ownership.{box_owns};
 ghost use Rattle.pm_c.specs.Held.{held_if, session_coded};
@@ -20,7 +20,7 @@ impl<T, A: Allocator> Model for Parts<T, A> {
 }
 
 impl<T, A: Allocator> Parts<T, A> {
-    /// The parts of a box.
+    /// Returns the parts of a box.
     pub(crate) fn of(b: Box<T, A>) -> Parts<T, A>
     where
         T: Drop,
@@ -30,7 +30,7 @@ impl<T, A: Allocator> Parts<T, A> {
         Parts { ptr, alloc }
     }
 
-    /// The box of these parts.
+    /// Returns the box of these parts.
     pub(crate) fn into_box(self) -> Box<T, A>
         ensures { result.value ≡ self.value }
     {
@@ -39,8 +39,8 @@ impl<T, A: Allocator> Parts<T, A> {
     }
 }
 
-/// The box of a session, which may be gone: then it owns nothing, and its pointer may be null. Letting one go that
-/// isn't gone leaks it.
+/// The box of a session. If it isn't live, it owns nothing, and its pointer may be null. Dropping it while it is live
+/// leaks the session.
 #[repr(C)]
 #[derive(Drop)]
 pub struct SessionBox {
@@ -77,8 +77,8 @@ impl SessionBox {
     }
 }
 
-/// A session on the heap, as C holds it: `struct pm_session { void *at; bool live; }`. One that isn't live owns
-/// nothing. Letting a live one go leaks it.
+/// The handle of a session on the heap, in C `struct pm_session { void *at; bool live; }`. If it isn't live, it owns
+/// nothing. Dropping it while it is live leaks the session.
 #[repr(C)]
 #[derive(Drop)]
 pub struct PmSession {
@@ -88,7 +88,7 @@ pub struct PmSession {
 }
 
 impl PmSession {
-    /// The handle of the session.
+    /// Returns the handle of the session.
     pub(crate) fn of(session: Box<Session, Global>) -> PmSession
         ensures live { result.live ≡ true }
         ensures value { result.inside.value ≡ session.value }
@@ -99,7 +99,7 @@ impl PmSession {
         }
     }
 
-    /// The session of a handle that is live, and `None` of another.
+    /// Returns the session of a live handle, and `None` for any other handle.
     pub(crate) fn open(self) -> Option<Box<Session, Global>>
         ensures { MatchOption result (self.live ≡ false)
             (λ session. (self.live ≡ true) × (session.value ≡ self.inside.value)) }

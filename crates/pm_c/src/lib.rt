@@ -1,9 +1,9 @@
-//! Token streams for C: a session reads texts into streams, lists and prints them, makes literals and answers where
-//! things stand. `rust/c/header.py` makes `pm_c.h` of this file: the comments and the types of the exports, and the
-//! codes that each one's record in `specs/Calls.antt` names.
+//! The C interface to token streams. A session reads texts into streams, lists and prints them, makes literals, and
+//! finds lines, columns and source text. `rust/c/header.py` makes `pm_c.h` from this file: from the comments and types
+//! of the exports, and from the codes that each one's record in `specs/Calls.antt` lists.
 //!
-//! A call's answer and what it leaves of the session are that record. `handle` is the same of each call: a session's
-//! handle goes back by `back`, and of one that isn't live `NOT_LIVE` is answered and nothing is written.
+//! The record says what the call returns and how the session changes. The clause `handle` says of each call that a
+//! live handle is written to `back`. If the handle isn't live, the code is `NOT_LIVE` and nothing is written.
 #![tactic(auto)]
 
 mod checks;
@@ -59,7 +59,7 @@ pub use records::{PmAnswer, PmExplanation, PmLineColumn, PmPiece, PmRange, PmTre
 use session::Session;
 use std::alloc::Global;
 
-// Makes a call of a session, whose handle then goes back.
+// Calls a method of the session, and then writes the session's handle to `back`.
 macro_rules! on_session {
     ($session:ident, $back:ident, $not_live:expr, |$inside:ident| $call:expr) => {{
         let Some(mut $inside) = $session.open() else {
@@ -71,8 +71,8 @@ macro_rules! on_session {
     }};
 }
 
-/// Makes a session, which `pm_session_free` frees, and writes its handle over one that isn't live. What stood there is
-/// lost.
+/// Makes a session and writes its handle to `out`. `pm_session_free` frees it. A session whose handle was in `out`
+/// before is lost.
 #[unsafe(no_mangle)]
 pub extern "C" fn pm_session_new(alloc: Global, out: &mut PmSession) -> u32
     ensures codes { IsAmong (DONE ∷ NO_MEMORY ∷ []) result }
@@ -104,8 +104,8 @@ pub extern "C" fn pm_session_free(session: PmSession) -> u32
     }
 }
 
-/// Reads a text into a stream of the session, whose number is `number`. The text is a file of the session from then on,
-/// also if it has a fault. After `NOT_UTF8` and `MAP_FULL` it is none, after `NO_MEMORY` it may be one.
+/// Reads a text into a new stream of the session, with the number `number`. The text is a file of the session from then
+/// on, also after `FAULT` and `TOO_LONG`. It is none after `NOT_UTF8` and `MAP_FULL`, and may be one after `NO_MEMORY`.
 #[unsafe(no_mangle)]
 pub extern "C" fn pm_parse(session: PmSession, back: &mut PmSession, text: &[u8]) -> PmAnswer
     ensures handle { HandsBack session back.old back.new result.code }
@@ -119,7 +119,7 @@ pub extern "C" fn pm_parse(session: PmSession, back: &mut PmSession, text: &[u8]
     )
 }
 
-/// Lets a stream of the session go. Its number may be that of a later one.
+/// Frees a stream of the session. A later stream may get its number.
 #[unsafe(no_mangle)]
 pub extern "C" fn pm_stream_free(session: PmSession, back: &mut PmSession, stream: u32) -> u32
     ensures handle { HandsBack session back.old back.new result }
@@ -128,7 +128,7 @@ pub extern "C" fn pm_stream_free(session: PmSession, back: &mut PmSession, strea
     on_session!(session, back, NOT_LIVE, |inside| inside.free(stream))
 }
 
-/// Prints a stream into the session's text, of `bytes` bytes.
+/// Prints a stream into the session's text, which then has `bytes` bytes.
 #[unsafe(no_mangle)]
 pub extern "C" fn pm_print(session: PmSession, back: &mut PmSession, stream: u32) -> PmAnswer
     ensures handle { HandsBack session back.old back.new result.code }
@@ -142,8 +142,8 @@ pub extern "C" fn pm_print(session: PmSession, back: &mut PmSession, stream: u32
     )
 }
 
-/// Prints a text into the session's text, of `bytes` bytes, as `pm_parse` and `pm_print` would, but makes no stream and
-/// no file. A fault's position counts from 1.
+/// Prints a text into the session's text, which then has `bytes` bytes, as `pm_parse` and `pm_print` would, but makes
+/// no stream and no file. The position of a syntax error counts from 1.
 #[unsafe(no_mangle)]
 pub extern "C" fn pm_reprint(session: PmSession, back: &mut PmSession, text: &[u8]) -> PmAnswer
     ensures handle { HandsBack session back.old back.new result.code }
@@ -157,8 +157,8 @@ pub extern "C" fn pm_reprint(session: PmSession, back: &mut PmSession, text: &[u
     )
 }
 
-/// Lists a stream: the session's records are its trees in reading order, and the session's text is the texts of its
-/// identifiers and literals one after another. `number` says how many records there are, `bytes` how many bytes.
+/// Lists a stream. The session's records become its trees in reading order, and the session's text the texts of its
+/// identifiers and literals, one after another. `number` counts the records, and `bytes` the bytes of the text.
 #[unsafe(no_mangle)]
 pub extern "C" fn pm_list(session: PmSession, back: &mut PmSession, stream: u32) -> PmAnswer
     ensures handle { HandsBack session back.old back.new result.code }
@@ -172,8 +172,8 @@ pub extern "C" fn pm_list(session: PmSession, back: &mut PmSession, stream: u32)
     )
 }
 
-/// Lists all pieces of a text, white characters and comments too, and makes no file. `number` says how many records
-/// there are, and `bytes` where the pieces end: they cover the text exactly if that is its length.
+/// Lists all pieces of a text as the session's records, with white characters and comments, and makes no file. `number`
+/// counts the records. The pieces end at the byte offset `bytes`, and cover the text exactly if that is its length.
 #[unsafe(no_mangle)]
 pub extern "C" fn pm_pieces(session: PmSession, back: &mut PmSession, text: &[u8]) -> PmAnswer
     ensures handle { HandsBack session back.old back.new result.code }
@@ -187,7 +187,7 @@ pub extern "C" fn pm_pieces(session: PmSession, back: &mut PmSession, text: &[u8
     )
 }
 
-/// Copies the session's text into a buffer of just its length. One of any other length isn't written.
+/// Copies the session's text into a buffer of exactly its length. A buffer of any other length is not written.
 #[unsafe(no_mangle)]
 pub extern "C" fn pm_copy_text(session: PmSession, back: &mut PmSession, into: &mut [u8]) -> u32
     ensures handle { HandsBack session back.old back.new result }
@@ -199,7 +199,7 @@ pub extern "C" fn pm_copy_text(session: PmSession, back: &mut PmSession, into: &
     on_session!(session, back, NOT_LIVE, |inside| inside.copy_text(into))
 }
 
-/// Copies the session's bytes into a buffer of just their number. One of any other length isn't written.
+/// Copies the session's bytes into a buffer of exactly their number. A buffer of any other length is not written.
 #[unsafe(no_mangle)]
 pub extern "C" fn pm_copy_bytes(session: PmSession, back: &mut PmSession, into: &mut [u8]) -> u32
     ensures handle { HandsBack session back.old back.new result }
@@ -210,7 +210,7 @@ pub extern "C" fn pm_copy_bytes(session: PmSession, back: &mut PmSession, into: 
     on_session!(session, back, NOT_LIVE, |inside| inside.copy_bytes(into))
 }
 
-/// Copies the records of `pm_list` into a buffer of just their number. One of any other length isn't written.
+/// Copies the records of `pm_list` into a buffer of exactly their number. A buffer of any other length is not written.
 #[unsafe(no_mangle)]
 pub extern "C" fn pm_copy_trees(
     session: PmSession,
@@ -225,7 +225,7 @@ pub extern "C" fn pm_copy_trees(
     on_session!(session, back, NOT_LIVE, |inside| inside.copy_trees(into))
 }
 
-/// Copies the records of `pm_pieces` into a buffer of just their number. One of any other length isn't written.
+/// Copies the records of `pm_pieces` into a buffer of just their number. A buffer of any other length is not written.
 #[unsafe(no_mangle)]
 pub extern "C" fn pm_copy_pieces(
     session: PmSession,
@@ -240,7 +240,7 @@ pub extern "C" fn pm_copy_pieces(
     on_session!(session, back, NOT_LIVE, |inside| inside.copy_pieces(into))
 }
 
-/// Says why a text doesn't parse, and where. It makes no file and needs no session, so any thread may call it.
+/// Returns why a text doesn't parse, and where. It makes no file and needs no session, so any thread may call it.
 #[unsafe(no_mangle)]
 pub extern "C" fn pm_explain(alloc: Global, text: &[u8]) -> PmExplanation
     ensures answer { ExplainAnswer text.now result }
@@ -248,8 +248,8 @@ pub extern "C" fn pm_explain(alloc: Global, text: &[u8]) -> PmExplanation
     reasons::explain_text(alloc, text)
 }
 
-/// Whether the name is that of an identifier, a raw one or a plain one; it is given without `r#`. Any thread may call
-/// it.
+/// Checks whether `name`, which is given without `r#`, is the name of an identifier: of a raw one if `raw` is true,
+/// else of a plain one. Any thread may call it.
 #[unsafe(no_mangle)]
 pub extern "C" fn pm_ident_check(alloc: Global, name: &[u8], raw: bool) -> u32
     ensures answer { IdentAnswer raw name.now result }
@@ -257,7 +257,7 @@ pub extern "C" fn pm_ident_check(alloc: Global, name: &[u8], raw: bool) -> u32
     checks::ident(alloc, name, raw)
 }
 
-/// Whether the text is a literal, or `-` and a number. Any thread may call it.
+/// Checks whether the text is a literal, or `-` and a number. Any thread may call it.
 #[unsafe(no_mangle)]
 pub extern "C" fn pm_literal_check(text: &[u8]) -> u32
     ensures answer { LiteralAnswer text.now result }
@@ -265,8 +265,8 @@ pub extern "C" fn pm_literal_check(text: &[u8]) -> u32
     checks::literal(text)
 }
 
-/// Reads the text of a literal, which is a file of the session from then on, also if it is none: it begins at the
-/// position `number` and has `bytes` characters.
+/// Reads the text of a literal, which begins at the position `number` and has `bytes` characters, not bytes. From then
+/// on the text is a file of the session, also after `NO_LITERAL`.
 #[unsafe(no_mangle)]
 pub extern "C" fn pm_read_literal(session: PmSession, back: &mut PmSession, text: &[u8]) -> PmAnswer
     ensures handle { HandsBack session back.old back.new result.code }
@@ -281,7 +281,7 @@ pub extern "C" fn pm_read_literal(session: PmSession, back: &mut PmSession, text
     )
 }
 
-/// The string literal of a text, as the session's text, of `bytes` bytes.
+/// Writes the string literal of a text into the session's text, which then has `bytes` bytes.
 #[unsafe(no_mangle)]
 pub extern "C" fn pm_string(session: PmSession, back: &mut PmSession, text: &[u8]) -> PmAnswer
     ensures handle { HandsBack session back.old back.new result.code }
@@ -295,7 +295,7 @@ pub extern "C" fn pm_string(session: PmSession, back: &mut PmSession, text: &[u8
     )
 }
 
-/// The literal of a character, as the session's text, of `bytes` bytes.
+/// Writes the literal of a character into the session's text, which then has `bytes` bytes.
 #[unsafe(no_mangle)]
 pub extern "C" fn pm_character(session: PmSession, back: &mut PmSession, character: u32) -> PmAnswer
     ensures handle { HandsBack session back.old back.new result.code }
@@ -309,7 +309,7 @@ pub extern "C" fn pm_character(session: PmSession, back: &mut PmSession, charact
     )
 }
 
-/// The literal of a byte, as the session's text, of `bytes` bytes.
+/// Writes the literal of a byte into the session's text, which then has `bytes` bytes.
 #[unsafe(no_mangle)]
 pub extern "C" fn pm_byte_character(session: PmSession, back: &mut PmSession, byte: u8) -> PmAnswer
     ensures handle { HandsBack session back.old back.new result.code }
@@ -324,7 +324,7 @@ pub extern "C" fn pm_byte_character(session: PmSession, back: &mut PmSession, by
     )
 }
 
-/// The byte string literal of some bytes, as the session's text, of `bytes` bytes.
+/// Writes the byte string literal of some bytes into the session's text, which then has `bytes` bytes.
 #[unsafe(no_mangle)]
 pub extern "C" fn pm_byte_string(
     session: PmSession,
@@ -343,7 +343,7 @@ pub extern "C" fn pm_byte_string(
     )
 }
 
-/// The C string literal of some bytes without the zero that ends them, as the session's text, of `bytes` bytes.
+/// Writes the C string literal of some bytes, without a zero at their end, into the session's text, of `bytes` bytes.
 #[unsafe(no_mangle)]
 pub extern "C" fn pm_c_string(session: PmSession, back: &mut PmSession, contents: &[u8]) -> PmAnswer
     ensures handle { HandsBack session back.old back.new result.code }
@@ -358,7 +358,7 @@ pub extern "C" fn pm_c_string(session: PmSession, back: &mut PmSession, contents
     )
 }
 
-/// The value of a string literal, given by its text, as the session's text, of `bytes` bytes.
+/// Writes the value of a string literal, given by its text, into the session's text, which then has `bytes` bytes.
 #[unsafe(no_mangle)]
 pub extern "C" fn pm_str_value(session: PmSession, back: &mut PmSession, text: &[u8]) -> PmAnswer
     ensures handle { HandsBack session back.old back.new result.code }
@@ -375,7 +375,7 @@ pub extern "C" fn pm_str_value(session: PmSession, back: &mut PmSession, text: &
     )
 }
 
-/// The value of a byte string literal, given by its text, as the session's bytes, `bytes` of them.
+/// Writes the value of a byte string literal, given by its text, into the session's bytes, which are `bytes` then.
 #[unsafe(no_mangle)]
 pub extern "C" fn pm_byte_str_value(
     session: PmSession,
@@ -396,8 +396,8 @@ pub extern "C" fn pm_byte_str_value(
     )
 }
 
-/// The value of a C string literal, given by its text, with the zero that ends it, as the session's bytes, `bytes` of
-/// them.
+/// Writes the value of a C string literal, given by its text, into the session's bytes, which are `bytes` then. The
+/// zero at the end is one of them.
 #[unsafe(no_mangle)]
 pub extern "C" fn pm_cstr_value(session: PmSession, back: &mut PmSession, text: &[u8]) -> PmAnswer
     ensures handle { HandsBack session back.old back.new result.code }
@@ -414,7 +414,7 @@ pub extern "C" fn pm_cstr_value(session: PmSession, back: &mut PmSession, text: 
     )
 }
 
-/// The line and column of a position.
+/// Returns the line and column of a position.
 #[unsafe(no_mangle)]
 pub extern "C" fn pm_line_column_of(
     session: PmSession,
@@ -433,7 +433,7 @@ pub extern "C" fn pm_line_column_of(
     )
 }
 
-/// The bytes of its text that a span takes.
+/// Returns the byte offsets in its text where a span begins and ends.
 #[unsafe(no_mangle)]
 pub extern "C" fn pm_byte_range(
     session: PmSession,
@@ -453,7 +453,7 @@ pub extern "C" fn pm_byte_range(
     )
 }
 
-/// What stands in its text between the ends of a span, as the session's text, of `bytes` bytes. The span 0..0 has none.
+/// Writes the text of a span into the session's text, which then has `bytes` bytes. The span 0..0 has no text.
 #[unsafe(no_mangle)]
 pub extern "C" fn pm_source_text(
     session: PmSession,
@@ -472,7 +472,7 @@ pub extern "C" fn pm_source_text(
     )
 }
 
-/// The name of the text that has a span, as the session's text: `<parsed string 2>` for the second one.
+/// Writes the name of the text that has the span into the session's text: `<parsed string 2>` for the second text.
 #[unsafe(no_mangle)]
 pub extern "C" fn pm_file_name(
     session: PmSession,
@@ -491,7 +491,7 @@ pub extern "C" fn pm_file_name(
     )
 }
 
-/// The span from the first beginning of two spans to their last end. `NOT_HELD` is of the first of them.
+/// Returns the span from the earlier start of two spans to their later end. `NOT_HELD` is about the first of the two.
 #[unsafe(no_mangle)]
 pub extern "C" fn pm_join(
     session: PmSession,
@@ -513,8 +513,8 @@ pub extern "C" fn pm_join(
     )
 }
 
-/// Forgets the texts that were read, but no stream. The next one begins at 1 again, so spans of those before are of no
-/// use.
+/// Forgets the texts that were read, but no stream. The next text begins at position 1 again, so spans of earlier texts
+/// are no longer valid.
 #[unsafe(no_mangle)]
 pub extern "C" fn pm_forget(session: PmSession, back: &mut PmSession) -> u32
     ensures handle { HandsBack session back.old back.new result }

@@ -20,17 +20,17 @@ use proc_macro2::{Delimiter, Spacing, TokenStream, TokenTree};
 use std::alloc::{AllocError, AllocFailed};
 use std::fmt::Write;
 
-/// Why a stream isn't listed.
+/// Why a stream cannot be listed.
 #[derive(Drop)]
 pub(crate) enum ListError {
-    /// A count doesn't go into 32 bits.
+    /// A count doesn't fit in 32 bits.
     TooLong,
     /// Memory ran out.
     Memory,
 }
 
 impl ListError {
-    /// Its code.
+    /// Returns the code of the error.
     pub(crate) fn code(&self) -> u32
         ensures { result ≡ error_code self.now }
     {
@@ -63,8 +63,8 @@ impl<T: Drop> From<AllocFailed<T>> for ListError {
     }
 }
 
-/// Writes the records of a stream's trees over `trees`, each group before those inside it, and the texts of its
-/// identifiers and literals, one after another, over `text`. Answers how many records there are.
+/// Replaces `trees` by the records of a stream's trees, each group before the trees inside it, and `text` by the texts
+/// of its identifiers and literals, one after another. Returns the number of records.
 pub(crate) fn list(
     stream: &TokenStream,
     trees: &mut Vec<PmTree>,
@@ -85,7 +85,7 @@ pub(crate) fn list(
     narrow(trees.len())
 }
 
-/// The record of a tree, whose text goes after the others.
+/// Returns the record of a tree, and appends the tree's text to `text`.
 fn record_of(tree: &TokenTree, text: &mut String) -> Result<PmTree, ListError>
     ensures record { IfOk result (λ made. made ≡ record_of (length (string_bytes text.old)) tree.now) }
     ensures text { OnOk result (string_bytes text.new ≡ string_bytes text.old ++ kept_text tree.now) }
@@ -136,14 +136,14 @@ fn record_of(tree: &TokenTree, text: &mut String) -> Result<PmTree, ListError>
     }
 }
 
-/// How many trees a stream has, without those inside of groups.
+/// Returns how many trees a stream has, without those inside groups.
 fn width(stream: &TokenStream) -> usize
     ensures { result ≡ width stream.now }
 {
     stream.trees().len()
 }
 
-/// The number of a delimiter.
+/// Returns the number of a delimiter.
 pub(crate) fn delimiter_number(delimiter: Delimiter) -> u8
     ensures { result ≡ delimiter_number delimiter }
 {
@@ -155,7 +155,7 @@ pub(crate) fn delimiter_number(delimiter: Delimiter) -> u8
     }
 }
 
-/// The number of a spacing.
+/// Returns the number of a spacing.
 pub(crate) fn spacing_number(spacing: Spacing) -> u8
     ensures { result ≡ spacing_number spacing }
 {
@@ -165,7 +165,7 @@ pub(crate) fn spacing_number(spacing: Spacing) -> u8
     }
 }
 
-/// The count in 32 bits.
+/// Returns the count as a number of 32 bits, if it fits.
 pub(crate) fn narrow(count: usize) -> Result<u32, ListError>
     ensures ok { IfOk result (λ narrow. narrow ≡ count) }
     ensures too_long { OnErr result (4294967296 ≤ count) }

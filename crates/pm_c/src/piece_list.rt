@@ -8,7 +8,7 @@ use crate::records::PmPiece;
 use proc_macro2::{PieceKind, pieces};
 use std::alloc::AllocError;
 
-/// Writes the records of all pieces of the text over `records`, and answers how many bytes they take.
+/// Replaces `records` by the records of all pieces of the text, and returns how many bytes the pieces have.
 pub(crate) fn list_pieces(text: &str, records: &mut Vec<PmPiece>) -> Result<usize, AllocError>
     requires { length text.now < 2 ^ 32 }
     ensures lists { IfOk result (ListsPieces text.now records.new.items) }
@@ -30,7 +30,7 @@ pub(crate) fn list_pieces(text: &str, records: &mut Vec<PmPiece>) -> Result<usiz
     Ok(text.len() - walk.rest().len())
 }
 
-/// The number of a kind of piece, and what is said besides.
+/// Returns the number of the kind of piece, and the detail of its record.
 fn kind_numbers(kind: PieceKind<'_>, text: &str) -> (u8, u8)
     ensures { result ≡ kind_numbers (kind_of kind.entry (chars text.now)) text.now }
 {
@@ -46,7 +46,7 @@ fn kind_numbers(kind: PieceKind<'_>, text: &str) -> (u8, u8)
     }
 }
 
-/// The number of a gap: that of a comment, or of a white character.
+/// Returns the number of a gap: 2 for a comment, 1 for a white character.
 fn gap_number(text: &str) -> u8
     ensures { result ≡ gap_number text.now }
 {
@@ -56,7 +56,7 @@ fn gap_number(text: &str) -> u8
     }
 }
 
-/// 1 for what is so.
+/// Returns 1 for `true` and 0 for `false`.
 fn flag_number(flag: bool) -> u8
     ensures { result ≡ flag_number flag }
 {

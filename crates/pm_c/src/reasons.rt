@@ -10,7 +10,7 @@ use explain::{ExplainError, Explained, Reason, explain};
 use std::alloc::Global;
 use std::str;
 
-/// Why a text doesn't parse.
+/// Returns why a text doesn't parse, and where.
 pub(crate) fn explain_text(alloc: Global, source: &[u8]) -> PmExplanation
     ensures { ExplainAnswer source.now result }
 {
@@ -25,7 +25,7 @@ pub(crate) fn explain_text(alloc: Global, source: &[u8]) -> PmExplanation
     }
 }
 
-/// What C is told of it.
+/// Returns the record for C of an explanation.
 fn told_of(explained: &Explained) -> PmExplanation
     ensures { result ≡ told_of explained.now }
 {
@@ -45,7 +45,7 @@ fn told_of(explained: &Explained) -> PmExplanation
     }
 }
 
-/// The number of a reason, from 1 on.
+/// Returns the number of a reason. The reasons count from 1, in the order in which they are declared.
 fn reason_number(reason: &Reason) -> u32
     ensures { result ≡ reason_number reason.now }
 {
@@ -72,7 +72,7 @@ fn reason_number(reason: &Reason) -> u32
     }
 }
 
-/// Of the content of a literal the number of its fault, and of all else 0.
+/// Returns the number of the error for the content of a literal, and 0 for every other reason.
 fn detail_number(reason: &Reason) -> u32
     ensures { result ≡ detail_number reason.now }
 {

@@ -1,23 +1,24 @@
-//! What crosses to C: answers and records. `rust/c/header.py` makes the structs of `pm_c.h` of these.
+//! The records that calls return to C. `rust/c/header.py` makes the structs of `pm_c.h` from these.
 ghost use Rattle.std.specs.Prelude.{◌≡◌};
 ghost use Rattle.pm_c.specs.declared.codes.TheConstants.{DONE};
 
 use crate::codes::DONE;
 
-/// What a call answers. Where it isn't done only `code` is of use, and `number` where the code's line names it.
+/// The result of a call. If the code is not `DONE`, only `code` has a meaning, and `number` if the code's comment names
+/// it.
 #[repr(C)]
 #[derive(Clone, Copy)]
 pub struct PmAnswer {
-    /// How it went: a code.
+    /// The code of the call.
     pub code: u32,
-    /// A number, which the call names.
+    /// A number, whose meaning the comment of the call gives.
     pub number: u32,
-    /// How many bytes the call's text or bytes have.
+    /// The number of bytes in what the call made, unless its comment gives another meaning.
     pub bytes: usize,
 }
 
 impl PmAnswer {
-    /// That it wasn't done, for this reason.
+    /// Returns the result of a call that failed with this code.
     pub(crate) fn refused(code: u32) -> PmAnswer
         ensures { result.code ≡ code }
     {
@@ -28,7 +29,7 @@ impl PmAnswer {
         }
     }
 
-    /// That it is done, with so many bytes of text.
+    /// Returns the result of a call that succeeded.
     pub(crate) fn done(number: u32, bytes: usize) -> PmAnswer
         ensures { result ≡ record { code = DONE; number = number; bytes = bytes } }
     {
@@ -40,21 +41,21 @@ impl PmAnswer {
     }
 }
 
-/// A tree, as it is listed in reading order.
+/// A tree of a stream, as `pm_list` lists it.
 #[repr(C)]
 #[derive(Clone, Copy)]
 pub struct PmTree {
-    /// 0 group, 1 identifier, 2 mark, 3 literal.
+    /// 0 for a group, 1 for an identifier, 2 for a mark, 3 for a literal.
     pub kind: u8,
-    /// Of a group 0 for ( ), 1 for { }, 2 for [ ], 3 for none; 1 for a mark that is joint; else 0.
+    /// For a group 0 for ( ), 1 for { }, 2 for [ ], 3 for no delimiters; for a mark 1 if it is joint; else 0.
     pub detail: u8,
     /// The position where it begins, in characters.
     pub lo: u32,
     /// The position where it ends, in characters.
     pub hi: u32,
-    /// Where its text begins, in bytes of the session's text; of a mark its character; of a group 0.
+    /// The byte offset of its text in the session's text; for a mark its character; for a group 0.
     pub start: u32,
-    /// How many bytes its text has; of a group how many trees stand right inside it; of a mark 0.
+    /// The number of bytes in its text; for a group the number of trees directly inside it; for a mark 0.
     pub count: u32,
 }
 
@@ -62,36 +63,37 @@ pub struct PmTree {
 #[repr(C)]
 #[derive(Clone, Copy)]
 pub struct PmPiece {
-    /// 0 the mark U+FEFF at the front, 1 white character, 2 comment, 3 doc comment, 4 opener, 5 closer, 6 literal,
-    /// 7 mark, 8 identifier.
+    /// 0 for the mark U+FEFF at the start, 1 for a white character, 2 for a comment, 3 for a doc comment, 4 for an
+    /// opener, 5 for a closer, 6 for a literal, 7 for a mark, 8 for an identifier.
     pub kind: u8,
-    /// 1 for a doc comment with `!`, a mark that is joint and an identifier with `r#`; else 0.
+    /// 1 for a doc comment with `!`, for a joint mark and for an identifier with `r#`; else 0.
     pub detail: u8,
-    /// Where it begins, in bytes of the text.
+    /// The byte offset in the text where it begins.
     pub start: u32,
-    /// How many bytes it has.
+    /// The number of its bytes.
     pub count: u32,
 }
 
-/// Why a text doesn't parse, and where. All places are in bytes of the text.
+/// Why a text doesn't parse, and where. All offsets are in bytes of the text.
 #[repr(C)]
 #[derive(Clone, Copy)]
 pub struct PmExplanation {
-    /// How it went: a code.
+    /// The code of the call.
     pub code: u32,
-    /// 0 where the text parses, and else one of the values of `pm_reason`.
+    /// 0 if the text parses, else one of the values of `pm_reason`.
     pub reason: u32,
-    /// Of the content of a literal its fault, one of the values of `pm_escape`; else 0.
+    /// For an error in the content of a literal, one of the values of `pm_escape`; else 0.
     pub detail: u32,
-    /// Where the fault stands.
+    /// The offset at which the text is rejected.
     pub fault: usize,
-    /// Where what is at fault begins: of a digit that is too large for its number, say, behind the fault.
+    /// The offset where the part that is wrong begins. It may be later than `fault`: for a digit that is too large for
+    /// the base, say.
     pub start: usize,
-    /// Where it ends.
+    /// The offset where the part that is wrong ends.
     pub end: usize,
-    /// Where the innermost opener before the fault begins that no closer matches; 0 where there is none.
+    /// The offset where the innermost opener begins that no closer before the error matches; 0 if there is none.
     pub opener_start: usize,
-    /// Where it ends; 0 where there is none.
+    /// The offset where that opener ends; 0 if there is none.
     pub opener_end: usize,
 }
 
@@ -99,28 +101,28 @@ pub struct PmExplanation {
 #[repr(C)]
 #[derive(Clone, Copy)]
 pub struct PmLineColumn {
-    /// How it went: a code.
+    /// The code of the call.
     pub code: u32,
-    /// The line, from 1 on.
+    /// The line, counted from 1.
     pub line: usize,
-    /// The column in characters, from 0 on.
+    /// The column in characters, counted from 0.
     pub column: usize,
 }
 
-/// Where something begins and ends.
+/// A part of a text, in byte offsets or in positions.
 #[repr(C)]
 #[derive(Clone, Copy)]
 pub struct PmRange {
-    /// How it went: a code.
+    /// The code of the call.
     pub code: u32,
-    /// Where it begins.
+    /// Where the part begins.
     pub start: usize,
-    /// Where it ends.
+    /// Where the part ends.
     pub end: usize,
 }
 
 impl PmRange {
-    /// That it wasn't done, for this reason.
+    /// Returns the result of a call that failed with this code.
     pub(crate) fn refused(code: u32) -> PmRange
         ensures { result.code ≡ code }
     {
@@ -131,7 +133,7 @@ impl PmRange {
         }
     }
 
-    /// That it is done, and from where to where it goes.
+    /// Returns the result of a call that succeeded.
     pub(crate) fn done(start: usize, end: usize) -> PmRange
         ensures { result ≡ record { code = DONE; start = start; end = end } }
     {
@@ -144,7 +146,7 @@ impl PmRange {
 }
 
 impl PmLineColumn {
-    /// That it wasn't done, for this reason.
+    /// Returns the result of a call that failed with this code.
     pub(crate) fn refused(code: u32) -> PmLineColumn
         ensures { result.code ≡ code }
     {
@@ -157,7 +159,7 @@ impl PmLineColumn {
 }
 
 impl PmExplanation {
-    /// That there is a code alone: the text parses, or it wasn't read.
+    /// Returns a result that has only a code: the text parses, or it was not read.
     pub(crate) fn without_reason(code: u32) -> PmExplanation
         ensures code { result.code ≡ code }
         ensures none { result.reason ≡ 0 }

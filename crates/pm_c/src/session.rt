@@ -1,4 +1,4 @@
-//! A session: a map, the streams that were read, and what is lent of them.
+//! A session: a map, the streams that were read, and the results that calls may copy.
 ghost use Rattle.std.specs.Prelude.{◌≡◌, ◌↔◌, ◌≤◌, ◌==◌, [], ◌∷◌, length, if◌then◌else◌, IfErr, IfOk, OnOk};
 ghost use Rattle.std.specs.Str.{chars, encode_utf8_all, IsUtf8};
 ghost use Rattle.std.specs.String.{string_bytes};
@@ -38,7 +38,7 @@ use std::alloc::{AllocError, Global};
 use std::fmt::Write;
 use std::str;
 
-/// A map, the streams that were read with it, and what was last printed, listed or made.
+/// A map, the streams that were read with it, and the last results of printing, listing and making literals.
 #[derive(Drop)]
 pub struct Session {
     alloc: Global,
@@ -51,7 +51,7 @@ pub struct Session {
 }
 
 impl Session {
-    /// A session that has read nothing. It takes no memory.
+    /// Returns a session that has read nothing. It allocates no memory.
     pub(crate) fn new(alloc: Global) -> Session
         ensures { IsNew result }
     {
@@ -66,7 +66,7 @@ impl Session {
         }
     }
 
-    /// Reads a text into a stream of the session, and answers its number.
+    /// Reads a text into a stream of the session, and returns the stream's number.
     pub(crate) fn parse(&mut self, source: &[u8]) -> PmAnswer
         ensures { ParseAnswer self.old source.now self.new result }
     {
@@ -76,7 +76,7 @@ impl Session {
         }
     }
 
-    /// The stream of a text, or why there is none.
+    /// Returns the stream of a text, or the result that says why there is none.
     fn stream_of(&mut self, source: &[u8]) -> Result<TokenStream, PmAnswer>
         ensures utf8 { OnOk result (IsUtf8 source.now) }
         ensures parses { IfOk result (ParsesTo (next_lo self.old.map) (chars source.now)) }
@@ -99,7 +99,7 @@ impl Session {
         }
     }
 
-    /// Keeps a stream, and answers its number.
+    /// Keeps a stream, and returns its number.
     fn keep(&mut self, stream: TokenStream) -> PmAnswer
         ensures done { result.code ≡ DONE → IsKept self.old stream self.new result.number }
         ensures too_long { result.code ≡ TOO_LONG → 4294967296 ≤ self.old.streams.vacant_key }
@@ -120,7 +120,7 @@ impl Session {
         }
     }
 
-    /// Lets a stream go, whose number the next stream may get.
+    /// Frees a stream. The next stream may get its number.
     pub(crate) fn free(&mut self, number: u32) -> u32
         ensures { FreeAnswer self.old number self.new result }
     {
@@ -143,7 +143,7 @@ impl Session {
         }
     }
 
-    /// Prints a text that is no file of the map into the session's text, with no trees.
+    /// Prints a text into the session's text. It makes no trees and no file of the map.
     pub(crate) fn reprint(&mut self, source: &[u8]) -> PmAnswer
         ensures { ReprintAnswer self.old source.now self.new result }
     {
@@ -172,7 +172,8 @@ impl Session {
         }
     }
 
-    /// Lists the pieces of a text that is no file of the map, and answers how many there are and where they end.
+    /// Lists the pieces of a text, which becomes no file of the map. Returns their number and the byte offset where
+    /// they end.
     pub(crate) fn pieces(&mut self, source: &[u8]) -> PmAnswer
         ensures { PiecesAnswer self.old source.now self.new result }
     {
@@ -189,7 +190,7 @@ impl Session {
     }
 }
 
-/// Prints a stream over the text.
+/// Replaces `text` by the printed stream.
 fn print(stream: &TokenStream, text: &mut String) -> Result<(), AllocError>
     ensures { OnOk result (string_bytes text.new ≡ encode_utf8_all (printed stream.now)) }
 {
@@ -197,7 +198,7 @@ fn print(stream: &TokenStream, text: &mut String) -> Result<(), AllocError>
     write!(text, "{stream}")
 }
 
-/// What a call answers to a text that wasn't read.
+/// Returns the result for a text that could not be read.
 fn refusal(error: ParseError) -> PmAnswer
     ensures code { result.code ≡ refusal_code error }
     ensures fault { result.code ≡ FAULT → IsFaultAt error result.number }

@@ -1,4 +1,4 @@
--- Texts have no more characters than bytes; the names of files in characters.
+-- No text has more characters than bytes. File names have as many of both.
 use Rattle.std.proofs.Common.{◌≡◌, ℕ, zero, suc, ◌^◌, ◌++◌, codes, ◌<◌, ◌≤◌, true, Bool, List, [], ◌∷◌, length, refl}
 use Rattle.std.proofs.Common.{ap, arith, ltb-true}
 use Rattle.std.specs.Prelude.{nat_lt}
@@ -15,11 +15,11 @@ use Rattle.pm_span.specs.Files.{file_name}
 pub length_chars_le : (bytes : List ℕ) → IsUtf8 bytes → length (chars bytes) ≤ length bytes
 length_chars_le bytes utf8 = omega (arith, length-le-encodes (chars bytes), ap length (encodes-chars bytes utf8))
 
--- each character is below 128
+-- whether each character is below 128
 abbrev all_ascii : List ℕ → Bool
 all_ascii text = list_all (λ c. nat_lt c 128) text
 
--- how a file from 1 on is named, as bytes and as characters
+-- a name of a file, as characters and as bytes
 pub IsAscii-from_test : (text : List ℕ) → all_ascii text ≡ true → IsAscii text
 IsAscii-from_test [] h = IsAscii-nil
 IsAscii-from_test (c ∷ text) h =

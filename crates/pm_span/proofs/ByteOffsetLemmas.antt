@@ -1,4 +1,4 @@
--- Known offsets of a text, and what stands before and after them.
+-- Lemmas on known offsets of a text, and on the text before and after them.
 use Rattle.std.proofs.Common.{◌≡◌, ℕ, ◌+◌, ◌*◌, ◌-◌, ◌<◌, ◌≤◌, List, [], ◌∷◌, ◌++◌, length, take, drop, get_or}
 use Rattle.std.proofs.Common.{refl, sym, ap, subst, ◌∙◌, arith, length-append, length-drop, inl, inr}
 use Rattle.std.specs.Str.{chars, IsUtf8, IsCharBoundary, encode_utf8_all}
@@ -12,7 +12,7 @@ use Rattle.pm_span.specs.ByteIndex.{IsByteOffset}
 use Rattle.pm_span.specs.CharOffset.{byte_offset}
 use Rattle.pm_span.proofs.SeamLemmas.{boundary_at, byte_offset-add, byte_offset-rising, front_at, rest_at, rest_bytes}
 
--- as many bytes as characters are to be passed have some of these characters, and the others follow
+-- n bytes have at most n characters, and the remaining characters follow them
 pub record IsPassed (bytes : List ℕ) (n : ℕ) : Type 0 where
   pub few : length (chars (take n bytes)) ≤ n
   pub size : length (chars (take n bytes)) + length (chars (drop n bytes)) ≡ length (chars bytes)
@@ -37,7 +37,7 @@ passed bytes n utf8 at =
           ∙ (drop-drop (n - length front) (length front) (chars bytes) ∙ ap (λ m. drop m (chars bytes)) sum);
     }
 
--- a block more ends
+-- one more block ends
 pub block_more :
     {text : List ℕ} (ends : List ℕ) (bytes : ℕ) → ((block : ℕ) → block < length ends
     → IsByteOffset text (64 * (block + 1)) (get_or ends block 0)) → IsByteOffset text (64 * (length ends + 1)) bytes
@@ -63,13 +63,13 @@ text_end {bytes} k utf8 same is =
     subst (λ t. IsByteOffset t k (length bytes)) same
     (record { within = omega (arith, ap length same); value = omega (arith, size) })
 
--- a text may be cut at a known offset
+-- a text can be cut at a known offset
 pub known_boundary : {bytes text : List ℕ} {k n : ℕ} → IsUtf8 bytes → chars bytes ≡ text → IsByteOffset text k n
     → IsCharBoundary bytes n
 known_boundary {bytes} {k = k} utf8 same known =
     subst (IsCharBoundary bytes) (ap (λ t. byte_offset t k) same ∙ sym known.value) (boundary_at bytes k utf8)
 
--- what stands before it
+-- the text before a known offset
 pub known_front :
     {bytes text front : List ℕ} {k n : ℕ} → IsUtf8 bytes → chars bytes ≡ text → IsByteOffset text k n
     → front ≡ take n bytes
@@ -78,7 +78,7 @@ known_front {bytes} {k = k} utf8 same known cut =
     ap chars (cut ∙ ap (λ m. take m bytes) (known.value ∙ ap (λ t. byte_offset t k) (sym same)))
     ∙ (front_at bytes k utf8 ∙ ap (take k) same)
 
--- what stands after it
+-- the text after a known offset
 pub known_rest :
     {bytes text rest : List ℕ} {k n : ℕ} → IsUtf8 bytes → chars bytes ≡ text → IsByteOffset text k n
     → rest ≡ drop n bytes
@@ -87,7 +87,7 @@ known_rest {bytes} {k = k} utf8 same known cut =
     ap chars (cut ∙ ap (λ m. drop m bytes) (known.value ∙ ap (λ t. byte_offset t k) (sym same)))
     ∙ (rest_at bytes k utf8 ∙ ap (drop k) same)
 
--- characters are counted back from a known offset
+-- the bytes before an offset, counted back from a known one
 pub back_from :
     (text front back : List ℕ) (k char_offset n : ℕ) → IsUtf8 back → chars front ≡ take k text → k ≤ length text
     → char_offset + n ≡ k
@@ -99,7 +99,7 @@ back_from text front back k char_offset n utf8 is within sum cut =
     (ap (take char_offset) is ∙ take-take char_offset k text (omega arith))) in
     ap length (sym (encodes-chars back utf8) ∙ ap encode_utf8_all same)
 
--- and on from one
+-- the bytes before an offset, counted on from a known one
 pub on_from :
     (bytes text rest left : List ℕ) (k char_offset n : ℕ) → IsUtf8 bytes → IsUtf8 left → chars bytes ≡ text
     → chars rest ≡ drop k text
@@ -109,7 +109,7 @@ on_from bytes text rest left k char_offset n utf8 more same is sum cut =
     cut ∙ (ap (drop n) is ∙ (drop-drop n k text ∙ (ap (λ m. drop m text) sum ∙ ap (drop char_offset) (sym same)))) in
     ap (λ t. byte_offset t char_offset + length left) (sym same) ∙ rest_bytes bytes left char_offset utf8 more here
 
--- each character takes a byte at least
+-- each character takes at least one byte
 pub byte_offset-gap : (text : List ℕ) (j k : ℕ) → j ≤ k → k ≤ length text
     → byte_offset text j + (k - j) ≤ byte_offset text k
 byte_offset-gap text j k le within =
@@ -123,7 +123,7 @@ byte_offset-gap text j k le within =
       length-take-le (k - j) (drop j text) (omega arith),
     )
 
--- as many bytes as characters stand between two known offsets, and so before each offset between them
+-- if two known offsets have as many bytes as characters between them, so has each offset between them
 pub narrow_between :
     {text : List ℕ} {j k m a b : ℕ} → IsByteOffset text j a → IsByteOffset text m b → j ≤ k → k ≤ m → b - a ≡ m - j
     → a + (k - j) ≡ byte_offset text k
@@ -137,6 +137,6 @@ narrow_between {text} {j} {k} {m} before after le below same =
       byte_offset-gap text k m below after.within,
     )
 
--- known offsets in order
+-- of two known offsets, the one with more characters has more bytes
 pub known_order : {text : List ℕ} {j m a b : ℕ} → IsByteOffset text j a → IsByteOffset text m b → j ≤ m → a ≤ b
 known_order {text} {j} {m} before after le = omega (arith, before.value, after.value, byte_offset-rising text j m le)

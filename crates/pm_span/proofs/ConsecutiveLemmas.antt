@@ -1,4 +1,4 @@
--- Lemmas on files that stand one after the other.
+-- Lemmas on files that follow one another.
 use Rattle.std.proofs.Common.{◌≡◌, ℕ, zero, suc, ◌+◌, ◌-◌, ◌<◌, ◌≤◌, ◌↔◌, List, [], ◌∷◌, ◌++◌, length, map, get_or}
 use Rattle.std.proofs.Common.{Option, Some, None, refl, sym, ap, ap₂, subst, ◌∙◌, ◌≢◌, arith}
 use Rattle.std.specs.Borrow.{Bor}
@@ -25,7 +25,7 @@ AreConsecutive-push position (f ∷ files) file h e = (
       (omega (arith, positions-cons f.text (texts_of files))),
 )
 
--- a file more takes one position more than it has characters
+-- one more file takes one position more than it has characters
 pub positions-push :
     (files : List MappedText) (file : MappedText)
     → positions (texts_of (files ++ file ∷ [])) ≡ positions (texts_of files) + (length file.text + 1)
@@ -38,7 +38,7 @@ positions-push (f ∷ files) file =
       positions-cons f.text (texts_of (files ++ file ∷ [])),
     )
 
--- each file stands where the files before it end
+-- each file begins where the files before it end
 pub begins_at :
     (position : ℕ) (files : List MappedText) (i : ℕ) (d : MappedText) → AreConsecutive position files
     → i < length files
@@ -75,7 +75,7 @@ begins_past :
     → i < length files → position ≤ (get_or files i d).lo
 begins_past position files i d h less = omega (arith, (begins_at position files i d h less).3)
 
--- files ascend
+-- the starts of the files ascend
 pub rising : (position : ℕ) (files : List MappedText) → AreConsecutive position files
     → IsNonDecreasingBy (λ file. file.lo) files
 rising position [] h i j d le less = absurd (omega arith)
@@ -84,7 +84,7 @@ rising position (file ∷ files) h (suc i) zero d le less = absurd (omega arith)
 rising position (file ∷ files) h (suc i) (suc j) d le less =
     rising (position + (length file.text + 1)) files h.1 i j d (omega arith) (omega arith)
 
--- of `file ∷ files` with n of `files` at or before the position, only the one at n may have it
+-- in `file ∷ files`, if the first n of `files` begin at or before the position, only the file at n can have it
 only_at :
     (file : MappedText) (files : List MappedText) (n position : ℕ) (d : MappedText) (before after : List (List ℕ))
     (text : List ℕ)
@@ -116,7 +116,7 @@ only_at file (f ∷ files) (suc n) position d (t ∷ ts) after text h bound belo
     (cc) (omega arith) (omega arith) in
     (rest.0, sym k ∙ rest.1, omega (arith, rest.2))
 
--- what a search for the last file that begins at or before the position finds
+-- the last file that begins at or before the position is the only one that can have it
 pub file_found :
     (limit : ℕ) (files : List MappedText) (n position : ℕ) (d : MappedText) → AreConsecutive 1 files
     → n ≤ length files → ((j : ℕ) (e : MappedText) → j < n → (get_or files j e).lo ≤ position)
@@ -151,7 +151,7 @@ file_found limit files n position d h bound below above = record {
     begins zero bound below = omega arith
     begins (suc n) bound below = below n d (omega arith)
 
--- the element before the index n, or the first that stands for none
+-- the element before the index n, if n is not 0
 pub get_or_before : {X : Type 0} (xs : List X) (n : ℕ) (x d : X) → (n ≡ 0 → ⊥) → n ≤ length xs → x ≡ get_or xs (n - 1) x
     → x ≡ get_or (d ∷ xs) n d
 get_or_before xs zero x d some bound e = absurd (some refl)
@@ -159,7 +159,7 @@ get_or_before xs (suc n) x d some bound e =
     let i : suc n - 1 ≡ n = omega arith in
     get_or_read xs n x (omega arith) (e ∙ ap (λ j. get_or xs j x) i) d
 
--- the last file, where it begins at or before the position
+-- the last file is found if it begins at or before the position
 pub last_found :
     {map : Files} {files slice : List MappedText} {last : MappedText} (limit position : ℕ) → slice ≡ files
     → record { texts = texts_of files; limit = limit } ≡ map → AreConsecutive 1 files → 0 < length slice
@@ -186,7 +186,7 @@ last_found {map} {files} {slice} {last} limit position same view consecutive som
     (subst (λ f. IsFileOf (record { texts = texts_of files; limit = limit }) position (length files) f)
     (sym (get_or_before files (length files) last file_0 (λ none. omega (arith, none)) (omega arith) at)) here)
 
--- the file that the search answers
+-- the result of the search is file 0 if it is `None`
 pub found_none :
     {map : Files} {p q number : ℕ} {file : Option (Bor MappedText)} → p ≡ q → file ≡ None
     → IsFileOf map p number (unwrap_or (option_copied file) file_0) → IsFileOf map q number file_0
@@ -201,7 +201,7 @@ found_some {map} {p} {q} {number} {file} {some} same is found =
     subst (λ r. IsFileOf map r number some.now) same
     (subst (λ o. IsFileOf map p number (unwrap_or (option_copied o) file_0)) is found)
 
--- a span is held exactly if it ends in the file that may have its beginning
+-- the map holds a span exactly if the file found for its start also has its end
 pub holds_at :
     {map : Files} {number : ℕ} {file : MappedText} (span : Extent) → IsFileOf map span.lo number file
     → span.lo ≤ span.hi
@@ -213,7 +213,7 @@ holds_at {map} {number} {file} span found ordered = (
       omega (arith, held.to, ap length same.0, same.1),
 )
 
--- what holds of the file that was found holds of any file of the map that has the span
+-- what is true of the file that was found is true of each file that has the span
 pub of_each :
     {map : Files} {number : ℕ} {file : MappedText} (span : Extent) (P : ℕ → List ℕ → ℕ → Type 0)
     → IsFileOf map span.lo number file → span.lo ≤ span.hi → P number file.text file.lo
@@ -227,7 +227,7 @@ of_each {map} {number} {file} span P found ordered here text lo other from to =
 abbrev extent_of : ℕ → ℕ → Extent
 extent_of lo hi = record { lo = lo; hi = hi }
 
--- a span that is held in file 0 is 0..0, and no other is
+-- file 0 has the span 0..0 and no other
 pub in_file_0 :
     {map : Files} {number : ℕ} (span : Extent) → IsFileOf map span.lo number file_0 → span.lo ≤ span.hi → Holds map span
     → span ≡ nowhere
@@ -244,7 +244,7 @@ past_file_0 {map} span found past same =
     (omega arith) in
     omega (arith, zero.2)
 
--- what holds of file 0
+-- look-ups in file 0
 pub line_column-nil : (k : ℕ) → record { line = 1; column = 0 } ≡ line_column [] k
 line_column-nil zero = refl
 line_column-nil (suc k) = refl

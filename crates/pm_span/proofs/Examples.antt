@@ -1,4 +1,4 @@
--- The definitions at small texts and maps.
+-- The definitions, evaluated at small texts and maps.
 use Rattle.std.proofs.Common.{◌≡◌, ℕ, List, [], ◌∷◌, refl, lit≤, arith}
 use lib.Utf8.{encode}
 use Rattle.std.specs.Prelude.{codes}
@@ -17,7 +17,7 @@ first_line = refl
 line_end : line_column two_lines 3 ≡ record { line = 1; column = 3 }
 line_end = refl
 
--- after it
+-- after the line feed
 line_start : line_column two_lines 4 ≡ record { line = 2; column = 0 }
 line_start = refl
 
@@ -25,11 +25,11 @@ line_start = refl
 last_line : line_column two_lines 7 ≡ record { line = 2; column = 3 }
 last_line = refl
 
--- CR ends no line
+-- CR does not end a line
 return_alone : line_column (codes "a\rb") 3 ≡ record { line = 1; column = 3 }
 return_alone = refl
 
--- one character past ASCII, U+13015, takes four bytes
+-- a character that isn't ASCII: U+13015 takes four bytes
 byte_lengths : byte_offset (77845 ∷ codes "a") 2 ≡ 5
 unfolding encode
 byte_lengths = refl
@@ -44,14 +44,14 @@ no_file = refl
 abbrev of_limit : ℕ → Files
 of_limit limit = record { texts = []; limit = limit }
 
--- at the limit 5 the text `abcd` fits, and then no text does
+-- with the limit 5, the text `abcd` fits, and after it no text does
 fits_at_5 : Fits (of_limit 5) 4
 fits_at_5 = lit≤ tt
 
 full_at_5 : Fits (with_file (of_limit 5) (codes "abcd")) 0 → ⊥
 full_at_5 h = absurd (omega arith)
 
--- at the limit 6 the empty text still fits, and stands at 6
+-- with the limit 6, the empty text still fits after `abcd`, at position 6
 fits_at_6 : Fits (with_file (of_limit 6) (codes "abcd")) 0
 fits_at_6 = lit≤ tt
 

@@ -9,7 +9,7 @@ pub positions-cons : (text : List ℕ) (texts : List (List ℕ))
     → positions (text ∷ texts) ≡ length text + 1 + positions texts
 positions-cons text texts = sum_by-cons (λ t. length t + 1) text texts
 
--- every map holds the span of what stands in no file
+-- every map holds the span 0..0
 pub holds_nowhere : (map : Files) → Holds map nowhere
 holds_nowhere map = record {
   text = [];
@@ -23,7 +23,7 @@ holds_nowhere map = record {
 pub extends_with_file : (map : Files) (text : List ℕ) → Extends map (with_file map text)
 extends_with_file map text = (text ∷ [], refl)
 
--- a file stays where it stands
+-- a file keeps its position in a map that extends the map
 pub is_file_extends : (old new : Files) (text : List ℕ) (lo : ℕ) → Extends old new → IsFile old text lo
     → IsFile new text lo
 is_file_extends old new text lo more file = record {
@@ -34,7 +34,7 @@ is_file_extends old new text lo more file = record {
   begins = file.begins;
 }
 
--- a span that was held stays held
+-- a map that extends the map holds the same spans
 pub holds_extends : (old new : Files) (span : Extent) → Extends old new → Holds old span → Holds new span
 holds_extends old new span more held = record {
   text = held.text;
@@ -44,7 +44,7 @@ holds_extends old new span more held = record {
   to = held.to;
 }
 
--- each position of a span that is held
+-- a map that holds a span holds each position in it
 pub holds_within :
     {map : Files} (span : Extent) (position : ℕ) → Holds map span → span.lo ≤ position → position ≤ span.hi
     → Holds map (record { lo = position; hi = position })
@@ -56,7 +56,7 @@ holds_within span position held from to = record {
   to = omega (arith, held.to);
 }
 
--- two spans are in one file exactly if the span of both is held
+-- two spans are in one file exactly if the map holds their join
 pub held_joined : {map : Files} (first second : Extent) → Holds map (joined first second)
     → AreInOneFile map first second
 held_joined first second held = record {

@@ -1,4 +1,4 @@
--- A text that has as many bytes as characters: each offset is the same in both.
+-- If a text has as many bytes as characters, each offset is the same in both.
 use Rattle.std.proofs.Common.{◌≡◌, ℕ, ◌≤◌, List, length, refl, sym, ap, subst, ◌∙◌, arith}
 use Rattle.std.specs.Prelude.{String}
 use Rattle.std.specs.declared.alloc.Global.{Global}

@@ -1,4 +1,4 @@
--- Lemmas on the offsets after line feeds: they give the line and the column of an offset.
+-- Line starts give the line and the column of an offset.
 use Rattle.std.proofs.Common.{◌≡◌, ℕ, zero, suc, ◌+◌, ◌-◌, ◌<◌, ◌≤◌, true, false, cond, not, List, [], ◌∷◌, ◌++◌}
 use Rattle.std.proofs.Common.{length, get_or, take, drop, reverse, refl, sym, ap, ap₂, ◌∙◌, arith, length-append}
 use Rattle.std.proofs.Common.{append-nil, inl, inr}
@@ -31,7 +31,7 @@ after_line_feeds_from-append k (c ∷ xs) ys =
       | false ↦ more
     ]
 
--- the text that is read grows by a character
+-- one more character is read
 pub after_line_feeds-push :
     (xs : List ℕ) (c : ℕ)
     → after_line_feeds (xs ++ c ∷ []) ≡ after_line_feeds xs ++ cond (is_line_feed c) ((length xs + 1) ∷ []) []
@@ -39,11 +39,11 @@ after_line_feeds-push xs c =
     after_line_feeds_from-append 0 xs (c ∷ [])
     ∙ ap (λ n. after_line_feeds xs ++ cond (is_line_feed c) ((n + 1) ∷ []) []) (omega arith)
 
--- past the offset k, and at most n characters from it
+-- whether the offset is past k, by at most n characters
 abbrev IsWithin : ℕ → ℕ → ℕ → Type 0
 IsWithin k n start = (k < start) × (start ≤ k + n)
 
--- each lies in the text, and past its start
+-- each line start is in the text, and past its start
 after_line_feeds_from-within : (k : ℕ) (text : List ℕ) → All (IsWithin k (length text)) (after_line_feeds_from k text)
 after_line_feeds_from-within k [] = All-nil (IsWithin k 0)
 after_line_feeds_from-within k (c ∷ text) =
@@ -57,7 +57,7 @@ after_line_feeds_from-within k (c ∷ text) =
       | false ↦ more
     ]
 
--- there is one for each line feed
+-- there is one line start for each line feed
 pub length-after_line_feeds_from : (k : ℕ) (text : List ℕ)
     → length (after_line_feeds_from k text) ≡ count_by is_line_feed text
 length-after_line_feeds_from k [] = refl
@@ -70,7 +70,7 @@ length-after_line_feeds_from k (c ∷ text) =
       | false ↦ omega arith
     ])
 
--- those of the front of a text and those of its rest
+-- the line starts in the first k characters, and in the rest
 split : (text : List ℕ) (k : ℕ) → k ≤ length text
     → after_line_feeds text ≡ after_line_feeds (take k text) ++ after_line_feeds_from k (drop k text)
 split text k h =
@@ -79,7 +79,7 @@ split text k h =
     ∙ ap (λ n. after_line_feeds (take k text) ++ after_line_feeds_from n (drop k text))
     (omega (arith, length-take-le k text h)))
 
--- the line feeds before an offset are as many as the line starts at or before it
+-- the number of line feeds before an offset is the number of line starts at or before it
 pub line_feeds_before :
     (text : List ℕ) (k n : ℕ) → k ≤ length text → n ≤ length (after_line_feeds text)
     → ((j : ℕ) → j < n → get_or (after_line_feeds text) j 0 ≤ k)
@@ -109,7 +109,7 @@ line_feeds_before text k n within bound below above =
       ]
     ]
 
--- the last line start, or the text's start
+-- the last line start, or the start of the text
 abbrev pub last_start : List ℕ → ℕ
 last_start starts = get_or starts (length starts - 1) 0
 
@@ -177,7 +177,7 @@ after_line_feeds_from-rising k (c ∷ text) =
 abbrev pair_of : ℕ → ℕ → LineColumn
 pair_of l c = record { line = l; column = c }
 
--- where n line starts stand at or before the offset, the line and the column are counted from the last of them
+-- the line and column follow from the number of line starts at or before the offset
 pub line_column_found :
     (text : List ℕ) (k n start : ℕ) → k ≤ length text → n ≤ length (after_line_feeds text)
     → ((j : ℕ) → j < n → get_or (after_line_feeds text) j 0 ≤ k)

@@ -1,4 +1,4 @@
--- The places of the files of a map, and the files that are found by them.
+-- The positions of a map's files, and the files that are found by them.
 use Rattle.std.proofs.Common.{◌≡◌, ℕ, zero, suc, ◌+◌, ◌-◌, ◌<◌, ◌≤◌, List, [], ◌∷◌, ◌++◌, length, get_or, leb}
 use Rattle.std.proofs.Common.{true, false}
 use Rattle.std.proofs.Common.{inl, inr, refl, sym, ap, subst, ◌∙◌, arith}
@@ -13,7 +13,7 @@ use Rattle.pm_span.specs.Consecutive.{file_0, place_of, places_of, AreBegun, Are
 use Rattle.pm_span.specs.declared.source_map.Place.{Place}
 use Rattle.pm_span.proofs.ConsecutiveLemmas.{texts_of, rising, file_found}
 
--- the places in two parts, of which the second is one place
+-- the list has a last element, after the rest
 record IsCut (places rest : List Place) (last : Place) : Type 0 where
   whole : places ≡ rest ++ (last ∷ [])
   size : length rest + 1 ≡ length places
@@ -30,7 +30,7 @@ rest_is : {places rest : List Place} {last : Place} → IsCut places rest last �
 rest_is {places} {rest} {last} cut k d less =
     ap (λ ps. get_or ps k d) cut.whole ∙ get_or_append_left rest (last ∷ []) d k less
 
--- all begin where the last one does
+-- if the last file begins at or before the position, all files do
 pub all_begun :
     {places : List Place} {position n : ℕ} (rest : List Place) (last : Place) → IsLastAndRest places last rest
     → IsNonDecreasingBy (λ place. place.lo) places → last.lo ≤ position → n ≡ length places
@@ -48,7 +48,7 @@ all_begun {places} {position} {n} rest last parts up begins is =
       after = λ k d le less. absurd (omega (arith, is));
     }
 
--- those before the last are searched where it doesn't
+-- if the last file begins after the position, the search in the others gives the answer
 pub some_begun :
     {places : List Place} {n : ℕ} (rest : List Place) (last : Place) (position : ℕ) → IsLastAndRest places last rest
     → IsNonDecreasingBy (λ place. place.lo) places → position < last.lo → n ≤ length rest
@@ -82,7 +82,7 @@ some_begun {places} {n} rest last position parts up past bound search_rest =
       ];
     }
 
--- places ascend
+-- the starts of the files ascend
 pub places_rising :
     (files : List MappedText) {places slice : List Place} → slice ≡ places → places ≡ places_of files
     → AreConsecutive 1 files → IsNonDecreasingBy (λ place. place.lo) slice
@@ -96,7 +96,7 @@ places_rising files {places} {slice} whole taken consecutive =
       rising 1 files consecutive i j file_0 le inside,
     ))
 
--- the file of so many places that begin at or before the position
+-- the search finds the only file that can have the position
 pub found_at :
     {m : Files} {places slice : List Place} {n : ℕ} (files : List MappedText) (limit position : ℕ)
     → record { texts = texts_of files; limit = limit } ≡ m → slice ≡ places → places ≡ places_of files
@@ -121,7 +121,7 @@ found_at {m} {places} {slice} {n} files limit position view whole taken consecut
       bound,
     )
 
--- the place before the index n is that of the file there
+-- the positions before the index n are those of the file before it
 pub place_at :
     {places : List Place} {place : Place} (files : List MappedText) (n : ℕ) → places ≡ places_of files → (n ≡ 0 → ⊥)
     → n ≤ length files → place ≡ get_or places (n - 1) place → place ≡ place_of (get_or (file_0 ∷ files) n file_0)

@@ -1,4 +1,4 @@
--- Words of 8 bytes, byte by byte: what is done to a word is done to each of its bytes.
+-- Operations on words of 8 bytes, as operations on each of the bytes.
 use Rattle.std.proofs.Common.{◌≡◌, ℕ, zero, suc, ◌+◌, ◌-◌, ◌*◌, ◌/◌, ◌%◌, ◌^◌, ◌<◌, ◌≤◌, Bool, true, false, cond}
 use Rattle.std.proofs.Common.{List, [], ◌∷◌, ◌++◌, length, take, drop, get_or, nat_lt, nat_eq, not}
 use Rattle.std.proofs.Common.{refl, sym, ap, ap₂, ◌∙◌, subst, arith, w64}
@@ -21,16 +21,16 @@ use Rattle.pm_span.specs.Line.{is_one_line}
 use Rattle.pm_span.specs.Plain.{is_plain}
 use Rattle.pm_span.proofs.SplitLemmas.{feed_first}
 
--- each of them is a byte
+-- whether each number is a byte
 abbrev pub AreBytes : List ℕ → Type 0
 AreBytes bytes = (i : ℕ) → get_or bytes i 0 < 256
 
--- the number whose bytes come from these, the first of them its lowest
+-- the number whose bytes are the function's values, with the lowest byte first
 abbrev word_of : (ℕ → ℕ) → List ℕ → ℕ
 word_of f [] = 0
 word_of f (b ∷ bytes) = word_of f bytes * 256 + f b
 
--- whether bytes come from bytes
+-- whether the function takes bytes to bytes
 abbrev fits : (ℕ → ℕ) → Bool
 fits f = agree_below (λ b. nat_lt (f b) 256) (λ b. true) 256
 
@@ -74,7 +74,7 @@ same_each f g same (b ∷ bytes) small =
     ap₂ (λ x y. x * 256 + y) (same_each f g same bytes (λ i. small (suc i)))
     (eqb-true (f b) (g b) (agree_below_at (λ b. nat_eq (f b) (g b)) (λ b. true) 256 b same (small 0)))
 
--- the word of so many bytes that are all this one
+-- the word of n bytes that all have this value
 abbrev repeated : ℕ → ℕ → ℕ
 repeated k zero = 0
 repeated k (suc n) = repeated k n * 256 + k
@@ -83,7 +83,7 @@ each_is : (k : ℕ) (bytes : List ℕ) → word_of (λ b. k) bytes ≡ repeated 
 each_is k [] = refl
 each_is k (b ∷ bytes) = ap (λ x. x * 256 + k) (each_is k bytes)
 
--- all bits of a word turned over
+-- each bit of a word is inverted
 not_each : (f : ℕ → ℕ) → fits f ≡ true → (bytes : List ℕ) → AreBytes bytes
     → word_of f bytes + word_of (λ b. 255 - f b) bytes ≡ repeated 255 (length bytes)
 not_each f h [] small = refl
@@ -105,18 +105,18 @@ read (a ∷ b ∷ c ∷ d ∷ e ∷ f ∷ g ∷ h ∷ x ∷ bytes) l = absurd (o
 
 -- ---- plain bytes
 
--- what becomes of a byte: 0 of a line feed, and of one past ASCII that has its lower bits
+-- the byte after `^` and `&`: 0 for a line feed, and for 128 + 10
 abbrev turned : ℕ → ℕ
 turned b = bit_and (bit_xor b 10) 127
 
 abbrev stop : ℕ → ℕ
 stop b = bit_and (bit_or (255 - (turned b + 127)) b) 128
 
--- the highest bit of a byte that isn't plain
+-- the highest bit, if the byte isn't plain
 abbrev plain_stop : ℕ → ℕ
 plain_stop b = cond (is_plain b) 0 128
 
--- and so of a word
+-- a word after `^` and `&`
 abbrev pub turned_word : ℕ → ℕ
 turned_word word = bit_and (bit_xor word 0x0A0A_0A0A_0A0A_0A0A) 0x7F7F_7F7F_7F7F_7F7F
 
@@ -127,7 +127,7 @@ stop_word word =
 stops_are : agree_below (λ b. nat_eq (stop b) (plain_stop b)) (λ b. true) 256 ≡ true
 stops_are = refl
 
--- of 8 bytes
+-- lemmas on a word of 8 bytes
 module _ (bytes : List ℕ) (l : length bytes ≡ 8) (are : AreBytes bytes) (word : ℕ)
     (is : word ≡ from_le_bytes w64 bytes) where
   constant : (k n : ℕ) → n ≡ repeated k 8 → n ≡ word_of (λ b. k) bytes
@@ -161,7 +161,7 @@ module _ (bytes : List ℕ) (l : length bytes ≡ 8) (are : AreBytes bytes) (wor
 
 -- ---- the lowest bit of a word that is set
 
--- so many bits have so many bytes
+-- the number of bits in n bytes
 abbrev eights : ℕ → ℕ
 eights zero = zero
 eights (suc n) = suc (suc (suc (suc (suc (suc (suc (suc (eights n))))))))
@@ -218,7 +218,7 @@ unfolding count_trailing_zeros
 first_stop [] = refl
 first_stop (b ∷ bytes) = one_more (is_plain b) _ _ _ (first_stop bytes)
 
--- by what was read of 8 bytes
+-- a lowest set bit gives the number of plain bytes
 pub plain_in_word : (bytes : List ℕ) → length bytes ≡ 8 → AreBytes bytes → (word : ℕ) → word ≡ from_le_bytes w64 bytes
     → trailing_zeros w64 (stop_word word) / 8 ≡ prefix_len is_plain bytes
 plain_in_word bytes l are word is =
@@ -226,7 +226,7 @@ plain_in_word bytes l are word is =
     ∙ subst (λ n. count_trailing_zeros (eights n) (word_of plain_stop bytes) / 8 ≡ prefix_len is_plain bytes) l
     (first_stop bytes)
 
--- where none is set
+-- if no bit is set, all 8 bytes are plain
 pub plain_past_word : (bytes : List ℕ) → length bytes ≡ 8 → AreBytes bytes → (word : ℕ) → word ≡ from_le_bytes w64 bytes
     → stop_word word ≡ 0 → 8 ≡ prefix_len is_plain bytes
 plain_past_word bytes l are word is none =
@@ -239,7 +239,7 @@ plain_in_word_ends word some =
     let at = bit_at-trailing_zeros w64 (stop_word word) (omega (arith, some)) (omega (arith, le)) in
     omega (arith, at.0)
 
--- the sum isn't too large
+-- the addition does not overflow
 pub turned_word_low : (word : ℕ) → turned_word word < 2 ^ 63
 turned_word_low word =
     let le = and_le_r (bit_xor word 0x0A0A_0A0A_0A0A_0A0A) 0x7F7F_7F7F_7F7F_7F7F in
@@ -247,7 +247,7 @@ turned_word_low word =
 
 -- ---- a line of ASCII
 
--- the plain bytes at the front are ASCII, and have no line feed
+-- plain bytes at the start of a text are ASCII, and none is a line feed
 front_is_plain : (on : Bool) (b n : ℕ) (bytes : List ℕ) → is_plain b ≡ on
     → IsAscii (take n bytes) × (is_one_line (take n bytes) ≡ true)
     → IsAscii (take (cond on (1 + n) 0) (b ∷ bytes)) × (is_one_line (take (cond on (1 + n) 0) (b ∷ bytes)) ≡ true)
@@ -264,7 +264,7 @@ pub plain_front : (bytes : List ℕ) → IsAscii (take (prefix_len is_plain byte
 plain_front [] = (IsAscii-nil, refl)
 plain_front (b ∷ bytes) = front_is_plain (is_plain b) b (prefix_len is_plain bytes) bytes refl (plain_front bytes)
 
--- a text of plain bytes
+-- if all bytes are plain, the text is one line of ASCII
 pub all_plain : (text : List ℕ) (n : ℕ) → n ≡ prefix_len is_plain text → length text ≤ n
     → (is_one_line (chars text) ≡ true) × (n ≡ length (chars text))
 all_plain text n is all =
@@ -276,7 +276,7 @@ all_plain text n is all =
       omega (arith, is, all, ap length same, prefix_len-le-length is_plain text),
     )
 
--- a text whose first line has plain bytes alone, up to its line feed
+-- lemmas on a text with only plain bytes before its first line feed
 module _ (text line after : List ℕ) (n : ℕ) (utf8 : IsUtf8 text) (is : n ≡ prefix_len is_plain text)
     (inside : n < length text) (feed : get_or text n 0 ≡ 10) (front : line ≡ slice_range text 0 n)
     (back : after ≡ drop (n + 1) text) where

@@ -1,4 +1,4 @@
--- A text may be cut at each of its offsets, and a count of characters there is a count of bytes.
+-- A text can be cut at each of its offsets. A number of characters gives the number of bytes there.
 use Rattle.std.proofs.Common.{◌≡◌, ℕ, ◌+◌, ◌-◌, ◌<◌, ◌≤◌, true, List, [], ◌∷◌, ◌++◌, length, take, drop, Option, Some}
 use Rattle.std.proofs.Common.{None, refl, sym, ap, subst, ◌∙◌, arith, append_assoc, length-append}
 use Rattle.std.specs.Str.{chars, IsUtf8, IsCharBoundary, encode_utf8_all, all_scalars}
@@ -57,7 +57,7 @@ rest_at bytes k utf8 =
     ∙ drop_at (encode_utf8_all (take k (chars bytes))) (encode_utf8_all (drop k (chars bytes))) _ refl)
     ∙ chars-encodes (drop k (chars bytes)) (scalars_at bytes k utf8).1
 
--- bytes are counted from an earlier offset on
+-- the bytes before an offset are those before an earlier offset, and those between the two
 pub byte_offset-add :
     (text : List ℕ) (j m : ℕ) → byte_offset text (j + m) ≡ byte_offset text j + byte_offset (drop j text) m
 byte_offset-add text j m =
@@ -70,7 +70,7 @@ byte_offset-rising text j k le =
     let e : byte_offset text k ≡ byte_offset text (j + (k - j)) = ap (byte_offset text) (omega arith) in
     omega (arith, byte_offset-add text j (k - j))
 
--- the text between two offsets, cut out of the bytes
+-- the text between two offsets, as a part of the bytes
 pub between_at :
     (bytes : List ℕ) (j k : ℕ) → IsUtf8 bytes → j ≤ k
     → chars (take (byte_offset (chars bytes) k - byte_offset (chars bytes) j)
@@ -86,7 +86,7 @@ between_at bytes j k utf8 le =
     ∙ (front_at (drop from bytes) (k - j) (IsUtf8-drop bytes from utf8 (boundary_at bytes j utf8))
     ∙ ap (take (k - j)) rest)
 
--- what is left from an offset on, in bytes
+-- the text from an offset on, as bytes
 pub rest_bytes :
     (bytes rest : List ℕ) (k : ℕ) → IsUtf8 bytes → IsUtf8 rest → chars rest ≡ drop k (chars bytes)
     → byte_offset (chars bytes) k + length rest ≡ length bytes
@@ -96,7 +96,7 @@ rest_bytes bytes rest k utf8 left is =
     let same = ap length (sym (encodes-chars rest left) ∙ ap encode_utf8_all is) in
     omega arith
 
--- one character further
+-- the offset is one character further
 pub past_one :
     (s t : Chars) (r : Option ℕ) → IsUtf8 s.rest.now → chars_steps s r t
     → IsUtf8 t.rest.now × (chars t.rest.now ≡ drop 1 (chars s.rest.now))
@@ -114,7 +114,7 @@ past_one s t (Some c) utf8 steps = (
   ap (drop 1) (sym (chars_past_char s.rest.now t.rest.now c utf8 steps.0)),
 )
 
--- so many characters are cut off at the end
+-- a text without its last `count` characters
 pub record IsCutBack (text front : List ℕ) (count : ℕ) : Type 0 where
   pub cut : List ℕ
   pub whole : text ≡ front ++ encode_utf8_all cut
@@ -123,7 +123,7 @@ pub record IsCutBack (text front : List ℕ) (count : ℕ) : Type 0 where
 chars_encodes_all : (cs : List ℕ) → IsUtf8 (encode_utf8_all cs) → chars (encode_utf8_all cs) ≡ cs
 chars_encodes_all cs utf8 = encodes_same _ _ (encodes-chars (encode_utf8_all cs) utf8)
 
--- one character more
+-- one more character is cut off at the end
 pub back_one :
     {text : List ℕ} {n : ℕ} (s t : Chars) (r : Option ℕ) → IsUtf8 text → IsCutBack text s.rest.now n
     → n < length (chars text)
@@ -139,7 +139,7 @@ back_one {text} {n} s t (Some c) utf8 cut less steps = record {
   size = omega (arith, cut.size);
 }
 
--- what is left is the front of the text
+-- the part that is left is a prefix of the text
 pub front_of :
     {text front : List ℕ} {n : ℕ} → IsUtf8 text → IsUtf8 front → IsCutBack text front n
     → chars front ≡ take (length (chars text) - n) (chars text)

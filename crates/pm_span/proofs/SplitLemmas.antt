@@ -1,4 +1,4 @@
--- A text is cut at its first line feed.
+-- A text is split at its first line feed.
 use Rattle.std.proofs.Common.{◌≡◌, ℕ, ◌+◌, ◌<◌, true, cond, not, List, [], ◌∷◌, ◌++◌, length, get_or}
 use Rattle.std.proofs.Common.{Option, Some, None, refl, sym, ap, subst, ◌∙◌, arith}
 use Rattle.std.proofs.Common.{length-append}
@@ -28,7 +28,7 @@ unfolding chars
 feed_first [] = refl
 feed_first (b ∷ bytes) = refl
 
--- what the search for a line feed answers
+-- the result of the search for a line feed
 pub line_split : (text : List ℕ) (r : Option (Bor (List ℕ) × Bor (List ℕ))) → IsUtf8 text → IsSplitOnceResult 10 text r
     → MatchOption r (is_one_line (chars text) ≡ true)
     (λ x. (chars text ≡ chars x.0.now ++ (10 ∷ chars x.1.now)) × (is_one_line (chars x.0.now) ≡ true))
@@ -45,7 +45,7 @@ line_split text (Some x) utf8 h =
       one_line_of x.0.now line (subst (NoCharPasses is_line_feed) (sym h.3) h.2.0),
     )
 
--- no line starts in a line
+-- no line starts within a line
 pub after_line_feeds_from-line : (k : ℕ) (cs : List ℕ) → is_one_line cs ≡ true → after_line_feeds_from k cs ≡ []
 after_line_feeds_from-line k [] h = refl
 after_line_feeds_from-line k (c ∷ cs) h =
@@ -54,7 +54,7 @@ after_line_feeds_from-line k (c ∷ cs) h =
     (not-true _ parts.0)
     ∙ after_line_feeds_from-line (k + 1) cs parts.1
 
--- and one after its line feed
+-- the first line start is after the first line feed
 pub after_line_feeds_from-split : (k n : ℕ) (text line rest : List ℕ) → text ≡ line ++ (10 ∷ rest)
     → is_one_line line ≡ true
     → n ≡ k + (length line + 1) → after_line_feeds_from k text ≡ n ∷ after_line_feeds_from n rest

@@ -1,4 +1,4 @@
--- Offsets in characters. At the offset k of a text its first k characters stand before, and the others after.
+-- Offsets in characters. The offset k is after the first k characters of the text.
 use Rattle.std.specs.Prelude.{ℕ, Bool, not, ◌==◌, ◌+◌, List, ◌-◌, length, take, drop, reverse, count_by, take_while}
 use Rattle.std.specs.Str.{encode_utf8_all}
 use Rattle.pm_span.specs.declared.location.LineColumn.{LineColumn}
@@ -21,6 +21,6 @@ line_column text k = record { line = line text k; column = column text k }
 abbrev pub byte_offset : List ℕ → ℕ → ℕ
 byte_offset text k = length (encode_utf8_all (take k text))
 
--- the characters that stand between two offsets
+-- the characters between two offsets
 abbrev pub between : List ℕ → ℕ → ℕ → List ℕ
 between text j k = take (k - j) (drop j text)

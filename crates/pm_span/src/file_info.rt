@@ -1,4 +1,4 @@
-//! A file of a source map.
+//! One file of a source map.
 ghost use Rattle.std.specs.Prelude.{◌≡◌, ◌+◌, ◌^◌, ◌<◌, ◌≤◌, ℕ, length, IfOk};
 ghost use Rattle.std.specs.Str.{chars, IsUtf8};
 ghost use Rattle.pm_span.specs.FileInfo.{HasItsSize, MappedText, text_of};
@@ -24,7 +24,7 @@ pub(crate) struct FileInfo {
     lines: LineIndex,
 }
 
-/// The text of a file. Where it is ASCII, an offset in characters is one in bytes.
+/// The text of a file. In an ASCII text, each offset is the same in characters and in bytes.
 #[derive(Drop)]
 enum FileText {
     Ascii(String),
@@ -44,7 +44,7 @@ impl Model for FileInfo {
 }
 
 impl FileText {
-    /// A copy of this text of so many characters; refused if its memory is.
+    /// Copies a text that has `count` characters. Out of memory is the only error.
     fn new(alloc: Global, text: &str, count: u32) -> Result<FileText, AllocError>
         requires { count ≡ length (chars text.now) }
         ensures text { IfOk result (λ kept. text_of kept ≡ chars text.now) }
@@ -59,7 +59,7 @@ impl FileText {
     }
 }
 
-/// Shows the fields that tell one file from another, and not those that only make look-ups short.
+/// Shows the fields that distinguish files, but not those that only make look-ups fast.
 impl fmt::Debug for FileInfo {
     fn fmt<W: fmt::Write>(&self, f: &mut fmt::Formatter<W>) -> fmt::Result {
         let mut debug = f.debug_struct("FileInfo");
@@ -72,7 +72,7 @@ impl fmt::Debug for FileInfo {
 }
 
 impl FileInfo {
-    /// The file of this text that begins at `lo`; refused if a growth is.
+    /// Makes the file of this text, with its first character at the position `lo`. Out of memory is the only error.
     pub(crate) fn new(alloc: Global, text: &str, lo: u32) -> Result<FileInfo, AllocError>
         requires { lo + length (chars text.now) < 2 ^ 32 }
         ensures ok { IfOk result (λ file. file ≡ record { text = chars text.now; lo = lo }) }
@@ -86,21 +86,21 @@ impl FileInfo {
         })
     }
 
-    /// The position before the first character.
+    /// Returns the position before the first character.
     pub(crate) fn lo(&self) -> u32
         ensures { result ≡ self.now.lo }
     {
         self.lo
     }
 
-    /// The position after the last character.
+    /// Returns the position after the last character.
     pub(crate) fn hi(&self) -> u32
         ensures { result ≡ self.now.lo + length self.now.text }
     {
         self.hi
     }
 
-    /// The text.
+    /// Returns the text.
     fn text(&self) -> &str
         ensures value { chars result.now ≡ self.now.text }
         ensures utf8 { IsUtf8 result.now }
@@ -111,7 +111,7 @@ impl FileInfo {
         }
     }
 
-    /// The line and column of an offset of the text, in characters.
+    /// Returns the line and column at an offset of the text, in characters.
     pub(crate) fn line_column(&self, char_offset: u32) -> LineColumn
         requires { char_offset ≤ length self.now.text }
         ensures { result ≡ line_column self.now.text char_offset }
@@ -119,7 +119,7 @@ impl FileInfo {
         self.lines.line_column(char_offset)
     }
 
-    /// The bytes between two offsets of the text, in characters.
+    /// Returns the byte offsets of two offsets of the text, in characters.
     #[inline(always)]
     pub(crate) fn byte_range(&self, start: u32, end: u32) -> Range<usize>
         requires ordered { start ≤ end }
@@ -133,7 +133,7 @@ impl FileInfo {
         }
     }
 
-    /// The text between two of its offsets, in characters.
+    /// Returns the text between two of its offsets, in characters.
     pub(crate) fn text_between(&self, start: u32, end: u32) -> &str
         requires ordered { start ≤ end }
         requires within { end ≤ length self.now.text }

@@ -1,4 +1,4 @@
-//! What is proved of lines and columns. The functions compute nothing: their contracts are the laws.
+//! Laws of lines and columns. These functions compute nothing: what is proved is in their contracts.
 ghost use Rattle.std.specs.Prelude.{◌≡◌, ◌↔◌, ◌++◌, IsTrue, Some};
 ghost use Rattle.std.specs.Hash as fed;
 ghost use Rattle.pm_span.specs.Order.{IsBefore};
@@ -7,8 +7,8 @@ use crate::location::LineColumn;
 use std::cmp::Ordering;
 use std::hash::Hash;
 
-/// A line and column comes before another if its line does, or its column on the same line. Two are
-/// equal exactly if their lines and their columns are. A hasher is fed the line and then the column.
+/// A line and column comes before another if its line does, or its column on the same line. Two are equal exactly
+/// if both their lines and their columns are equal. A hasher is fed the line and then the column.
 ///
 /// Line 1, column 5 comes before line 2, column 0.
 pub fn ordered_line_columns()

@@ -1,4 +1,4 @@
-//! The lines of a text, found by offsets.
+//! An index that finds the line of a character offset.
 ghost use Rattle.std.specs.Prelude.{◌≡◌, ◌*◌, ◌<◌, ◌≤◌, List, ℕ, ◌∷◌, length, slice_index, IfOk};
 ghost use Rattle.std.specs.List.Sorted.{IsNonDecreasing};
 ghost use Rattle.pm_span.specs.CharOffset.{line_column};
@@ -8,23 +8,23 @@ use crate::location::LineColumn;
 use std::alloc::{AllocError, Global};
 use std::marker::Model;
 
-/// So many characters are a block.
+/// The usual number of characters in a block.
 const BLOCK: u32 = 32;
 
-/// So many are a block where lines are as short, so that a block has few lines in any text.
+/// The number of characters in a block if lines are about as short. So no block has many lines.
 const SHORT_BLOCK: u32 = 8;
 
-/// So many lines are searched without blocks.
+/// With at most this number of line starts, the search needs no blocks.
 const FEW_LINES: usize = 4;
 
-/// Where the lines of a text begin, so that the line of an offset is found in a few steps.
+/// The offsets at which the lines of a text begin, with counts that make the search for a line short.
 #[derive(Drop)]
 pub(crate) struct LineIndex {
-    /// The offsets after each line feed, in characters.
+    /// The offset after each line feed, in characters.
     starts: Vec<u32>,
-    /// For each block of characters how many lines begin up to its start; none where lines are few.
+    /// For each block of characters, how many lines begin at or before its start; empty if there are few lines.
     blocks: Vec<u32>,
-    /// So many characters are a block.
+    /// The number of characters in a block.
     block: u32,
 }
 
@@ -39,7 +39,7 @@ impl Model for LineIndex {
     ghost invariant = { λ index. IsLineIndex index.starts.items index.blocks.items index.block };
 }
 
-/// How many characters are a block of a text of so many line feeds and characters.
+/// Returns the number of characters in a block, for a text with `count` characters.
 fn block_for(line_feeds: usize, count: u32) -> u32
     ensures { 0 < result }
 {
@@ -50,7 +50,7 @@ fn block_for(line_feeds: usize, count: u32) -> u32
     }
 }
 
-/// For each block of so many characters how many of the line starts stand up to its start.
+/// Counts, for each block of `block` characters, how many line starts are at or before the start of the block.
 fn count_by_blocks(
     alloc: Global,
     starts: &[u32],
@@ -75,7 +75,7 @@ fn count_by_blocks(
     Ok(blocks)
 }
 
-/// How many of the offsets are at most this one, up to the first that isn't; the first `from` are.
+/// Returns how many of the offsets, which ascend, are at most `char_offset`. The first `from` of them must be.
 fn count_on(offsets: &[u32], from: usize, char_offset: u32) -> usize
     requires { AreUpTo offsets.now from char_offset }
     ensures before { AreUpTo offsets.now result char_offset }
@@ -88,12 +88,12 @@ fn count_on(offsets: &[u32], from: usize, char_offset: u32) -> usize
     count
 }
 
-/// The number of the block of an offset, where so many characters are a block.
+/// Returns the number of the block that has the offset, if each block has `block` characters.
 fn block_of(char_offset: u32, block: u32) -> u32
     requires { 0 < block }
     ensures { result * block ≤ char_offset }
 {
-    // In most texts a block is BLOCK characters: no division is needed for a constant.
+    // Most texts have blocks of BLOCK characters, and a division by a constant is fast.
     if block == BLOCK {
         char_offset / BLOCK
     } else {
@@ -102,7 +102,8 @@ fn block_of(char_offset: u32, block: u32) -> u32
 }
 
 impl LineIndex {
-    /// The index of these line starts, which ascend, in a text of so many characters.
+    /// Builds the index of these ascending line starts, for a text of `count` characters. Out of memory is the only
+    /// error.
     #[inline(always)]
     pub(crate) fn new(alloc: Global, starts: Vec<u32>, count: u32) -> Result<LineIndex, AllocError>
         requires { IsNonDecreasing starts.items }
@@ -117,12 +118,13 @@ impl LineIndex {
         })
     }
 
-    /// The offsets after each line feed.
+    /// Returns the offset after each line feed, in characters.
     pub(crate) fn starts(&self) -> &Vec<u32> {
         &self.starts
     }
 
-    /// How many lines begin up to the start of the block of an offset: some of those that begin up to the offset.
+    /// Returns how many lines begin at or before the start of the block of `char_offset`; 0 without blocks. A
+    /// search for the line may begin there.
     fn lines_before(&self, char_offset: u32) -> usize
         ensures { AreUpTo self.now result char_offset }
     {
@@ -132,7 +134,7 @@ impl LineIndex {
         }
     }
 
-    /// Where the line begins that stands after so many line feeds.
+    /// Returns the offset at which the line begins that comes after this number of line feeds, in characters.
     fn line_start(&self, line_feeds: usize) -> u32
         requires { line_feeds ≤ length self.now }
         ensures { result ≡ slice_index (0 ∷ self.now) line_feeds }
@@ -144,7 +146,7 @@ impl LineIndex {
         }
     }
 
-    /// The line and column of an offset of the text, in characters.
+    /// Returns the line and column at an offset of the text, in characters.
     pub(crate) fn line_column(&self, char_offset: u32) -> LineColumn
         ensures { (text : List ℕ) → self.now ≡ after_line_feeds text → char_offset ≤ length text
             → result ≡ line_column text char_offset }

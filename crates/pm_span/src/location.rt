@@ -3,8 +3,8 @@
 /// A line and a column of a text, as people count them.
 #[derive(Clone, Copy, Debug, PartialEq, Eq, PartialOrd, Ord, Hash)]
 pub struct LineColumn {
-    /// The line, from 1 on.
+    /// The line, counted from 1.
     pub line: usize,
-    /// The column in characters, from 0 on.
+    /// The column in characters, counted from 0.
     pub column: usize,
 }

@@ -17,19 +17,19 @@ use std::fmt;
 use std::marker::Model;
 use std::ops::Range;
 
-/// The texts that were read, each a file at positions of its own.
+/// The texts that were read, each as a file with positions of its own.
 ///
-/// Positions count characters. File 0 is the empty text at 0..0 (`file-0`), and each later file
-/// begins one past the end of the file before it (`next-position`), so that a position lies in
-/// one file only. After the texts `ab` and `c` the files stand at 0..0, 1..3 and 4..5.
+/// Positions count characters. File 0 is the empty text at 0..0 (`file-0`). Each later file begins one past the end
+/// of the file before it (`next-position`), so no position is in two files. After the texts `ab` and `c`, the files
+/// are at 0..0, 1..3 and 4..5.
 #[derive(Drop)]
 pub struct SourceMap {
     alloc: Global,
     /// The files from 1 on.
     files: Vec<FileInfo>,
-    /// The positions that each of them takes.
+    /// The positions that each file takes.
     places: Vec<Place>,
-    /// The last position that may be given.
+    /// The largest position that may be used.
     limit: u32,
 }
 
@@ -57,7 +57,7 @@ impl Model for SourceMap {
     ghost invariant = { λ source_map. AreWithin source_map.limit source_map.files.items source_map.places.items };
 }
 
-/// How many of the files at these places, which ascend, begin at or before the position.
+/// Returns how many of the files at these ascending positions begin at or before `position`.
 fn count_begun(places: &[Place], position: u32) -> usize
     requires { IsNonDecreasingBy (λ place. place.lo) places.now }
     ensures { AreBegun places.now position result }
@@ -65,14 +65,14 @@ fn count_begun(places: &[Place], position: u32) -> usize
     let Some((last, earlier)) = places.split_last() else {
         return 0;
     };
-    // Files are asked most when they were just read.
+    // Look-ups are most frequent in the file that was just read.
     if last.lo <= position {
         return places.len();
     }
     earlier.partition_point(|place| place.lo <= position)
 }
 
-/// Shows the fields that tell one map from another, and not those that only make look-ups short.
+/// Shows the fields that distinguish maps, but not those that only make look-ups fast.
 impl fmt::Debug for SourceMap {
     fn fmt<W: fmt::Write>(&self, f: &mut fmt::Formatter<W>) -> fmt::Result {
         let mut debug = f.debug_struct("SourceMap");
@@ -84,17 +84,17 @@ impl fmt::Debug for SourceMap {
 }
 
 impl SourceMap {
-    /// A map with no file but file 0, whose positions go up to 4294967295; takes no memory.
+    /// Makes a map that has only file 0, with positions up to 4294967295. This allocates nothing.
     pub fn new(alloc: Global) -> SourceMap
         ensures { result ≡ new_map }
     {
         SourceMap::with_limit(alloc, u32::MAX)
     }
 
-    /// A map with no file but file 0, whose positions go up to `limit`; takes no memory.
+    /// Makes a map that has only file 0, with positions up to `limit`. This allocates nothing.
     ///
-    /// A text whose file would end past the limit doesn't fit (`fits`). With the limit 5, `abcd`
-    /// stands at 1..5, and then not even the empty text fits.
+    /// A text doesn't fit (`fits`) if its file would end past the limit. With the limit 5, `abcd` is at 1..5, and
+    /// after it not even the empty text fits.
     pub fn with_limit(alloc: Global, limit: u32) -> SourceMap
         ensures { result ≡ record { texts = []; limit = limit } }
     {
@@ -106,9 +106,9 @@ impl SourceMap {
         }
     }
 
-    /// Takes all files but file 0 away, and keeps the limit.
+    /// Removes all files but file 0, and keeps the limit.
     ///
-    /// The next text begins at 1 again, so the spans of the texts before may be held by chance alone.
+    /// The next text begins at position 1 again. So the map may hold a span of a removed text, but only by chance.
     pub fn invalidate(&mut self)
         ensures { self.new ≡ record self.old { texts = [] } }
     {
@@ -116,10 +116,10 @@ impl SourceMap {
         self.places.clear();
     }
 
-    /// Whether some file of the map has all the positions of the span (`holds`).
+    /// Returns whether some file of the map has all the positions of the span (`holds`).
     ///
-    /// A file has the position at its end too. With the one text `ab` the map holds 0..0, 1..3
-    /// and 3..3, and neither 0..1 nor 3..4.
+    /// A file also has the position at its end. With the one text `ab`, the map holds 0..0, 1..3 and 3..3, but
+    /// neither 0..1 nor 3..4.
     pub fn holds(&self, span: Span) -> bool
         ensures { IsTrue result ↔ Holds self.now span }
     {
@@ -132,7 +132,7 @@ impl SourceMap {
         }
     }
 
-    /// The last file that begins at or before the position, and its number before it; `None` for file 0.
+    /// Returns the last file that begins at or before the position, with its number. File 0 is `None`.
     pub(crate) fn file_of(&self, position: u32) -> (usize, Option<&FileInfo>)
         ensures found { IsFileOf self.now position result.0 (unwrap_or (option_copied result.1) file_0) }
         ensures number { MatchOption result.1 (result.0 ≡ 0) (λ _. 0 < result.0) }
@@ -145,7 +145,7 @@ impl SourceMap {
         }
     }
 
-    /// The last position of the last file.
+    /// Returns the position at the end of the last file.
     fn last_hi(&self) -> u32
         ensures value { result + 1 ≡ next_lo self.now }
         ensures within { result ≤ self.now.limit }
@@ -156,7 +156,7 @@ impl SourceMap {
         }
     }
 
-    /// The line and column of a position of the map.
+    /// Returns the line and column at a position of the map.
     pub(crate) fn line_column(&self, position: u32) -> LineColumn
         requires { Holds self.now (record { lo = position; hi = position }) }
         ensures { StartsAt self.now (record { lo = position; hi = position }) result }
@@ -168,7 +168,7 @@ impl SourceMap {
         }
     }
 
-    /// The bytes that a span of the map takes in its file.
+    /// Returns the range of bytes that a span of the map takes in its file.
     pub(crate) fn byte_range(&self, span: Span) -> Range<usize>
         requires { Holds self.now span }
         ensures { HasBytes self.now span result }
@@ -181,7 +181,7 @@ impl SourceMap {
         }
     }
 
-    /// Where the file of this text would begin, if it fits.
+    /// Returns the position at which the file of this text would begin, or `None` if it doesn't fit.
     pub(crate) fn fits(&self, text: &str) -> Option<u32>
         ensures found { SomeIff result (Fits self.now (length (chars text.now))) (next_lo self.now) }
         ensures within { IfSome result (λ lo. lo + length (chars text.now) < 2 ^ 32) }
@@ -194,12 +194,12 @@ impl SourceMap {
         }
     }
 
-    /// What the map's memory is taken from.
+    /// Returns the map's allocator.
     pub(crate) fn allocator(&self) -> Global {
         self.alloc
     }
 
-    /// Adds the text as the next file; a refused growth leaves the map as it was.
+    /// Adds the text as the next file. If memory runs out, the map does not change.
     pub(crate) fn add_file(&mut self, text: &str) -> Result<(), AllocError>
         requires { Fits self.old (length (chars text.now)) }
         ensures ok { OnOk result (self.new ≡ with_file self.old (chars text.now)) }

@@ -1,4 +1,4 @@
-//! Where tokens stand.
+//! Spans: where tokens are.
 ghost use Rattle.std.specs.Prelude.{◌≡◌, ◌≤◌, ◌↔◌, IsTrue, None};
 ghost use Rattle.pm_span.specs.Extent.{extent_eq, nowhere};
 ghost use Rattle.pm_span.specs.Files.{Files, Holds};
@@ -6,7 +6,7 @@ ghost use Rattle.pm_span.specs.Files.{Files, Holds};
 use std::fmt;
 use std::marker::Model;
 
-/// Where a token stands: positions of a source map, from `lo` up to `hi`, in characters.
+/// Where a token is: the positions from `lo` to `hi` in a source map, in characters.
 #[derive(Clone, Copy)]
 pub struct Span {
     lo: u32,
@@ -27,7 +27,8 @@ impl Model for Span {
 }
 
 impl Span {
-    /// The span 0..0, in the empty file 0, which every map holds: that of what was read from no text.
+    /// Returns the span 0..0 for tokens that were not read from a text. It is in the empty file 0, which every map
+    /// holds.
     pub fn call_site() -> Span
         ensures value { result ≡ nowhere }
         ensures held { (map : Files) → Holds map result }
@@ -35,7 +36,8 @@ impl Span {
         Span { lo: 0, hi: 0 }
     }
 
-    /// The span 0..0, as [`call_site`](Span::call_site): in a compiler, that of names with mixed hygiene.
+    /// Returns the span 0..0, as [`call_site`](Span::call_site) does. In a compiler it is for names with mixed
+    /// hygiene.
     pub fn mixed_site() -> Span
         ensures value { result ≡ nowhere }
         ensures held { (map : Files) → Holds map result }
@@ -43,8 +45,8 @@ impl Span {
         Span::call_site()
     }
 
-    /// The span 0..0, as [`call_site`](Span::call_site): in a compiler, that of names that resolve where a
-    /// macro is defined.
+    /// Returns the span 0..0, as [`call_site`](Span::call_site) does. In a compiler it is for names that resolve
+    /// where the macro is defined.
     pub fn def_site() -> Span
         ensures value { result ≡ nowhere }
         ensures held { (map : Files) → Holds map result }
@@ -52,9 +54,10 @@ impl Span {
         Span::mixed_site()
     }
 
-    /// This span, resolved as the other one is.
+    /// Returns this span, unchanged.
     ///
-    /// No names are resolved here, so it is this span: 1..2 resolved at 3..4 is 1..2.
+    /// In a compiler it would resolve names as the other span does. No names are resolved here: 1..2 resolved at
+    /// 3..4 is 1..2.
     pub fn resolved_at(self, _other: Span) -> Span
         ensures { result ≡ self }
     {
@@ -62,9 +65,10 @@ impl Span {
         self
     }
 
-    /// The other span, resolved as this one is.
+    /// Returns the other span, unchanged.
     ///
-    /// No names are resolved here, so it is the other span: 1..2 located at 3..4 is 3..4.
+    /// In a compiler it would resolve names as this span does. No names are resolved here: 1..2 located at 3..4 is
+    /// 3..4.
     pub fn located_at(self, other: Span) -> Span
         ensures { result ≡ other }
     {
@@ -72,7 +76,7 @@ impl Span {
         other
     }
 
-    /// The path of the file on disk that the span is in: always `None`, as every text is handed in.
+    /// Returns `None`, because no text comes from a file on disk here. In a compiler it is the path of that file.
     pub fn local_file(self) -> Option<String>
         ensures { result ≡ None }
     {
@@ -86,7 +90,7 @@ impl Span {
         Span { lo, hi }
     }
 
-    /// Where the span begins and ends.
+    /// Returns the positions where the span begins and ends.
     pub(crate) fn bounds(self) -> (u32, u32)
         ensures value { result ≡ (self.lo, self.hi) }
         ensures ordered { self.lo ≤ self.hi }
@@ -94,7 +98,7 @@ impl Span {
         (self.lo, self.hi)
     }
 
-    /// Whether two spans have the same positions.
+    /// Returns whether both spans have the same positions.
     pub fn eq(&self, other: &Span) -> bool
         ensures value { result ≡ extent_eq self.now other.now }
         ensures same { IsTrue result ↔ (self.now ≡ other.now) }

@@ -1,4 +1,4 @@
-//! The characters and the lines of texts.
+//! Characters and lines of texts.
 ghost use Rattle.std.specs.Prelude.{◌≡◌, ◌<◌, ◌≤◌, ◌↔◌, ◌∷◌, ◌++◌, ◌-◌, length, take, drop, IsTrue, IfSome};
 ghost use Rattle.std.specs.Prelude.{MatchOption};
 ghost use Rattle.std.specs.Str.{chars, IsUtf8};
@@ -6,7 +6,7 @@ ghost use Rattle.pm_span.specs.Line.{is_one_line};
 
 use crate::plain::count_plain;
 
-/// How many characters the text has, which are as many as its bytes or fewer.
+/// Returns the number of characters in the text, which is at most the number of its bytes.
 pub fn char_count(text: &str) -> usize
     ensures { result ≡ length (chars text.now) }
 {
@@ -16,7 +16,7 @@ pub fn char_count(text: &str) -> usize
     count_chars(text)
 }
 
-/// The same, counted without a look whether the text is ASCII.
+/// Counts the characters without a test for ASCII.
 #[tactic(auto, using(std::proofs::lemmas::Str::chars_from_encodes))]
 fn count_chars(text: &str) -> usize
     ensures { result ≡ length (chars text.now) }
@@ -24,9 +24,9 @@ fn count_chars(text: &str) -> usize
     text.chars().count()
 }
 
-/// Whether the text has fewer characters than `count`.
+/// Returns whether the text has fewer than `count` characters.
 ///
-/// They are counted only where its bytes, which are at least as many, don't answer it.
+/// The characters are counted only if the text has at least `count` bytes: no text has more characters than bytes.
 #[tactic(auto, using(crate::proofs::AsciiLemmas::length_chars_le))]
 pub(crate) fn has_fewer_chars(text: &str, count: usize) -> bool
     ensures { IsTrue result ↔ (length (chars text.now) < count) }
@@ -34,8 +34,7 @@ pub(crate) fn has_fewer_chars(text: &str, count: usize) -> bool
     text.len() < count || char_count(text) < count
 }
 
-/// The first line of the text, without its line feed, and what follows that; `None` where the text
-/// is one line.
+/// Splits the text at its first line feed, which neither part has. Returns `None` if there is no line feed.
 pub(crate) fn split_line(text: &str) -> Option<(&str, &str)>
     ensures split { MatchOption result (IsTrue (is_one_line (chars text.now)))
         (λ x. (chars text.now ≡ chars x.0.now ++ (10 ∷ chars x.1.now)) × IsTrue (is_one_line (chars x.0.now))) }
@@ -46,13 +45,13 @@ pub(crate) fn split_line(text: &str) -> Option<(&str, &str)>
 
 /// The first line of a text.
 pub(crate) struct FirstLine<'a> {
-    /// How many characters it has, without its line feed.
+    /// The number of its characters, without the line feed.
     pub(crate) count: usize,
-    /// The line without its line feed, and what follows that; `None` where the text is one line.
+    /// The line without its line feed, and the text after the line feed; `None` if the text has no line feed.
     pub(crate) split: Option<(&'a str, &'a str)>,
 }
 
-/// The first line of the text. A line of ASCII is read once, by words.
+/// Returns the first line of the text. A line of ASCII is read once, 8 bytes at a time.
 #[inline(always)]
 pub(crate) fn first_line(text: &str) -> FirstLine<'_>
     ensures split { MatchOption result.split (IsTrue (is_one_line (chars text.now)))
@@ -84,7 +83,7 @@ pub(crate) fn first_line(text: &str) -> FirstLine<'_>
     }
 }
 
-/// The text after its first `count` characters.
+/// Returns the text after its first `count` characters.
 pub(crate) fn skip_chars(text: &str, count: usize) -> &str
     requires { count ≤ length (chars text.now) }
     ensures value { chars result.now ≡ drop count (chars text.now) }
@@ -97,7 +96,7 @@ pub(crate) fn skip_chars(text: &str, count: usize) -> &str
     rest.as_str()
 }
 
-/// The text before its last `count` characters.
+/// Returns the text before its last `count` characters.
 pub(crate) fn skip_chars_back(text: &str, count: usize) -> &str
     requires { count ≤ length (chars text.now) }
     ensures value { chars result.now ≡ take (length (chars text.now) - count) (chars text.now) }

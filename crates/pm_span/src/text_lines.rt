@@ -1,4 +1,4 @@
-//! What one pass over a text finds of its lines.
+//! One pass over a text, which finds its lines and counts its characters.
 ghost use Rattle.std.specs.Prelude.{◌≡◌, ◌<◌, ◌^◌, length, IfOk};
 ghost use Rattle.std.specs.Str.{chars};
 ghost use Rattle.pm_span.specs.LineIndex.{after_line_feeds};
@@ -6,16 +6,16 @@ ghost use Rattle.pm_span.specs.LineIndex.{after_line_feeds};
 use crate::text::{FirstLine, first_line};
 use std::alloc::{AllocError, Global};
 
-/// What one pass over a text finds.
+/// The result of one pass over a text.
 #[derive(Drop)]
 pub(crate) struct Lines {
-    /// The offsets after each line feed, in characters.
+    /// The offset after each line feed, in characters.
     pub(crate) starts: Vec<u32>,
-    /// How many characters the text has.
+    /// The number of characters in the text.
     pub(crate) count: u32,
 }
 
-/// The lines of the text.
+/// Finds the lines of the text. Out of memory is the only error.
 #[inline(always)]
 pub(crate) fn find_lines(alloc: Global, text: &str) -> Result<Lines, AllocError>
     requires { length (chars text.now) < 2 ^ 32 }

@@ -1,4 +1,4 @@
--- What is put into streams.
+-- Trees that are put into streams.
 use Rattle.std.proofs.Common.{◌≡◌, ◌≤◌, Bool, true, false, List, [], ◌∷◌, ◌++◌, Option, Some, None, MatchOption, Result}
 use Rattle.std.proofs.Common.{Ok, Err, OnOk, OnErr, Vec, ◌⊎◌, inl, inr, refl, sym, ap, ap₂, subst, ◌∙◌, append_assoc}
 use Rattle.std.proofs.Common.{if◌then◌else◌}
@@ -30,7 +30,7 @@ joined_assoc nil g h = refl
 joined_assoc (leaf t lo hi f) g h = ap (leaf t lo hi) (joined_assoc f g h)
 joined_assoc (group d lo hi f k) g h = ap (group d lo hi f) (joined_assoc k g h)
 
--- one item more
+-- the trees of one more item
 gathered_push : {A : Type 0} (trees : A → Forest) (items : List A) (item : A)
     → gathered trees (items ++ item ∷ []) ≡ joined (gathered trees items) (trees item)
 gathered_push trees [] item = joined_nil (trees item)
@@ -44,13 +44,13 @@ puts_more trees old now new items item so_far more =
     more ∙ ap (λ f. joined f (trees item)) so_far ∙ joined_assoc old (gathered trees items) (trees item)
     ∙ ap (joined old) (sym (gathered_push trees items item))
 
--- ---- what is pushed onto a list of trees
+-- ---- trees that are pushed onto a list
 
 pub forest_append : (old more : List TokenTree) → forest (old ++ more) ≡ joined (forest old) (forest more)
 forest_append [] more = refl
 forest_append (t ∷ old) more = ap (before t) (forest_append old more) ∙ sym (joined-before t (forest old) (forest more))
 
--- the mark and the rest of a literal, or no mark and the literal
+-- the parts of a literal: its mark and the rest, or no mark and the literal
 abbrev AreParts : Text → Option Mark → Text → Type 0
 AreParts l minus rest =
     MatchOption minus ((has_minus l.text ≡ false) × (rest ≡ l))
@@ -61,14 +61,14 @@ split_by : (l : Text) (b : Bool) → has_minus l.text ≡ b
 split_by l b is = ap (λ x. if x then before (Punct (minus_of l)) (alone (Literal (number_of l))) else alone (Literal l))
     is
 
--- a literal without a sign
+-- a literal without a sign is put in as it is
 pub split_plain : (l rest : Text) (minus : Option Mark) → AreParts l minus rest → minus ≡ None
     → split (Literal l) ≡ alone (Literal rest)
 split_plain l rest minus parts none =
     let known = subst (λ o. AreParts l o rest) none parts in
     split_by l false known.0 ∙ ap (λ (x : Text). alone (Literal x)) (sym known.1)
 
--- one with a sign
+-- a literal with a sign gives its mark and the rest
 pub split_negative : (l rest : Text) (m : Mark) (minus : Option Mark) → AreParts l minus rest → minus ≡ Some m
     → split (Literal l) ≡ before (Punct m) (alone (Literal rest))
 split_negative l rest m minus parts some =
@@ -76,7 +76,7 @@ split_negative l rest m minus parts some =
     split_by l true known.0
     ∙ ap₂ (λ (x : Mark) (y : Text). before (Punct x) (alone (Literal y))) (sym known.1) (sym known.2)
 
--- both trees of it, one after the other
+-- the mark and the rest of a literal are pushed one after the other
 pub pushed_two : (old first new : List TokenTree) (m : Mark) (rest : Text)
     → first ≡ old ++ Punct m ∷ [] → new ≡ first ++ Literal rest ∷ []
     → forest new ≡ joined (forest old) (before (Punct m) (alone (Literal rest)))
@@ -84,14 +84,14 @@ pushed_two old first new m rest one two =
     ap forest (two ∙ (ap (λ ts. ts ++ Literal rest ∷ []) one ∙ append_assoc old (Punct m ∷ []) (Literal rest ∷ [])))
     ∙ forest_append old (Punct m ∷ Literal rest ∷ [])
 
--- a list and its copy
+-- a copy of a list has the same trees
 pub clones_same : (old new : Vec TokenTree Global)
     → (new ≡ old) ⊎ (AllZip (λ t copy. copy ≡ t) old.items new.items × (vec_len new ≡ vec_len old))
     → new.items ≡ old.items
 clones_same old new (inl same) = ap (λ (v : Vec TokenTree Global). v.items) same
 clones_same old new (inr copied) = same_from_all_zip _ old.items new.items copied.0 (λ x y e. e)
 
--- ---- what is built
+-- ---- streams that are built
 
 pub built_after : {E : Type 0} (r : Result (Unit {0}) E) (old new more : Forest)
     → OnOk r (new ≡ joined old more) → OnErr r (new ≡ old) → IsBuilt old → IsBuilt more → IsBuilt new
@@ -106,9 +106,9 @@ literal_built l is ordered = go (has_minus l.text) refl
     go true minus = (refl, ordered, (number_built l.text minus is, ordered, tt))
     go false plain = (plain_built l.text plain is, ordered, tt)
 
--- ---- what an iterator gives
+-- ---- the items of an iterator
 
--- where it gave items and then one more, it gives an item
+-- an iterator that gave items and then one more gives at least one item
 gives_item : {U T A : Type 0} (becomes : U → T → Type 0) (steps : T → Option A → T → Type 0) (iterable : U)
     (it now next : T) (items : List A) (item : A)
     → becomes iterable it → Yields steps it items now → steps now (Some item) next → GivesAnItem becomes steps iterable
@@ -116,7 +116,7 @@ gives_item becomes steps iterable it now next [] item is yields step =
     (it, item, next, is, subst (λ s. steps s (Some item) next) (sym yields) step)
 gives_item becomes steps iterable it now next (first ∷ items) item is yields step = (it, first, yields.0, is, yields.1)
 
--- so does that whose last item was refused
+-- an iterator at whose last item memory ran out gives at least one item
 pub refused_item : {U T A E : Type 0} (becomes : U → T → Type 0) (steps : T → Option A → T → Type 0) (iterable : U)
     (it now next : T) (items : List A) (item : A) (r : Result (Unit {0}) E)
     → becomes iterable it → Yields steps it items now → steps now (Some item) next
@@ -125,7 +125,7 @@ refused_item becomes steps iterable it now next items item (Ok u) is yields step
 refused_item becomes steps iterable it now next items item (Err e) is yields step =
     gives_item becomes steps iterable it now next items item is yields step
 
--- an empty stream with all of them is all of them
+-- an empty stream to which all items were appended has the trees of all items
 pub gives_all : {U T A : Type 0} (becomes : U → T → Type 0) (steps : T → Option A → T → Type 0) (trees : A → Forest)
     (iterable : U) (empty new : Forest)
     → empty ≡ nil → (it : T) × (items : List A) × becomes iterable it × PutsIn trees empty items new

@@ -41,7 +41,7 @@ pub is_first-more : (us : List Piece) (x : Piece) → is_first (us ++ (x ∷ [])
 is_first-more [] x = refl
 is_first-more (u ∷ us) x = refl
 
--- ---- what the pieces give
+-- ---- the events of the pieces
 
 pub events-append : (at : ℕ) (k : Kind) (p : List ℕ) (es fs : List Event)
     → events_onto at k p (es ++ fs) ≡ events_onto at k p es ++ fs

@@ -24,7 +24,7 @@ use Rattle.pm_stream.specs.declared.stream.TokenTree.TheVariants.{Ident, Punct}
 use Rattle.pm_stream.specs.Forest.{Forest, nil, leaf, group, flat_onto, IsBuilt}
 use Rattle.pm_stream.proofs.InOrderLemmas.{in_order-alone}
 
--- the identifier `doc`
+-- `d` begins an identifier
 starts_doc : is_ident_start 100 ≡ true
 starts_doc = ident_start_ascii 100 (omega arith)
 
@@ -45,7 +45,7 @@ doc_name_built = (
   refl,
 )
 
--- its bytes are its characters
+-- the bytes of `doc` are its characters
 pub doc_chars : chars (codes "doc") ≡ codes "doc"
 unfolding chars
 doc_chars = refl
@@ -70,13 +70,13 @@ doc_group_built : (lo hi : ℕ) (text : List ℕ) → lo ≤ hi → IsText text 
 doc_group_built lo hi text within all =
     (within, (doc_name_built, within, (refl, within, (escaped.doc_built text all, within, tt))), tt)
 
--- they are built where the text is one
+-- the trees of a doc comment are built if its text is a text
 pub doc_built : (lo hi : ℕ) (inner : Bool) (text : List ℕ) → lo ≤ hi → IsText text
     → IsBuilt (doc_trees lo hi inner text)
 doc_built lo hi true text within all = (refl, within, (refl, within, doc_group_built lo hi text within all))
 doc_built lo hi false text within all = (refl, within, doc_group_built lo hi text within all)
 
--- the events of the group that is made of these parts
+-- the events of a doc comment's group that is made of these parts
 pub doc_group_events : (text : List ℕ) (doc : leaves.Name) (mark : leaves.Mark) (literal : leaves.Text)
     (items : List TokenTree) (made : Grouped) (span : Extent) (events : List Event)
     → doc ≡ record { name = codes "doc"; raw = false; span = span }

@@ -62,7 +62,7 @@ unclosed_goes_on groups trees =
     let more = goes_on groups trees events.nothing in
     (more.0, subst Balanced (unclosed-append groups trees [] more.0) more.1)
 
--- ---- a reader of events with a stack, to tell that a closer can't go on
+-- ---- a reader of events with a stack, by which a closer that can't go on is found
 
 same_delimiter : Delimiter → Delimiter → Bool
 same_delimiter Parenthesis Parenthesis = true
@@ -75,7 +75,7 @@ after_closer : Delimiter → List (Delimiter × ℕ) → Option (List (Delimiter
 after_closer d [] = Nothing
 after_closer d (x ∷ outer) = cond (same_delimiter x.0 d) (Some outer) Nothing
 
--- the openers that no closer matches after the events, the innermost first; none where a closer doesn't fit
+-- the openers that no closer matches after the events, the innermost first, or `None` if a closer doesn't fit
 stack_after : List Event → List (Delimiter × ℕ) → Option (List (Delimiter × ℕ))
 stack_after [] stack = Some stack
 stack_after (One token lo hi ∷ es) stack = stack_after es stack
@@ -170,13 +170,13 @@ stack_after-append (Opens d lo ∷ xs) ys stack = stack_after-append xs ys ((d, 
 stack_after-append (Closes d hi ∷ xs) ys stack =
     after_option xs ys (stack_after-append xs ys) (after_closer d stack)
 
--- what the stack is, where there is one
+-- if there is a stack at the end, there was one before
 some_stack : (ys : List Event) (o : Option (List (Delimiter × ℕ))) (st : List (Delimiter × ℕ))
     → option_and_then (stack_after ys) o ≡ Some st → (low : List (Delimiter × ℕ)) × (o ≡ Some low)
 some_stack ys Nothing st h = let clash : ◌≡◌ {A = Option (List (Delimiter × ℕ))} Nothing (Some st) = h in cc
 some_stack ys (Some low) st h = (low, refl)
 
--- the opener that is left with balanced events after it is on top
+-- an opener with balanced events after it is on top of the stack
 top_is : (es front back : List Event) (d : Delimiter) (j : ℕ) (st : List (Delimiter × ℕ)) (more : List Event)
     → stack_after (es ++ more) [] ≡ Some st
     → es ≡ front ++ (Opens d j ∷ back) → Balanced back
@@ -220,7 +220,7 @@ balanced_has_none es front back d j h split closed =
     ∙ one.1 in
     cc
 
--- ---- a flattening is of one forest
+-- ---- each flattening belongs to one forest only
 
 abbrev Ends : List Event → Type 0
 Ends [] = Unit {0}

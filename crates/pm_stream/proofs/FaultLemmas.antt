@@ -1,4 +1,4 @@
--- A fault stands in the source.
+-- A fault is inside its source.
 use Rattle.std.proofs.Common.{◌≡◌, ℕ, ◌+◌, ◌≤◌, true, false, List, [], ◌∷◌, ◌++◌, length, inl, inr, refl, sym, ap}
 use Rattle.std.proofs.Common.{subst, arith, length-append, Result, Ok, Err, IfErr}
 use Rattle.lexical.specs.Piece.{Kind, Piece, FrontMark, Gap, Doc, Open, Close, Leaf}
@@ -77,7 +77,7 @@ fault_held map source fault same h =
       to = omega (arith, within.1);
     }
 
--- what an attempt to parse answers, once its text is the map's last file
+-- a fault that parsing returns is in the map, once the text is the map's last file
 pub parsed_held : (old new : Files) (base : ℕ) (source : List ℕ) (result : Result Forest ParseError)
     → base ≡ next_lo old → new ≡ with_file old source
     → IfErr result (IsFault base source) → IfErr result (λ error. IfLex error (Holds new))

@@ -1,4 +1,4 @@
--- The reading order of the trees that a list makes.
+-- The reading order of the trees in a list.
 use Rattle.std.proofs.Common.{◌≡◌, List, [], ◌∷◌, ◌++◌, refl, sym, ap, ◌∙◌, subst}
 use Rattle.std.specs.List.{All}
 use Rattle.std.specs.List.{AllByRecursion as Each}
@@ -16,7 +16,7 @@ pub spacing_back : (s : Spacing) → spacing_of (is_joint s) ≡ s
 spacing_back Alone = refl
 spacing_back Joint = refl
 
--- one tree stands first, and then come those inside it
+-- one tree comes first, and then the trees inside it
 pub in_order-before : (tree : TokenTree) (rest : Forest) (more : List TokenTree)
     → in_order_onto (before tree rest) more ≡ tree ∷ in_order_onto (inside tree) (in_order_onto rest more)
 in_order-before (Group g) rest more = refl
@@ -33,7 +33,7 @@ in_order-forest tree trees more = in_order-before tree (forest trees) more
 pub in_order-alone : (tree : TokenTree) → in_order (alone tree) ≡ tree ∷ in_order (inside tree)
 in_order-alone tree = in_order-before tree nil []
 
--- what is listed onto others is listed alone before them
+-- trees that are listed onto others are the trees alone, and then the others
 pub in_order-append : (f : Forest) (ts more : List TokenTree)
     → in_order_onto f (ts ++ more) ≡ in_order_onto f ts ++ more
 in_order-append nil ts more = refl
@@ -51,7 +51,7 @@ in_order-joined (group d lo hi f k) g more =
     ap (λ xs. Group (record { delimiter = d; stream = f; span = record { lo = lo; hi = hi } }) ∷ in_order_onto f xs)
     (in_order-joined k g more)
 
--- ---- what holds of each tree
+-- ---- properties that hold of each tree
 
 each_join : (P : TokenTree → Type 0) (xs ys : List TokenTree) → Each P xs → Each P ys → Each P (xs ++ ys)
 each_join P [] ys h k = k
@@ -61,7 +61,7 @@ each_split : (P : TokenTree → Type 0) (xs ys : List TokenTree) → Each P (xs 
 each_split P [] ys h = (tt, h)
 each_split P (x ∷ xs) ys h = let rest = each_split P xs ys h.1 in ((h.0, rest.0), rest.1)
 
--- it holds of each tree of the stream and of each of the others
+-- the property holds of each tree of the stream and of each of the other trees
 pub each_onto : (P : TokenTree → Type 0) (f : Forest) (more : List TokenTree) → Each P (in_order f) → Each P more
     → Each P (in_order_onto f more)
 each_onto P f more h k = subst (Each P) (sym (in_order-append f [] more)) (each_join P (in_order f) more h k)
@@ -70,7 +70,7 @@ pub each_parts : (P : TokenTree → Type 0) (f : Forest) (more : List TokenTree)
     → Each P (in_order f) × Each P more
 each_parts P f more h = each_split P (in_order f) more (subst (Each P) (in_order-append f [] more) h)
 
--- it holds of each tree of a list and of each inside them
+-- the property holds of a tree and of each tree inside it
 abbrev Throughout : (TokenTree → Type 0) → TokenTree → Type 0
 Throughout P tree = P tree × All P (in_order (inside tree))
 

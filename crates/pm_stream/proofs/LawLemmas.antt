@@ -27,7 +27,7 @@ use Rattle.pm_stream.specs.Reading.{Reads}
 use Rattle.pm_stream.proofs.ParserLemmas.{reads_none, reads_more, reads_all, reads_open}
 use Rattle.pm_stream.proofs.ParserLemmas.{reads_stuck, reads_stray}
 
--- a piece at the front of a text
+-- a piece with which a text begins
 pub record Front (first : Bool) (text : List ℕ) : Type 0 where
   pub kind : Kind
   pub piece : List ℕ
@@ -35,7 +35,7 @@ pub record Front (first : Bool) (text : List ℕ) : Type 0 where
   pub whole : text ≡ piece ++ rest
   pub stands : IsPiece first kind piece rest
 
--- a piece stands at the front of a text, or none does
+-- a text begins with a piece, or with none
 front_or_none : (first : Bool) (text : List ℕ) (o : Found) → found first text ≡ o
     → Front first text ⊎ HasNoPiece first text
 front_or_none first text Nothing e = inr (none_from_found first text e)
@@ -57,7 +57,7 @@ at_front-true : (us : List Piece) → at_front true us ≡ is_first us
 at_front-true [] = refl
 at_front-true (u ∷ us) = refl
 
--- the first pieces are a front of the second ones, which go on from r to s
+-- the first pieces are the beginning of the second ones, which go on from r to s
 record GoesOn (first : Bool) (us vs : List Piece) (r s : List ℕ) : Type 0 where
   next : Piece
   later : List Piece
@@ -75,7 +75,7 @@ goes_later first u us vs v r s same h = record {
   stands = subst (λ b. IsPiece b h.next.0 h.next.1 (onto h.later s)) (at_front-false us) h.stands;
 }
 
--- of two partial covers one goes on from the other
+-- of two partial covers, one goes on from the other
 compared : (first : Bool) (us vs : List Piece) (r s : List ℕ) → StandBefore first us r
     → StandBefore first vs s → onto us r ≡ onto vs s
     → GoesOn first us vs r s ⊎ (GoesOn first vs us s r ⊎ ((us ≡ vs) × (r ≡ s)))
@@ -111,7 +111,7 @@ one_cover source us vs g h = elim (compared true us vs [] [] g.stand h.stand (sy
   ]
 ]
 
--- a source parses to one stream at most
+-- a source parses to at most one stream
 pub one_parse : (base : ℕ) (source : List ℕ) (s t : Forest) → ParsesTo base source s → ParsesTo base source t
     → s ≡ t
 one_parse base source s t g h =
@@ -195,7 +195,7 @@ abbrev pub HasOutcome : ℕ → List ℕ → Type 0
 HasOutcome base source =
     ((stream : Forest) × ParsesTo base source stream) ⊎ ((position : ℕ) × FaultAt base source position)
 
--- what was read with one piece more, or that the piece is a stray closer
+-- what was read with one more piece, unless the piece is a stray closer
 abbrev Moved : Kind → List ℕ → ℕ → List Opened → Forest → Type 0
 Moved k p at groups trees =
     ((new : List Opened) × (more : Forest)
@@ -280,7 +280,7 @@ pub has_outcome : (base : ℕ) (source : List ℕ) → HasOutcome base source
 has_outcome base source =
     goes (suc (length source)) base source source base true [] nil (omega arith) (reads_none base source)
 
--- ---- what an attempt to parse answers, and nothing else can be answered
+-- ---- the results of parsing, and that there are no others
 
 pub faultless : {A : Type 0} (P : A → Type 0) (base begin : ℕ) (source : List ℕ) (result : Result A ParseError)
     → ((value : A) → P value → (stream : Forest) × ParsesTo base source stream) → base ≡ begin

@@ -1,4 +1,4 @@
--- Where what stands in a map's last file starts, and what is true of the trees inside groups.
+-- Where spans in a map's last file start, and properties of the trees inside groups.
 use Rattle.std.proofs.Common.{◌≡◌, ◌+◌, ◌-◌, ◌≤◌, ℕ, List, [], ◌∷◌, length, refl}
 use Rattle.std.specs.List.{AllByRecursion as Each}
 use Rattle.lexical.specs.Token.{Token, Name, Mark, Literal}
@@ -17,11 +17,11 @@ use Rattle.pm_stream.proofs.FaultLemmas.{fault_within}
 use Rattle.pm_stream.proofs.InOrderLemmas.{each_parts}
 use Rattle.pm_stream.proofs.SpanLemmas.{IsWithin, parsed_within, source_held}
 
--- a map's last file
+-- the map's last file is this text
 pub last_file : (map : Files) (source : List ℕ) → IsFile (with_file map source) source (next_lo map)
 last_file map source = record { before = all_texts map; after = []; whole = refl; begins = refl }
 
--- where a span of it starts
+-- where a span in the last file starts
 pub starts_in_last : (map : Files) (source : List ℕ) (span : Extent) (start : LineColumn)
     → next_lo map ≤ span.lo → span.hi ≤ next_lo map + length source → StartsAt (with_file map source) span start
     → start ≡ line_column source (span.lo - next_lo map)
@@ -43,7 +43,7 @@ each_line_column text (tree ∷ trees) h =
       each_line_column text trees h.1,
     )
 
--- so has each tree of a text that was parsed with a new map
+-- each tree of a text that was parsed with a new map has its span in the map, which starts at its line and column
 pub parsed_line_columns : (text : List ℕ) (stream : Forest) → ParsesTo (next_lo new_map) text stream
     → Each (HasLineColumn text) (in_order stream)
 parsed_line_columns text stream parses =
@@ -58,7 +58,7 @@ fault_starts old new source fault start added stands starts =
     let within = fault_within (next_lo old) source fault.lo stands.1 in
     starts_in_last old source fault start within.0 (rw (← stands.0) within.1) (rw added at starts)
 
--- it is true of each tree inside the tree
+-- the property holds of each tree inside the tree
 abbrev pub EachInside : (TokenTree → Type 0) → TokenTree → Type 0
 EachInside P tree = Each P (in_order (inside tree))
 
@@ -75,11 +75,11 @@ each_inside_onto P (group d lo hi f g) more h k =
     let parts = each_parts P f (in_order g) h.1 in
     (parts.0, each_inside_onto P f (in_order_onto g more) parts.0 (each_inside_onto P g more parts.1 k))
 
--- what is true of each tree of a stream is true of each tree inside each of them
+-- a property of each tree of a stream is also true of each tree inside these trees
 pub each_inside : (P : TokenTree → Type 0) (f : Forest) → Each P (in_order f) → Each (EachInside P) (in_order f)
 each_inside P f h = each_inside_onto P f [] h tt
 
--- the trees inside each of these have their lines and columns
+-- the trees inside each of these trees have their lines and columns
 abbrev pub HaveLineColumnsInside : List ℕ → List TokenTree → Type 0
 HaveLineColumnsInside text = Each (EachInside (HasLineColumn text))
 

@@ -1,4 +1,4 @@
--- What was read, with one step more.
+-- What was read, after one more step.
 use Rattle.std.proofs.Common.{◌≡◌, ℕ, ◌≤◌, List, [], ◌∷◌, ◌++◌, length, take, drop, sym, ap, ◌∙◌, subst, arith}
 use Rattle.std.proofs.lemmas.List.{take-append-le, drop-append-le, length-take-le}
 use Rattle.pm_token.specs.declared.delimiters.Delimiter.{Delimiter}
@@ -13,11 +13,11 @@ use Rattle.pm_stream.specs.declared.stream.TokenTree.TheVariants.{Group}
 use Rattle.pm_stream.proofs.TreeLemmas.{forest-push, IsBuilt-joined}
 use Rattle.pm_stream.proofs.EventLemmas.{unclosed-joined}
 
--- what the list and the frames, the innermost first, are seen as
+-- the open groups and the innermost group's trees that the list and the frames give. The innermost frame is first
 abbrev seen : List Frame → List TokenTree → List Opened × Forest
 seen frames trees = (opened frames trees, forest (innermost frames trees))
 
--- one tree more
+-- one more tree
 seen-push : (frames : List Frame) (trees : List TokenTree) (tree : TokenTree) → IsNested frames (length trees)
     → seen frames (trees ++ tree ∷ []) ≡ (opened frames trees, joined (forest (innermost frames trees)) (alone tree))
 seen-push [] trees tree h = ap (λ f. ([], f)) (forest-push trees tree)
@@ -29,7 +29,7 @@ pub nested_more : (frames : List Frame) (m n : ℕ) → m ≤ n → IsNested fra
 nested_more [] m n le h = tt
 nested_more (frame ∷ frames) m n le h = (omega (arith, h.0), h.1)
 
--- what is left of the list before a group
+-- the trees of the list before a group
 pub nested_before : (frame : Frame) (frames : List Frame) (trees : List TokenTree)
     → IsNested (frame ∷ frames) (length trees)
     → IsNested frames (length (take frame.before trees))
@@ -84,7 +84,7 @@ pub built_joined : (at : ℕ) (groups : List Opened) (trees more : Forest) → I
 built_joined at [] trees more h k = IsBuilt-joined trees more h k
 built_joined at (x ∷ groups) trees more h k = (IsBuilt-joined trees more h.0 k, h.1, h.2)
 
--- built, by the frames with the innermost first
+-- what was read is built, in terms of the frames, of which the innermost is first
 abbrev pub IsBuiltIn : ℕ → List Frame → List TokenTree → Type 0
 IsBuiltIn at frames trees = IsBuiltUpTo at (opened frames trees) (forest (innermost frames trees))
 

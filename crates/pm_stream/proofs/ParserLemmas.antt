@@ -1,4 +1,4 @@
--- What the parser has read so far, and how the reading ends.
+-- What the parser has read so far, and how reading ends.
 use Rattle.std.proofs.Common.{◌≡◌, ◌≢◌, inl, inr, ℕ, ◌+◌, Bool, true, false, List, [], ◌∷◌, ◌++◌, length, refl, sym, ap}
 use Rattle.std.proofs.Common.{◌∙◌, subst, arith}
 use Rattle.lexical.specs.Class.{is_white}
@@ -20,7 +20,7 @@ pub reads_none : (base : ℕ) (source : List ℕ) → Reads base source source b
 reads_none base source =
     record { pieces = []; covers = covers_none source; begins = refl; position = omega arith; expands = refl }
 
--- one piece more, whose events were read
+-- one more piece, whose events were read
 pub reads_more : (base : ℕ) (source mid p rest : List ℕ) (at end : ℕ) (first : Bool) (groups groups' : List Opened)
     (trees trees' : Forest) (k : Kind)
     → Reads base source mid at first groups trees → mid ≡ p ++ rest → IsPiece first k p rest
@@ -39,7 +39,7 @@ reads_more base source mid p rest at end first groups groups' trees trees' k h w
       ∙ sym (expansion-more base h.pieces k p))));
 }
 
--- white characters are gaps, which write nothing
+-- white characters are gaps, which have no events
 pub reads_white : (base : ℕ) (source mid p rest : List ℕ) (at end : ℕ) (groups : List Opened) (trees : Forest)
     → Reads base source mid at false groups trees → mid ≡ p ++ rest → list_all is_white p ≡ true
     → end ≡ at + length p → Reads base source rest end false groups trees
@@ -52,7 +52,7 @@ reads_white base source mid (c ∷ p) rest at end groups trees h whole white e =
     (inl (c, refl, parts.0)) refl refl in
     reads_white base source (p ++ rest) p rest (at + 1) end groups trees past refl parts.1 (omega arith)
 
--- ---- how the reading ends
+-- ---- how reading ends
 
 pub reads_all : (base : ℕ) (source rest : List ℕ) (at : ℕ) (first : Bool) (trees : Forest)
     → Reads base source rest at first [] trees → rest ≡ [] → ParsesTo base source trees

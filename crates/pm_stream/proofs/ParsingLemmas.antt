@@ -1,4 +1,4 @@
--- What the parser has read, with one step more.
+-- What the parser has read, after one more step.
 use Rattle.std.proofs.Common.{◌≡◌, ℕ, ◌+◌, true, false, List, [], ◌∷◌, ◌++◌, length, take, drop, sym, ap, ap₂, ◌∙◌}
 use Rattle.std.proofs.Common.{subst, append_assoc, append-nil, length-append, arith}
 use Rattle.std.proofs.lemmas.List.{length-take-le}
@@ -33,7 +33,7 @@ with_events taken events = record {
   events = events;
 }
 
--- a tree more
+-- one more tree
 pub adds_tree : (old new : Parser) (tree : TokenTree) → new.trees.items ≡ old.trees.items ++ tree ∷ []
     → IsBuilt (alone tree) → Adds old new (flat_onto (alone tree) [])
 adds_tree old new tree more is = λ taken h.
@@ -55,7 +55,7 @@ adds_then a b c es fs h k = λ taken now.
     subst (λ xs. Parses c (with_events taken xs))
     (append_assoc taken.events es fs) (k _ (h taken now))
 
--- past the piece
+-- after the piece, the parser has read its events too
 pub adds_past : (old new : Parser) (es : List Event) → Adds old new es
     → (taken : Taken Frame) (front : List ℕ) → Parses old taken → Parses new (past taken front taken.opened es)
 adds_past old new es step taken front h =
@@ -68,14 +68,14 @@ adds_past old new es step taken front h =
           (omega (arith, length-append taken.passed front)) now.built;
     }
 
--- the piece's trees were put in
+-- the trees of the piece were added
 pub parses_token : {old new : Parser} (lexed : Lexed) (kind : PieceKind) (es : List Event) → Adds old new es
     → ((is : IsLexed lexed) → es ≡ events_onto lexed.at (kind_of kind is.found.front) is.found.front [])
     → HasTaken Parses old new lexed kind
 parses_token {old} {new} lexed kind es step gives = λ to.
     adds_past old new _ (subst (Adds old new) (gives to.is) step) to.before to.is.found.front to.takes
 
--- passing changes no tree
+-- a piece without trees changes no tree
 pub parses_past : (parser : Parser) (taken : Taken Frame) (front : List ℕ) → Parses parser taken
     → Parses parser (past taken front taken.opened [])
 parses_past parser = adds_past parser parser [] (λ taken h. subst (λ xs. Parses parser (with_events taken xs))
@@ -95,7 +95,7 @@ adds_inner_doc a b c d lo hi text es h i k is =
     adds_then a b d (One hash lo hi ∷ []) (One bang lo hi ∷ doc_group_onto lo hi text []) h
     (adds_then b c d (One bang lo hi ∷ []) (doc_group_onto lo hi text []) i (subst (Adds c d) is k))
 
--- an opener
+-- after an opener, one more group is open
 pub parses_open : (parser : Parser) (lexed : Lexed) (d : Delimiter) (n : ℕ) → n ≡ length parser.trees.items
     → (to : IsTakenTo Parses parser lexed)
     → Parses parser (past to.before to.is.found.front
@@ -122,7 +122,7 @@ parses_open parser lexed d n is to =
       );
     }
 
--- a closer
+-- after a closer, the innermost group is a tree
 pub parses_close : (old new : Parser) (frame : Frame) (lexed : Lexed) (d : Delimiter) (span : Extent)
     → span ≡ record { lo = frame.lo; hi = lexed.at + 1 }
     → new.trees.items ≡ take frame.before old.trees.items

@@ -1,4 +1,4 @@
--- Lemmas on pieces: what stands in a source is built, and what the lexer's answers say.
+-- Lemmas on pieces: tokens of a source are built, and what the results of the lexer mean.
 use Rattle.std.proofs.Common.{◌≡◌, ℕ, ◌-◌, Bool, List, [], ◌∷◌, ◌++◌, length, take, refl, sym, ap, ap₂, ◌∙◌, subst}
 use Rattle.std.proofs.Common.{arith}
 use Rattle.lexical.specs.Token.{Token, Name, Mark, Literal, raw_front, token_text}
@@ -24,7 +24,7 @@ use Rattle.pm_stream.specs.Trees.{alone}
 use Rattle.pm_stream.specs.declared.reading.Lexed.{Lexed}
 use Rattle.pm_stream.specs.declared.stream.TokenTree.TheVariants as trees
 
--- what stands in a source is built, where it is a text
+-- a token of a source is built, if the source is a text
 pub token_built : (token : Token) (r : List ℕ) → IsText (token_text token) → Stands token r → IsBuiltToken token
 token_built (Name raw name) r all h =
     let is = identifier_alone raw name r h in
@@ -32,7 +32,7 @@ token_built (Name raw name) r all h =
 token_built (Mark c joint) r all h = stands_mark c joint r h
 token_built (Literal text) r all h = (literal_whole text r h, all)
 
--- ---- what the lexer's answers say
+-- ---- what the results of the lexer mean
 
 -- the characters of a piece's bytes
 pub piece_chars : {lexed : Lexed} (is : IsLexed lexed) (bytes : List ℕ)
@@ -42,13 +42,13 @@ piece_chars {lexed} is bytes e =
     ap chars (e ∙ ap (λ n. take n lexed.text.now) all)
     ∙ piece_front is.first lexed.text.now lexed.piece is.utf8 is.found
 
--- the piece stands there as one of its kind
+-- the piece has this kind in the grammar too
 pub stands_as : {lexed : Lexed} (is : IsLexed lexed) (kind : PieceKind) → lexed.piece.kind ≡ kind
     → IsPiece is.first (kind_of kind is.found.front) is.found.front is.found.rest
 stands_as is kind e =
     subst (λ k. IsPiece is.first (kind_of k is.found.front) is.found.front is.found.rest) e is.found.stands
 
--- a piece of a text is one
+-- a piece of a text is a text
 piece_text : {lexed : Lexed} (is : IsLexed lexed) → IsText is.found.front
 piece_text {lexed} is =
     (text_split is.found.front is.found.rest
@@ -60,14 +60,14 @@ name_found is raw name e =
     let stands = stands_as is (kinds.Name raw name) e in
     token_built (Name raw (chars name.now)) is.found.rest (subst IsText stands.0 (piece_text is)) stands.1
 
--- the text of a literal is whole
+-- the text of a literal piece is a whole literal
 pub literal_found : {lexed : Lexed} (is : IsLexed lexed) (bytes : List ℕ) → lexed.piece.kind ≡ kinds.Literal
     → chars bytes ≡ is.found.front → IsBuiltToken (Literal (chars bytes))
 literal_found is bytes e same =
     subst (λ q. IsBuiltToken (Literal q)) (sym same)
     (token_built (Literal is.found.front) is.found.rest (piece_text is) (stands_as is kinds.Literal e).1)
 
--- two fronts of a text that are as long are the same
+-- two beginnings of a text that have the same length are equal
 pub same_fronts : (p q r s : List ℕ) → p ++ r ≡ q ++ s → length p ≡ length q → p ≡ q
 same_fronts [] [] r s e size = refl
 same_fronts [] (d ∷ q) r s e size = absurd (omega (arith, size))

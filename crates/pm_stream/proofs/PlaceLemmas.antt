@@ -1,4 +1,4 @@
--- Where the trees of a text stand: what was placed, with one step more.
+-- Where the trees of a text begin and end: what was placed, after one more step.
 use Rattle.std.proofs.Common.{◌≡◌, ℕ, ◌+◌, ◌-◌, ◌<◌, ◌≤◌, Bool, true, false, cond, not, List, [], ◌∷◌, ◌++◌}
 use Rattle.std.proofs.Common.{length, take, map, reverse, refl, sym, ap, ap₂, ◌∙◌, subst, arith, append_assoc}
 use Rattle.std.proofs.Common.{◌==◌, eqb-true, true≢false}
@@ -54,7 +54,7 @@ use Rattle.pm_stream.proofs.ReadingLemmas.{IsToken, token_events, token_trees}
 
 -- ---- lines and columns
 
--- line and column at the end of a text
+-- the line and column at the end of a text
 abbrev end_place : List ℕ → Place
 end_place front = record {
   line = 1 + count_by is_line_feed front;
@@ -86,14 +86,14 @@ end_place-push front c =
       | false ↦ ap₂ (λ m n. record { line = m; column = n }) (omega arith) (omega arith)
     ])
 
--- the place after one text and then another
+-- the line and column after one text and then another
 pub end_place-append : (front text : List ℕ) → moved_past (end_place front) text ≡ end_place (front ++ text)
 end_place-append front [] = ap end_place (sym (append-nil front))
 end_place-append front (c ∷ text) =
     ap (λ place. moved_past place text) (end_place-push front c)
     ∙ (end_place-append (front ++ c ∷ []) text ∙ ap end_place (append_assoc front (c ∷ []) text))
 
--- the place of the position where the rest of the source begins
+-- the line and column of the position where the rest of the source begins
 place_of-front : (base at : ℕ) (source front rest : List ℕ) → source ≡ front ++ rest → at ≡ base + length front
     → place_of base source at ≡ end_place front
 place_of-front base at source front rest whole e =
@@ -106,7 +106,7 @@ moved_past-append : (place : Place) (p q : List ℕ) → moved_past place (p ++ 
 moved_past-append place [] q = refl
 moved_past-append place (c ∷ p) q = moved_past-append (next_place place c) p q
 
--- the place of the position after a front of the source
+-- the line and column of the position after a beginning of the source
 place_is : (base at : ℕ) (source front rest : List ℕ) (place : Place) → source ≡ front ++ rest
     → at ≡ base + length front → place ≡ moved_past origin front
     → place ≡ place_of base source at
@@ -156,7 +156,7 @@ one_line_name raw name rest text h e =
     ap is_one_line alone.whole ∙ (list_all-append _ alone.front alone.back ∙ and_from _ _ first back) in
     ap is_one_line e ∙ (list_all-append _ (raw_front raw) name ∙ and_from _ _ front whole)
 
--- the end of a piece on one line
+-- the line and column after a piece on one line
 pub moves_along : (start : Place) (front : List ℕ) (count : ℕ) → count ≡ length front → is_one_line front ≡ true
     → record { line = start.line; column = start.column + count } ≡ moved_past start front
 moves_along start front count size h =
@@ -197,7 +197,7 @@ listed_open-joined place (x ∷ groups) trees more =
     ∙ sym (append_assoc (listed_open place groups x.outer) (opener place x.lo ∷ listed place trees)
     (listed place more))
 
--- line and column grow by no more than there are characters
+-- line and column grow by at most the number of characters
 pub moved_past-within : (place : Place) (text : List ℕ)
     → ((moved_past place text).line ≤ place.line + length text)
     × ((moved_past place text).column ≤ place.column + length text)
@@ -215,7 +215,7 @@ moved_past-within place (c ∷ text) =
     ] in
     (omega (arith, more.0, one.0), omega (arith, more.1, one.1))
 
--- the innermost of the open groups, without its trees
+-- what the placer keeps of the innermost open group
 abbrev frame_of : (ℕ → Place) → Opened → List Opened → OpenGroup
 frame_of place x groups = record {
   delimiter = x.delimiter;
@@ -224,9 +224,9 @@ frame_of place x groups = record {
   index = length (listed_open place groups x.outer);
 }
 
--- ---- one step more
+-- ---- one more step
 
--- there is room for the lines and columns of what follows
+-- the line and column are at most the position, so they fit 32 bits
 pub placed_room : {placer : Placer} {taken : Taken OpenGroup} → Places placer taken
     → (placer.here.line ≤ position taken) × (placer.here.column ≤ position taken)
 placed_room {placer} {taken} h =
@@ -235,7 +235,7 @@ placed_room {placer} {taken} h =
       omega (arith, within.1, ap (λ p. p.column) h.here, h.begins),
     )
 
--- the tree of an open group is in the list
+-- the list has the tree of an open group at the group's index
 within_of : (place : ℕ → Place) (items : List PlacedTree) (x : OpenGroup) (outer opened : List OpenGroup)
     (groups : List Opened) (trees : Forest) → opened ≡ x ∷ outer → opened ≡ open_groups place groups
     → items ≡ listed_open place groups trees → x.index < length items
@@ -258,7 +258,7 @@ placed_within {placer} {taken} x outer was h =
     within_of (place_of taken.base taken.source) placer.trees.items x outer taken.opened h.groups h.trees was h.around
     h.lists
 
--- what the trees of a piece of this kind are placed as
+-- where the trees of a piece of this kind begin and end
 abbrev kind_places : PieceKind → Place → Place → List PlacedTree
 kind_places (pieces.Doc inner said) start end = doc_places inner start end
 kind_places pieces.Literal start end = record { start = start; end = end; kind = kinds.Literal } ∷ []
@@ -277,7 +277,7 @@ now_here : (old new origin : Place) (passed front : List ℕ) → new ≡ moved_
 now_here old new origin passed front moved here =
     moved ∙ (ap (λ p. moved_past p front) here ∙ sym (moved_past-append origin passed front))
 
--- what was passed has no trees
+-- a piece without trees adds no trees
 pub placed_gap : {old new : Placer} {before : Taken OpenGroup} (h : Places old before) (front : List ℕ)
     → new.here ≡ moved_past old.here front → new.trees.items ≡ old.trees.items
     → Places new (past before front before.opened [])
@@ -442,7 +442,7 @@ placed_all base source placer h =
 white_ascii : (cs : List ℕ) → list_all ascii_white cs ≡ true → all_ascii cs ≡ true
 white_ascii = all_pass _ _ (λ c is. (and_parts _ _ is).0)
 
--- the white characters that are passed over, by bytes
+-- the white characters that are skipped, by bytes
 module _ (tail rest : List ℕ) (count : ℕ) where
   white_cut : (white : IsPastWhite (chars tail) rest count)
       → (take count (chars tail) ≡ white.front) × (byte_offset (chars tail) count ≡ count)

@@ -23,12 +23,12 @@ use Rattle.pm_stream.specs.declared.stream.TokenTree.{TokenTree}
 use Rattle.pm_stream.specs.declared.stream.TokenTree.TheVariants.{Group}
 use Rattle.pm_stream.proofs.StepLemmas.{PassesOver}
 
--- what is printed in the steps that are left
+-- what is printed for the steps that are left
 abbrev pub steps_text : Bool → List Step → List ℕ
 steps_text gap [] = []
 steps_text gap (step ∷ steps) = step_text gap step ++ steps_text (gap_after_step step) steps
 
--- after one step
+-- what is left to print after one step
 pub text_step : (gap now : Bool) (old new : List Step) (step given : Given) → old ≡ step_of step ∷ new → given ≡ step
     → now ≡ gap_after_step (step_of given)
     → step_text gap (step_of given) ++ steps_text now new ≡ steps_text gap old
@@ -60,11 +60,11 @@ steps_text-onto gap (group d lo hi inside rest) more =
     ∙ ap (λ x. printed_after (is_brace d) inside ++ (ending d ++ x)) (steps_text-onto true rest more))
     ∙ simp append_assoc refl
 
--- all steps are left
+-- before the first step, all of the stream is left to print
 pub steps_text-steps : (gap : Bool) (f : Forest) → steps_text gap (steps f) ≡ printed_after gap f
 steps_text-steps gap f = steps_text-onto gap f [] ∙ append-nil (printed_after gap f)
 
--- a group that is printed by itself, where a step found no memory
+-- a group that is printed by a call of its own, since memory ran out for a step
 pub text_over : (gap now : Bool) (was old new : List Step) (g : Grouped) (after : Forest) (d : Delimiter)
     (inside : List TokenTree)
     → old ≡ was → PassesOver old g after new → d ≡ g.delimiter → now ≡ is_brace d → forest inside ≡ g.stream
@@ -76,7 +76,7 @@ text_over gap now was old new g after d inside same_steps over same is into =
     ∙ ap (λ x. (space gap ++ opening g.delimiter) ++ x)
     (sym (steps_text-onto (is_brace g.delimiter) g.stream (Leave g after ∷ new))))
 
--- some texts are written, and the next
+-- some texts were written, and then the next one
 pub written_more : {W : Type 0} (took : W → List ℕ → W → Type 0) (f g h : Formatter W) (done next left all : List ℕ)
     → HasWritten took f (encode_utf8_all done) g → HasWritten took g (encode_utf8_all next) h
     → done ++ (next ++ left) ≡ all
@@ -87,14 +87,14 @@ written_more took f g h done next left all p q e = (
   append_assoc done next left ∙ e,
 )
 
--- two texts are written
+-- two texts were written
 pub written_two : {W : Type 0} (took : W → List ℕ → W → Type 0) (f g h : Formatter W) (a b : List ℕ)
     → HasWritten took f (encode_utf8_all a) g → HasWritten took g (encode_utf8_all b) h
     → HasWritten took f (encode_utf8_all (a ++ b)) h
 written_two took f g h a b p q =
     has_written_of_eq _ _ _ _ _ (sym (encodes-append a b)) (has_written_append _ _ _ _ _ _ p q)
 
--- what one step prints is written, a space and what comes after it
+-- the text of one step was written: a space and what comes after it
 pub spaced_written : {W : Type 0} (took : W → List ℕ → W → Type 0) (f g h : Formatter W) (gap : Bool)
     (front text : List ℕ)
     → HasWritten took f (encode_utf8_all (space gap)) g → HasWritten took g (encode_utf8_all front) h
@@ -102,7 +102,7 @@ pub spaced_written : {W : Type 0} (took : W → List ℕ → W → Type 0) (f g 
 spaced_written took f g h gap front text p q is =
     has_written_of_eq _ _ _ _ _ (ap encode_utf8_all (sym is)) (written_two _ _ _ _ _ _ p q)
 
--- a group is written
+-- a whole group was written
 pub group_written : {W : Type 0} (took : W → List ℕ → W → Type 0) (f f1 f2 f3 : Formatter W) (g : Grouped)
     (d : Delimiter) (gap : Bool) (inside : List TokenTree)
     → d ≡ g.delimiter → gap ≡ is_brace d → forest inside ≡ g.stream

@@ -1,4 +1,4 @@
--- What the loop over pieces has read, with one step more, and how it ends.
+-- What the loop over pieces has read, after one more step, and how the loop ends.
 use Rattle.std.proofs.Common.{◌≡◌, ◌≢◌, ◌⊎◌, inl, inr, ℕ, ◌+◌, ◌<◌, ◌^◌, ◌||◌, ◌==◌, Bool, true, false, arith, eqb-true}
 use Rattle.std.proofs.Common.{refl, sym, ap, ap₂, ◌∙◌, subst, List, [], ◌∷◌, ◌++◌, length, drop, reverse, map}
 use Rattle.std.proofs.Common.{append_assoc, append-nil, length-append}
@@ -82,7 +82,7 @@ pub on_ok : {A E P Q : Type 0} (result : Result A E) → (P → Q) → OnOk resu
 on_ok (Ok x) f h = f h
 on_ok (Err error) f h = tt
 
--- the last of a list, taken out of it
+-- the last item of a list was removed
 pub popped : {T : Type 0} (old new : List T) (got : Option T) (P : T → Type 0) (last : T) → got ≡ Some last
     → old ≡ new ++ option_to_list got → P last → IfSome got (λ x. (reverse old ≡ x ∷ reverse new) × P x)
 popped old new got P last is items h =
@@ -91,7 +91,7 @@ popped old new got P last is items h =
 
 -- ---- a piece that is no stray closer
 
--- the piece is no closer that doesn't close the innermost open group
+-- the piece is not a closer that doesn't close the innermost open group
 abbrev pub IsNoStray : {T : Type 0} → (T → Waiting) → List T → PieceKind → Type 0
 IsNoStray opens stack kind =
     (groups : List Opened) → map opens (reverse stack) ≡ openers_of groups → IsStray kind groups → ⊥
@@ -128,7 +128,7 @@ IsToken (kinds.Opener c) = ⊥
 IsToken (kinds.Closer c) = ⊥
 IsToken _ = Unit {0}
 
--- its trees
+-- the trees of such a piece
 abbrev pub token_trees : PieceKind → ℕ → ℕ → List ℕ → Forest
 token_trees (kinds.Doc inner said) lo hi text = doc_trees lo hi inner (chars said.now)
 token_trees kinds.Literal lo hi text = leaf (tokens.Literal text) lo hi nil
@@ -161,7 +161,7 @@ stray_at base source mid front rest at first groups trees (kinds.Closer c) reads
     reads_stray base source mid front rest at first groups trees c reads whole stands stray
 stray_at base source mid front rest at first groups trees _ reads whole stands stray = absurd stray
 
--- a group is open at the end
+-- a group is still open at the end
 open_at : (base : ℕ) (source : List ℕ) (at : ℕ) (first : Bool) (groups : List Opened) (trees : Forest)
     (error : ParseError)
     → Reads base source [] at first groups trees → IsOpenFault groups error → IsFault base source error
@@ -169,7 +169,7 @@ open_at base source at first [] trees error reads h = fault_is base source 0 ⊥
 open_at base source at first (x ∷ groups) trees error reads h =
     fault_is base source x.lo (Unit {0}) error (λ u. reads_open base source [] at first x groups trees reads refl) h
 
--- ---- one step more
+-- ---- one more step
 
 abbrev taken : {T : Type 0} → ℕ → List ℕ → List ℕ → List T → List Event → Taken T
 taken base source passed opened events =
@@ -209,7 +209,7 @@ module _ {S T : Type 0} {opens : T → Waiting} {took : S → Taken T → Type 0
   abbrev events_of : PieceKind → List Event
   events_of kind = events_onto lexed.at (kind_of kind can.to.is.found.front) can.to.is.found.front []
 
-  -- they are those of these groups and trees
+  -- after the step, the sink has taken the events of these groups and trees
   reads_step : (new : S) (stack' opened : List T) (groups : List Opened) (trees : Forest) (es : List Event)
       → opened ≡ reverse stack' → map opens opened ≡ openers_of groups
       → took new (past can.to.before can.to.is.found.front opened es)
@@ -297,7 +297,7 @@ reads_start {opens = opens} {took = took} base source sink stack none h first e 
   reads = subst (λ b. Reads base source source base b [] nil) (sym e) (reads_none base source);
 }
 
--- the text after a piece and after the white characters that follow it
+-- the text after a piece and the white characters after it is shorter
 pub shorter : {first : Bool} {text bytes rest : List ℕ} {count : ℕ} {piece : Found} → IsUtf8 text
     → IsPieceAt first (chars text) piece → bytes ≡ drop piece.bytes text → IsPastWhite (chars bytes) rest count
     → (piece.chars + count + length rest ≡ length (chars text)) × (length rest < length (chars text))
@@ -350,7 +350,7 @@ module _ {S T : Type 0} {opens : T → Waiting} {took : S → Taken T → Type 0
     behind_is = passed_is ∙ (ap (λ t. (h.passed ++ found.front) ++ t) white.whole
         ∙ sym (append_assoc (h.passed ++ found.front) white.front rest))
 
-    -- what is left isn't the whole text
+    -- the rest isn't the whole text
     pub not_whole : (text left : List ℕ) → IsUtf8 text → IsUtf8 left → source ≡ chars text → rest ≡ chars left
         → (length left == length text) ≡ false
     not_whole text left t l all is =
@@ -383,7 +383,7 @@ module _ {S T : Type 0} {opens : T → Waiting} {took : S → Taken T → Type 0
       pub room_on : lexed.at + (length found.front + count) < 2 ^ 32
       room_on = omega (arith, room, (shorter utf8 found cut white).0, found.chars)
 
-      -- the white characters after the piece can be passed
+      -- the white characters after the piece can be skipped
       abbrev pub can_pass : CanPass took made (chars bytes) count
       can_pass = record {
         rest = rest;
@@ -395,7 +395,7 @@ module _ {S T : Type 0} {opens : T → Waiting} {took : S → Taken T → Type 0
         room = omega (arith, room_on, h.position, length-append h.passed found.front);
       }
 
-      -- past the piece and the white characters
+      -- what was read up to after the piece and the white characters
       pub reads_past : {new : S} (flag : Bool) → flag ≡ false → HasPassed took made new (chars bytes) count
           → ReadsTo opens took base source rest (lexed.at + (lexed.piece.chars + count)) flag new stack'
       reads_past {new} flag later passes =
@@ -429,9 +429,9 @@ module _ {S T : Type 0} {opens : T → Waiting} {took : S → Taken T → Type 0
                 white.whole (all_white white.front white.stands.each) (omega (arith, white.chars)));
           }
 
--- ---- how it ends
+-- ---- how the loop ends
 
--- no piece stands at the rest, or else a closer that doesn't close the innermost open group
+-- no piece begins at the rest, or a closer that doesn't close the innermost open group does
 abbrev pub Stops : {T : Type 0} → (T → Waiting) → Bool → List ℕ → List T → Option Found → Type 0
 Stops opens first rest stack stray = MatchOption stray (HasNoPiece first rest) (λ piece. IsPieceAt first rest piece
     × ((groups : List Opened) → map opens (reverse stack) ≡ openers_of groups → IsStray piece.kind groups))

@@ -1,4 +1,4 @@
--- The printer keeps its rule.
+-- The printed text follows the printer's rule.
 use Rattle.std.proofs.Common.{◌≡◌, ℕ, Bool, true, false, List, [], ◌++◌, refl, ap, ap₂, ◌∙◌, append_assoc}
 use Rattle.lexical.specs.Token.{token_text}
 use Rattle.pm_token.specs.declared.delimiters.Delimiter.{Delimiter}
@@ -14,7 +14,7 @@ no_separator nil = refl
 no_separator (leaf t lo hi f) = refl
 no_separator (group d lo hi f g) = refl
 
--- a group, and then other text
+-- the text of a group, and then other text
 enclosed_same : (d : Delimiter) (inside : Forest) (text more : List ℕ) → (is_nil inside ≡ true → text ≡ [])
     → opening d ++ ((separator (is_brace d) inside ++ text) ++ (space (is_brace d) ++ (closing d ++ more)))
     ≡ enclosed d (is_nil inside) text ++ more

@@ -1,4 +1,4 @@
--- What is left to compare while groups are open, in a test whether streams are the same.
+-- What is left to compare while groups are open, in the test whether two streams are the same.
 use Rattle.std.proofs.Common.{rules, ◌≡◌, ◌↔◌, ℕ, ◌+◌, ◌*◌, ◌<◌, Bool, true, false, IsTrue, List, [], ◌∷◌, ◌++◌, length}
 use Rattle.std.proofs.Common.{nat_eq, refl, sym, ap, ◌∙◌, arith, Result, Ok, Err, is_ok, if◌then◌else◌}
 use Rattle.std.specs.Cmp.Lexicographic.{pointwise}
@@ -25,7 +25,7 @@ count-before (Ident i) rest = refl
 count-before (Punct p) rest = refl
 count-before (Literal l) rest = refl
 
--- a push that succeeds
+-- a push that succeeded
 pub pushed_ok : {E X : Type 0} (r : Result (Unit {0}) E) (b : Bool) (new xs ys : List X) → b ≡ is_ok r → b ≡ true
     → new ≡ (if is_ok r then xs else ys) → new ≡ xs
 pushed_ok (Ok u) b new xs ys e t p = p
@@ -36,16 +36,16 @@ abbrev pub RestsSame : List Lists → Type 0
 RestsSame [] = Unit {0}
 RestsSame (after ∷ inner) = Same (forest after.trees.now) (forest after.others.now) × RestsSame inner
 
--- how many trees and ends of groups there are after the open groups
+-- the number of trees and ends of groups after the open groups
 abbrev pub rests_count : List Lists → ℕ
 rests_count [] = 0
 rests_count (after ∷ inner) = 1 + 2 * count (forest after.trees.now) + rests_count inner
 
--- what is left is the same: these trees, and those after the open groups
+-- everything that is left is the same: these trees, and those after the open groups
 abbrev pub LeftSame : List TokenTree → List TokenTree → List Lists → Type 0
 LeftSame trees others outer = Same (forest trees) (forest others) × RestsSame outer
 
--- how much there is
+-- how much is left
 abbrev pub left_count : List TokenTree → List Lists → ℕ
 left_count trees outer = 2 * count (forest trees) + rests_count outer
 
@@ -61,7 +61,7 @@ rests_count-push : (outer : List Lists) (after : Lists)
 rests_count-push [] after = refl
 rests_count-push (x ∷ outer) after = omega (arith, rests_count-push outer after)
 
--- the first trees and what is inside them and after them
+-- the first trees, the trees inside them and those after them are the same
 abbrev Alike : TokenTree → TokenTree → Forest → Forest → Type 0
 Alike t u f g = (first_event t ≡ first_event u) × Same (inside t) (inside u) × Same f g
 
@@ -91,7 +91,7 @@ same-before (Literal l) (Ident j) f k = leaf_same (text_token l) (name_token j) 
 same-before (Literal l) (Punct q) f k = leaf_same (text_token l) (mark_token q) f k
 same-before (Literal l) (Literal m) f k = leaf_same (text_token l) (text_token m) f k
 
--- literals are alike where their bytes are
+-- literals are the same if their bytes are
 pub literal_alike : (a b s t : List ℕ) (r : Bool) → chars s ≡ a → chars t ≡ b → IsUtf8 s → IsUtf8 t
     → r ≡ pointwise nat_eq s t
     → IsTrue r ↔ (One (tokens.Literal a) 0 0 ≡ One (tokens.Literal b) 0 0)
@@ -109,14 +109,14 @@ not_nil (Ident i) f e = cc
 not_nil (Punct p) f e = cc
 not_nil (Literal l) f e = cc
 
--- the trees end before the others do
+-- one list ends before the other, so what is left is not the same
 pub uneven : (trees others : List TokenTree) (outer : List Lists) (r : Bool)
     → length trees ≡ 0 → r ≡ nat_eq (length others) 0 → r ≡ false → LeftSame trees others outer → ⊥
 uneven [] [] outer r none is some h = cc
 uneven [] (u ∷ others) outer r none is some h = not_nil u (forest others) h.0
 uneven (t ∷ trees) others outer r none is some h = absurd (omega (arith, none))
 
--- the first trees begin alike, and the trees inside them are next
+-- the first trees begin alike, and the trees inside them are compared next
 pub inside_same : (trees others within within-other : List TokenTree) (after : Lists) (t u : TokenTree) (r : Bool)
     (outer new : List Lists)
     → trees ≡ t ∷ after.trees.now → others ≡ u ∷ after.others.now
@@ -137,7 +137,7 @@ pub inside_less : (trees within : List TokenTree) (after : Lists) (t : TokenTree
 inside_less trees within after t outer new whole into push =
     rw (whole, push, into) (omega (arith, rests_count-push outer after, count-before t (forest after.trees.now)))
 
--- no tree is left of the innermost groups, and the trees after them are next
+-- no tree is left in the innermost groups, and the trees after these groups are compared next
 pub after_same : (trees others : List TokenTree) (after : Lists) (r : Bool) (outer new : List Lists)
     → length trees ≡ 0 → r ≡ nat_eq (length others) 0 → r ≡ true → outer ≡ new ++ after ∷ []
     → LeftSame trees others outer ↔ LeftSame after.trees.now after.others.now new

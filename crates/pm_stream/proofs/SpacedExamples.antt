@@ -1,4 +1,4 @@
--- Streams that are well spaced, and such that are not.
+-- Streams that are well spaced, and streams that are not.
 use Rattle.std.proofs.Common.{◌≡◌, true, false, List, [], ◌∷◌, codes, refl}
 use Rattle.lexical.specs.Token.{Token, Name, Mark, Literal}
 use Rattle.pm_token.specs.declared.delimiters.Delimiter.TheVariants.{Parenthesis, Brace, Bracket, None}
@@ -7,7 +7,7 @@ use Rattle.pm_stream.specs.Printed.{printed}
 use Rattle.pm_stream.specs.Same.{Same}
 use Rattle.pm_stream.specs.WellSpaced.{well_spaced}
 
--- the tokens without spans
+-- a stream of tokens with empty spans
 abbrev tokens : List Token → Forest
 tokens [] = nil
 tokens (t ∷ ts) = leaf t 0 0 (tokens ts)

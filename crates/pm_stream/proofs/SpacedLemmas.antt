@@ -1,4 +1,4 @@
--- What is left to look at, in a test whether trees are well spaced.
+-- What is left to check, in the test whether trees are well spaced.
 use Rattle.std.proofs.Common.{◌≡◌, ℕ, ◌&&◌, Bool, true, false, List, [], ◌∷◌, refl, sym, ap, ◌∙◌}
 use Rattle.lexical.specs.Token.{Token, Name, Mark, Literal}
 use Rattle.pm_stream.specs.Forest.{Forest, nil, leaf, group}
@@ -12,7 +12,7 @@ use Rattle.pm_stream.specs.declared.stream.Group.{Group as Grouped}
 use Rattle.pm_stream.specs.declared.stream.TokenTree.{TokenTree}
 use Rattle.pm_stream.proofs.StepLemmas.{PassesOver}
 
--- the steps that are left fit
+-- whether the steps that are left fit
 abbrev pub left_spaced : List Step → Bool
 left_spaced [] = true
 left_spaced (step ∷ steps) = step_fits step && left_spaced steps
@@ -47,11 +47,11 @@ and_true : (b : Bool) → (b && true) ≡ b
 and_true true = refl
 and_true false = refl
 
--- all steps are left
+-- before the first step, all of the stream is left to check
 pub left_spaced-steps : (f : Forest) → left_spaced (steps f) ≡ well_spaced f
 left_spaced-steps f = left_spaced-onto f [] ∙ and_true (well_spaced f)
 
--- a group that is looked at by itself, where a step found no memory
+-- a group that is checked by a call of its own, since memory ran out for a step
 pub spaced_over : (was old new : List Step) (g : Grouped) (after : Forest) (inside : List TokenTree)
     (shown inner : Bool)
     → old ≡ was → PassesOver old g after new → shown ≡ is_shown g.delimiter → shown ≡ true → forest inside ≡ g.stream

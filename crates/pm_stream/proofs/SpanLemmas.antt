@@ -1,4 +1,4 @@
--- The spans of a parsed stream stand in its source.
+-- The spans of a parsed stream are inside its source.
 use Rattle.std.proofs.Common.{◌≡◌, ℕ, ◌+◌, ◌≤◌, true, false, List, [], ◌∷◌, length, refl, sym, subst, arith, Result, Ok}
 use Rattle.std.proofs.Common.{Err, IfOk}
 use Rattle.std.specs.List.{AllByRecursion as Each}
@@ -20,7 +20,7 @@ use Rattle.pm_stream.specs.declared.stream.TokenTree.{TokenTree}
 use Rattle.pm_stream.proofs.FaultLemmas.{cover_within}
 use Rattle.pm_stream.proofs.InOrderLemmas.{all_listed}
 
--- the positions of the events are between two
+-- the positions of the events are between these two
 abbrev AreWithin : ℕ → ℕ → List Event → Type 0
 AreWithin lo hi [] = Unit {0}
 AreWithin lo hi (One token m n ∷ events) = (lo ≤ m) × (n ≤ hi) × AreWithin lo hi events
@@ -55,7 +55,7 @@ token_within lo hi (Name raw name) m n from to = (from, to)
 token_within lo hi (Mark c joint) m n from to = (from, to)
 token_within lo hi (Literal text) m n from to = (from, to)
 
--- the trees of events between two positions are between them, and so are the events after them
+-- if the events are between two positions, the trees and the events after them are too
 trees_within : (lo hi : ℕ) (f : Forest) (events : List Event) (more : List TokenTree)
     → AreWithin lo hi (flat_onto f events) → Each (IsWithin lo hi) more
     → Each (IsWithin lo hi) (in_order_onto f more) × AreWithin lo hi events
@@ -69,7 +69,7 @@ trees_within lo hi (group d m n f g) events more h k =
     let all = trees_within lo hi f (Closes d n ∷ flat_onto g events) (in_order_onto g more) h.1 rest.0 in
     (((h.0, inside.1.0), all.0), rest.1)
 
--- each span of the stream stands in the source
+-- each span of the stream is inside the source
 pub parsed_within : (base : ℕ) (source : List ℕ) (stream : Forest) → ParsesTo base source stream
     → Each (IsWithin base (base + length source)) (in_order stream)
 parsed_within base source stream h =
@@ -78,7 +78,7 @@ parsed_within base source stream h =
     (subst (AreWithin base (base + length source)) (sym h.expands)
     (expansion_within base (base + length source) base h.pieces (omega arith) (omega arith))) tt).0
 
--- the map holds what stands in its last file
+-- the map holds the spans inside its last file
 pub source_held : (map : Files) (source : List ℕ) (span : Extent) → next_lo map ≤ span.lo
     → span.hi ≤ next_lo map + length source → Holds (with_file map source) span
 source_held map source span from to = record {
@@ -96,7 +96,7 @@ each_held map source [] h = tt
 each_held map source (tree ∷ trees) h =
     (source_held map source (extent_of tree) h.0.0 h.0.1, each_held map source trees h.1)
 
--- the spans of what was parsed, once its text is the map's last file
+-- the map holds the spans of a parsed stream, once the text is the map's last file
 pub parsed_spans : (old new : Files) (base : ℕ) (source : List ℕ) (result : Result Forest ParseError)
     → base ≡ next_lo old → new ≡ with_file old source → IfOk result (ParsesTo base source) → IfOk result (HoldsAll new)
 parsed_spans old new base source (Ok stream) begins added h =
@@ -106,7 +106,7 @@ parsed_spans old new base source (Ok stream) begins added h =
     (record { each = All-from_recursion (λ tree. Holds (with_file old source) (extent_of tree)) _ held })
 parsed_spans old new base source (Err error) begins added h = tt
 
--- the trees of a stream, of which the map holds all spans
+-- if the map holds all spans of a stream, it holds those of each of its trees
 pub held_trees : (map : Files) (trees : List TokenTree) (stream : Forest) → forest trees ≡ stream → HoldsAll map stream
     → HoldsEach map trees
 held_trees map trees stream e h tree index less is =

@@ -27,7 +27,7 @@ ends_onto-push [] frame more = refl
 ends_onto-push (x ∷ outer) frame more =
     ends_onto-push outer frame (Leave x.group.now (forest x.after.now) ∷ steps_onto (forest x.after.now) more)
 
--- a tree that is no group stands first
+-- the first step over a tree that is no group
 steps-token : (t : TokenTree) (rest : Forest) (more : List Step) → ((g : Grouped) → t ≡ Group g → ⊥)
     → steps_onto (before t rest) more ≡ Token t rest ∷ steps_onto rest more
 steps-token (Group g) rest more other = absurd (other g refl)
@@ -36,13 +36,13 @@ steps-token (Punct p) rest more other =
     ap (λ s. Token (Punct (record p { spacing = s })) rest ∷ steps_onto rest more) (spacing_back p.spacing)
 steps-token (Literal l) rest more other = refl
 
--- past a token
+-- the step over a token
 pub past_token : (outer : List OpenGroup) (left after : List TokenTree) (t : TokenTree) → left ≡ t ∷ after
     → ((g : Grouped) → t ≡ Group g → ⊥)
     → steps_left outer left ≡ Token t (forest after) ∷ steps_left outer after
 past_token outer left after t whole other = rw whole (steps-token t (forest after) (ends_onto outer []) other)
 
--- into a group
+-- the step into a group
 pub into_group : (outer new : List OpenGroup) (left within : List TokenTree) (frame : OpenGroup) (t : TokenTree)
     → left ≡ t ∷ frame.after.now → t ≡ Group frame.group.now → forest within ≡ frame.group.now.stream
     → new ≡ outer ++ frame ∷ []
@@ -50,7 +50,7 @@ pub into_group : (outer new : List OpenGroup) (left within : List TokenTree) (fr
 into_group outer new left within frame t whole is into push =
     rw (whole, is, into, push, ends_onto-push outer frame []) refl
 
--- the steps over its trees, and out of it
+-- after the step into a group come the steps over its trees, and its `Leave`
 pub inside_group : (outer new : List OpenGroup) (within : List TokenTree) (frame : OpenGroup)
     → forest within ≡ frame.group.now.stream → new ≡ outer ++ frame ∷ []
     → steps_left new within
@@ -58,14 +58,14 @@ pub inside_group : (outer new : List OpenGroup) (within : List TokenTree) (frame
     (Leave frame.group.now (forest frame.after.now) ∷ steps_onto (forest frame.after.now) (ends_onto outer []))
 inside_group outer new within frame into push = rw (into, push, ends_onto-push outer frame []) refl
 
--- over a group
+-- a group is skipped
 pub over_group : (outer : List OpenGroup) (left after : List TokenTree) (t : TokenTree) (g : Grouped)
     → left ≡ t ∷ after → t ≡ Group g
     → steps_left outer left
     ≡ Enter g (forest after) ∷ steps_onto g.stream (Leave g (forest after) ∷ steps_left outer after)
 over_group outer left after t g whole is = rw (whole, is) refl
 
--- out of a group
+-- the step out of a group
 pub out_of_group : (outer new : List OpenGroup) (left : List TokenTree) (frame : OpenGroup)
     → length left ≡ 0 → outer ≡ new ++ frame ∷ []
     → steps_left outer left
@@ -73,7 +73,7 @@ pub out_of_group : (outer new : List OpenGroup) (left : List TokenTree) (frame :
 out_of_group outer new [] frame none pop = rw pop (ends_onto-push new frame [])
 out_of_group outer new (t ∷ left) frame none pop = absurd (omega (arith, none))
 
--- no group is open
+-- if no group is open and no tree is left, no step is left
 pub none_left : (outer : List OpenGroup) (left : List TokenTree) → length left ≡ 0 → outer ≡ []
     → steps_left outer left ≡ []
 none_left outer [] none end = rw end refl
@@ -85,7 +85,7 @@ token_inside (Ident i) other = refl
 token_inside (Punct p) other = refl
 token_inside (Literal l) other = refl
 
--- a step was given
+-- a step that the traversal returned is the first of those that were left
 pub taken : (next : Option Given) (step : Given) (old new : List Step) → next ≡ Some step
     → MatchOption next ((old ≡ []) × (new ≡ [])) (λ s. old ≡ step_of s ∷ new) → old ≡ step_of step ∷ new
 taken next step old new is h = rw is at h
@@ -98,7 +98,7 @@ front-ends [] more none = none
 front-ends (x ∷ outer) more none =
     front-ends outer (Leave x.group.now (forest x.after.now) ∷ steps_onto (forest x.after.now) more) refl
 
--- none where no tree is left
+-- there is no next tree if no tree is left in the innermost group
 pub front-none : (outer : List OpenGroup) (left : List TokenTree) → length left ≡ 0
     → front_tree (steps_left outer left) ≡ None
 front-none outer [] none = front-ends outer [] refl
@@ -115,12 +115,12 @@ pub front-some : (outer : List OpenGroup) (left after : List TokenTree) (t : Tok
     → front_tree (steps_left outer left) ≡ Some t
 front-some outer left after t whole = rw whole (front-before t (forest after) (ends_onto outer []))
 
--- the next step goes into no group where no group comes next
+-- the next step enters no group, if the next tree is no group
 pub enters_none : (steps : List Step) (next : Option TokenTree) → front_tree steps ≡ next
     → ((g : Grouped) → next ≡ Some (Group g) → ⊥) → EntersNext steps → ⊥
 enters_none steps next is other enters = other enters.0 (sym is ∙ ap front_tree enters.3)
 
--- the next step goes into the group that is left first
+-- the next step enters the first of the trees that are left, if it is a group
 pub enters_next : (outer : List OpenGroup) (left after : List TokenTree) (t : TokenTree) (g : Grouped) (all : List Step)
     → left ≡ t ∷ after → t ≡ Group g → steps_left outer left ≡ all → EntersNext all
 enters_next outer left after t g all whole is left_is = (
@@ -130,7 +130,7 @@ enters_next outer left after t g all whole is left_is = (
   sym left_is ∙ over_group outer left after t g whole is,
 )
 
--- ---- how many there are
+-- ---- the number of steps
 
 pub length-steps : (f : Forest) (more : List Step) → length (steps_onto f more) ≡ length (steps f) + length more
 length-steps nil more = omega arith
@@ -144,11 +144,11 @@ length-steps (group d lo hi inside rest) more =
       length-steps rest more,
     )
 
--- what passing over a group does to the steps that were left
+-- what skipping a group does to the steps that were left
 abbrev pub PassesOver : List Step → Grouped → Forest → List Step → Type 0
 PassesOver old g after new = old ≡ Enter g after ∷ steps_onto g.stream (Leave g after ∷ new)
 
--- fewer steps are left after a group, and inside it
+-- fewer steps are left after a group than before it, and inside it too
 pub over_less : (was old new : List Step) (g : Grouped) (after : Forest) → old ≡ was → PassesOver old g after new
     → length new < length was
 over_less was old new g after same over =
@@ -161,7 +161,7 @@ inside_less was old new g after inside most same over into within =
     let inner = length-steps g.stream (Leave g after ∷ new) in
     rw into (omega (arith, inner, within, ap length same, ap length over))
 
--- ---- the trees that they come to
+-- ---- the trees that the steps enter or visit
 
 pub trees_given-onto : (f : Forest) (more : List Step)
     → trees_given (steps_onto f more) ≡ in_order_onto f (trees_given more)
@@ -173,12 +173,12 @@ trees_given-onto (group d lo hi inside rest) more =
     (trees_given-onto inside (Leave whole rest ∷ steps_onto rest more)
     ∙ ap (in_order_onto inside) (trees_given-onto rest more))
 
--- of the steps that are left
+-- the trees of the steps that are left
 pub trees_left : (outer : List OpenGroup) (left : List TokenTree)
     → trees_given (steps_left outer left) ≡ in_order_onto (forest left) (trees_given (ends_onto outer []))
 trees_left outer left = trees_given-onto (forest left) (ends_onto outer [])
 
--- after a tree come those inside it
+-- after a tree, those inside it come next
 pub inside_next : (front : Option (Bor TokenTree)) (next : Option Given) (old new : List Step)
     → option_copied front ≡ front_tree old
     → MatchOption next ((old ≡ []) × (new ≡ [])) (λ s. old ≡ step_of s ∷ new)
@@ -198,7 +198,7 @@ inside_next (Some tree) (Some (given.Token t after)) old new comes is follows =
     let same : tree.now ≡ t.now = cc in
     (trees_given new, rw (same, follows.2) refl)
 
--- ---- trees that are passed over
+-- ---- trees that are skipped
 
 heads_same : (t u : TokenTree) (ts us : List TokenTree) → t ∷ ts ≡ u ∷ us → t ≡ u
 heads_same t u ts us e = cc
@@ -206,7 +206,7 @@ heads_same t u ts us e = cc
 tails_same : (t u : TokenTree) (ts us : List TokenTree) → t ∷ ts ≡ u ∷ us → ts ≡ us
 tails_same t u ts us e = cc
 
--- what comes after a stream's trees is the same
+-- if the trees in reading order are the same, so are the trees after the stream's own
 in_order-cancel : (f : Forest) (xs ys : List TokenTree) → in_order_onto f xs ≡ in_order_onto f ys → xs ≡ ys
 in_order-cancel nil xs ys same = same
 in_order-cancel (leaf token lo hi rest) xs ys same = in_order-cancel rest xs ys (tails_same _ _ _ _ same)
@@ -214,7 +214,7 @@ in_order-cancel (group d lo hi inside rest) xs ys same =
     in_order-cancel rest xs ys
     (in_order-cancel inside (in_order_onto rest xs) (in_order_onto rest ys) (tails_same _ _ _ _ same))
 
--- after these trees come the others that are to be passed over
+-- after these trees come the others that are still to be skipped
 passed_on : (left more m rest : List TokenTree) → length left ≤ length more
     → in_order_onto (forest left) m ≡ in_order_onto (forest more) rest
     → m ≡ in_order_onto (forest (drop (length left) more)) rest
@@ -227,13 +227,13 @@ passed_on (t ∷ left) (u ∷ more) m rest within same =
     ∙ ap (λ x. in_order_onto (inside x) (in_order_onto (forest more) rest)) (sym is) in
     passed_on left more m rest (omega (arith, within)) (in_order-cancel (inside t) _ _ later)
 
--- so many trees are still to be passed over, if they come next
+-- this number of trees is still to be skipped, if they come next
 abbrev pub StillPasses : ℕ → List TokenTree → ℕ → List Step → Type 0
 StillPasses count given still now =
     (passed rest : List TokenTree) → length passed ≡ count → given ≡ in_order_onto (forest passed) rest
     → (more : List TokenTree) × (length more ≡ still) × (trees_given now ≡ in_order_onto (forest more) rest)
 
--- all that are left of the innermost group were passed over, and those after it are next
+-- all trees left in the innermost group were skipped, and those after the group are next
 pub passed_group : (count still : ℕ) (given : List TokenTree) (outer new : List OpenGroup) (left : List TokenTree)
     (frame : OpenGroup)
     → length left < still → outer ≡ new ++ frame ∷ [] → StillPasses count given still (steps_left outer left)
@@ -254,7 +254,7 @@ none_passed [] rest n m size fewer same = omega (arith, size, fewer)
 none_passed (t ∷ more) rest n m size fewer same =
     let clash = same ∙ in_order-forest t more rest in cc
 
--- no group is open, so as many trees don't come next
+-- no group is open, so fewer trees are left than are to be skipped
 pub passed_none : (count still : ℕ) (given : List TokenTree) (outer : List OpenGroup) (left : List TokenTree)
     → length left < still → outer ≡ [] → StillPasses count given still (steps_left outer left)
     → (passed rest : List TokenTree) → length passed ≡ count
@@ -266,7 +266,7 @@ passed_none count still given outer left fewer none so_far passed rest size is =
     (length-drop (length left) was.0 ∙ ap (λ n. n - length left) was.1) fewer
     (ap (λ o. trees_given (ends_onto o [])) (sym none) ∙ end)
 
--- the last of them are of the innermost group
+-- the last trees to be skipped are in the innermost group
 pub passed_last : (count still : ℕ) (given : List TokenTree) (outer : List OpenGroup) (left new : List TokenTree)
     → still ≤ length left → new ≡ drop still left → StillPasses count given still (steps_left outer left)
     → (passed rest : List TokenTree) → length passed ≡ count → given ≡ in_order_onto (forest passed) rest

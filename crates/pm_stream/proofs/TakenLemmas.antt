@@ -10,11 +10,11 @@ use Rattle.pm_stream.specs.declared.stream.TokenTree.TheVariants.{Group}
 use Rattle.pm_stream.proofs.BuildingLemmas.{joined_assoc, joined_nil}
 use Rattle.pm_stream.proofs.TreeLemmas.{IsBuilt-front, count-joined, forest-push}
 
--- nothing is taken yet
+-- nothing was taken yet
 pub takes_nothing : (f : Forest) → TakesGroup f None f
 takes_nothing f = (nil, sym (joined_nil f))
 
--- the trees before, and what is taken
+-- the old trees are those that are left, then the tree that was taken, and then those taken before
 taken_before : (old : Forest) (now new : List TokenTree) (r : Option TokenTree) (t : TokenTree) (rest : Forest)
     → old ≡ joined (forest now) rest → now ≡ new ++ option_to_list r → r ≡ Some t
     → old ≡ joined (forest new) (joined (alone t) rest)
@@ -23,20 +23,20 @@ taken_before old now new r t rest so_far popped some =
     ∙ ap (λ f. joined f rest) (ap forest (popped ∙ ap (λ o. new ++ option_to_list o) some) ∙ forest-push new t)
     ∙ joined_assoc (forest new) (alone t) rest
 
--- a tree is taken
+-- a tree was taken
 pub takes_tree : (old : Forest) (now new : List TokenTree) (r : Option TokenTree) (t : TokenTree)
     → TakesGroup old None (forest now) → now ≡ new ++ option_to_list r → r ≡ Some t → TakesGroup old None (forest new)
 takes_tree old now new r t so_far popped some =
     (joined (alone t) so_far.0, taken_before old now new r t so_far.0 so_far.1 popped some)
 
--- a group is taken
+-- a group was taken
 pub takes_group : (old : Forest) (now new : List TokenTree) (r : Option TokenTree) (t : TokenTree) (g : Grouped)
     → TakesGroup old None (forest now) → now ≡ new ++ option_to_list r → r ≡ Some t → t ≡ Group g
     → TakesGroup old (Some g) (forest new)
 takes_group old now new r t g so_far popped some is =
     (so_far.0, taken_before old now new r (Group g) so_far.0 so_far.1 popped (some ∙ ap Some is))
 
--- ---- what is left
+-- ---- the trees that are left
 
 pub count-left : (old new : Forest) → TakesGroup old None new → count new ≤ count old
 count-left old new p = omega (arith, ap count p.1, count-joined new p.0)

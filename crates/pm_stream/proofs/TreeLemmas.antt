@@ -1,4 +1,4 @@
--- Lists of trees and the forests that they make.
+-- Lists of trees and their forests.
 use Rattle.std.proofs.Common.{All, ◌≡◌, ℕ, ◌+◌, ◌*◌, ◌<◌, ◌≤◌, get_or, arith, false, List, [], ◌∷◌}
 use Rattle.std.proofs.Common.{◌++◌, length, nat_eq, refl, sym, ap, ◌∙◌, rules}
 use Rattle.pm_stream.specs.Events.{Event, One, Opens, Closes}
@@ -29,7 +29,7 @@ joined-before (Ident i) f k = refl
 joined-before (Punct p) f k = refl
 joined-before (Literal l) f k = refl
 
--- one tree more
+-- one more tree
 pub forest-push : (ts : List TokenTree) (t : TokenTree) → forest (ts ++ t ∷ []) ≡ joined (forest ts) (alone t)
 forest-push [] t = refl
 forest-push (u ∷ ts) t = ap (before u) (forest-push ts t) ∙ sym (joined-before u (forest ts) (alone t))
@@ -39,7 +39,7 @@ IsBuilt-joined nil k p q = q
 IsBuilt-joined (leaf t lo hi f) k p q = (p.0, p.1, IsBuilt-joined f k p.2 q)
 IsBuilt-joined (group d lo hi f g) k p q = (p.0, p.1, IsBuilt-joined g k p.2 q)
 
--- the first of two forests is built if they are together
+-- the first of two forests is built if both together are
 pub IsBuilt-front : (f k : Forest) → IsBuilt (joined f k) → IsBuilt f
 IsBuilt-front nil k p = tt
 IsBuilt-front (leaf t lo hi f) k p = (p.0, p.1, IsBuilt-front f k p.2)
@@ -60,7 +60,7 @@ flat_onto-joined (leaf t lo hi f) g es = ap (λ e. One t lo hi ∷ e) (flat_onto
 flat_onto-joined (group d lo hi f k) g es =
     ap (λ e. Opens d lo ∷ flat_onto f (Closes d hi ∷ e)) (flat_onto-joined k g es)
 
--- what is flattened onto other events is flattened alone before them
+-- a flattening onto other events is the flattening alone, and then the other events
 pub flat_onto-append : (f : Forest) (es more : List Event) → flat_onto f es ++ more ≡ flat_onto f (es ++ more)
 flat_onto-append nil es more = refl
 flat_onto-append (leaf t lo hi f) es more = ap (λ e. One t lo hi ∷ e) (flat_onto-append f es more)
@@ -71,7 +71,7 @@ flat_onto-append (group d lo hi f g) es more =
 pub flattening-joined : (f g : Forest) → flattening (joined f g) ≡ flattening f ++ flattening g
 flattening-joined f g = flat_onto-joined f g [] ∙ sym (flat_onto-append f [] (flattening g))
 
--- the measures of the trees of a list are below that of the stream
+-- the measure of each tree of a list is less than that of the stream
 pub most_size_le : (ts : List TokenTree) → most size-TokenTree ts ≤ 3 * count (forest ts) + 2
 most_size_le [] = omega arith
 most_size_le (t ∷ ts) = omega (arith, deep_le-before t (forest ts), most_size_le ts)
@@ -91,7 +91,7 @@ count-joined nil g = omega arith
 count-joined (leaf t lo hi f) g = omega (arith, count-joined f g)
 count-joined (group d lo hi f k) g = omega (arith, count-joined k g)
 
--- the way back, where a group was
+-- the way back is put where a group was
 pub count-put : (old new : Forest) (g : Grouped) → new ≡ joined old (alone (Group g))
     → count new ≡ count old + 1 + count g.stream
 count-put old new g p = omega (arith, ap count p, count-joined old (alone (Group g)))

@@ -1,4 +1,4 @@
--- What is put into streams.
+-- The trees that are put into streams.
 use Rattle.std.specs.Prelude.{◌≡◌, List, [], ◌∷◌, Option, Some, if◌then◌else◌}
 use Rattle.std.specs.Iterator.{Drains, Yields}
 use Rattle.pm_token.specs.Negative.{has_minus, minus_of, number_of}
@@ -7,7 +7,7 @@ use Rattle.pm_stream.specs.Trees.{alone, before}
 use Rattle.pm_stream.specs.declared.stream.TokenTree.{TokenTree}
 use Rattle.pm_stream.specs.declared.stream.TokenTree.TheVariants.{Group, Ident, Punct, Literal}
 
--- `split`: the trees that stand in a stream for one that is put in. A negative literal is its `-` and the rest
+-- `split`: the trees that a stream gets for one tree that is put in. A negative literal gives its `-` and the rest
 abbrev pub split : TokenTree → Forest
 split (Group g) = alone (Group g)
 split (Ident i) = alone (Ident i)
@@ -20,21 +20,21 @@ abbrev pub gathered : {A : Type 0} → (A → Forest) → List A → Forest
 gathered trees [] = nil
 gathered trees (item ∷ items) = joined (trees item) (gathered trees items)
 
--- the trees of each item were put after those of the stream
+-- the new stream has the old trees, and then the trees of each item
 abbrev pub PutsIn : {A : Type 0} → (A → Forest) → Forest → List A → Forest → Type 0
 PutsIn trees old items new = new ≡ joined old (gathered trees items)
 
--- what is iterated over gives at least one item
+-- the iterable gives at least one item
 abbrev pub GivesAnItem : {U T A : Type 0} → (U → T → Type 0) → (T → Option A → T → Type 0) → U → Type 0
 GivesAnItem {U} {T} {A} becomes steps iterable =
     (it : T) × (first : A) × (rest : T) × becomes iterable it × steps it (Some first) rest
 
--- the property holds of all the items that what is iterated over gives
+-- the property holds of the list of all items that the iterable gives
 abbrev pub GivesAll : {U T A : Type 0} → (U → T → Type 0) → (T → Option A → T → Type 0) → U → (List A → Type 0) → Type 0
 GivesAll {U} {T} {A} becomes steps iterable holds =
     (it : T) × (items : List A) × becomes iterable it × Drains steps it items × holds items
 
--- some items were put in, and the one that came after them was refused
+-- memory ran out at some item, and exactly the items before it were put in
 abbrev pub RefusesAnItem : {U T A B : Type 0} → (U → T → Type 0) → (T → Option A → T → Type 0)
     → (B → List A → B → Type 0)
     → U → B → B → Type 0

@@ -2,10 +2,10 @@
 use Rattle.std.specs.Prelude.{◌+◌, ◌-◌, min, max}
 use Rattle.pm_span.specs.Extent.{Extent}
 
--- `open-span`: the first character of a group, or nothing where the group has none
+-- `open-span`: the span of a group's first character, which is empty if the group's span is empty
 abbrev pub opening_span : Extent → Extent
 opening_span span = record { lo = span.lo; hi = min (span.lo + 1) span.hi }
 
--- `close-span`: the last character of a group, or nothing where the group has none
+-- `close-span`: the span of a group's last character, which is empty if the group's span is empty
 abbrev pub closing_span : Extent → Extent
 closing_span span = record { lo = max (span.hi - 1) span.lo; hi = span.hi }

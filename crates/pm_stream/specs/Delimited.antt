@@ -3,20 +3,21 @@ use Rattle.std.specs.Prelude.{ℕ, Bool, true, false, ◌||◌, ◌==◌, List, 
 use Rattle.pm_token.specs.declared.delimiters.Delimiter.{Delimiter}
 use Rattle.pm_token.specs.declared.delimiters.Delimiter.TheVariants.{Parenthesis, Brace, Bracket, None}
 
--- what a group begins with
+-- the text that a group begins with, empty for a group without delimiters
 abbrev pub opening : Delimiter → List ℕ
 opening Parenthesis = codes "("
 opening Brace = codes "{"
 opening Bracket = codes "["
 opening None = []
 
--- what a group ends with
+-- the text that a group ends with, empty for a group without delimiters
 abbrev pub closing : Delimiter → List ℕ
 closing Parenthesis = codes ")"
 closing Brace = codes "}"
 closing Bracket = codes "]"
 closing None = []
 
+-- whether the delimiter is `Brace`
 abbrev pub is_brace : Delimiter → Bool
 is_brace Parenthesis = false
 is_brace Brace = true

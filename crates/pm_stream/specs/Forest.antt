@@ -1,20 +1,20 @@
--- What a stream is seen as: its trees, one after another.
+-- The value of a stream in contracts: its trees, one after another.
 use Rattle.std.specs.Prelude.{ℕ, ◌≤◌, List, [], ◌∷◌}
 use Rattle.lexical.specs.Token.{Token}
 use Rattle.pm_token.specs.declared.delimiters.Delimiter.{Delimiter}
 use Rattle.pm_token.specs.Built.{IsBuiltToken}
 use Rattle.pm_stream.specs.Events.{Event, One, Opens, Closes}
 
--- a leaf or a group, with the positions where it begins and ends, before the other trees
+-- a list of trees: no trees, or a token or a group and then the other trees
 pub data Forest : Type 0 where
   -- no trees
   nil : Forest
-  -- a token, with the positions where it begins and ends, before the other trees
+  -- a token, with the positions where it begins and ends, and then the other trees
   leaf : Token → ℕ → ℕ → Forest → Forest
-  -- a group, with the positions where it begins and ends and the trees inside, before the other trees
+  -- a group, with the positions where it begins and ends and the trees inside, and then the other trees
   group : Delimiter → ℕ → ℕ → Forest → Forest → Forest
 
--- the flattening, and then other events
+-- the flattening of the trees, and then other events
 abbrev pub flat_onto : Forest → List Event → List Event
 flat_onto nil events = events
 flat_onto (leaf token lo hi rest) events = One token lo hi ∷ flat_onto rest events
@@ -24,7 +24,7 @@ flat_onto (group d lo hi inside rest) events = Opens d lo ∷ flat_onto inside (
 abbrev pub flattening : Forest → List Event
 flattening forest = flat_onto forest []
 
--- the trees of one and then those of the other
+-- the trees of the first stream, and then those of the second
 abbrev pub joined : Forest → Forest → Forest
 joined nil more = more
 joined (leaf token lo hi rest) more = leaf token lo hi (joined rest more)

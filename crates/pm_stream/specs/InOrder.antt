@@ -9,19 +9,19 @@ use Rattle.pm_stream.specs.declared.stream.Group.{Group as Grouped}
 use Rattle.pm_stream.specs.declared.stream.TokenTree.{TokenTree}
 use Rattle.pm_stream.specs.declared.stream.TokenTree.TheVariants.{Group, Ident, Punct, Literal}
 
--- the spacing of a mark that is Joint, or isn't
+-- the spacing Joint if true, and otherwise Alone
 abbrev pub spacing_of : Bool → Spacing
 spacing_of true = Joint
 spacing_of false = Alone
 
--- the tree of a token and its span
+-- the tree of a token with this span
 abbrev pub token_tree : Token → ℕ → ℕ → TokenTree
 token_tree (tokens.Name raw name) lo hi = Ident (record { name = name; raw = raw; span = record { lo = lo; hi = hi } })
 token_tree (tokens.Mark c joint) lo hi =
     Punct (record { mark = c; spacing = spacing_of joint; span = record { lo = lo; hi = hi } })
 token_tree (tokens.Literal text) lo hi = Literal (record { text = text; span = record { lo = lo; hi = hi } })
 
--- the trees in reading order, each group before those inside it, and then others
+-- the trees of a stream, each group before the trees inside it, and then other trees
 abbrev pub in_order_onto : Forest → List TokenTree → List TokenTree
 in_order_onto nil more = more
 in_order_onto (leaf token lo hi rest) more = token_tree token lo hi ∷ in_order_onto rest more
@@ -29,7 +29,7 @@ in_order_onto (group d lo hi inside rest) more =
     Group (record { delimiter = d; stream = inside; span = record { lo = lo; hi = hi } })
     ∷ in_order_onto inside (in_order_onto rest more)
 
--- `reading-order`: the trees of a stream, each group before those inside it
+-- `reading-order`: the trees of a stream, each group before the trees inside it
 abbrev pub in_order : Forest → List TokenTree
 in_order stream = in_order_onto stream []
 

@@ -12,6 +12,7 @@ use Rattle.pm_stream.specs.declared.stream.TokenTree.TheVariants.{Group, Ident, 
 use Rattle.pm_stream.specs.declared.stream.TokenStream.TheDeep.{deep-TokenTree}
 use Rattle.pm_stream.specs.declared.stream.TokenStream.TheShapes.{weighed-TokenStream-trees}
 
+-- a stream counts at least as many trees as its first tree and the trees after it do
 pub deep_le-before : (t : TokenTree) (f : Forest) → max (deep-TokenTree t) (count f) ≤ count (before t f)
 deep_le-before (Group g) f = omega arith
 deep_le-before (Ident i) f = omega arith
@@ -22,7 +23,7 @@ most_le-count : (ts : List TokenTree) → most deep-TokenTree ts ≤ count (fore
 most_le-count [] = omega arith
 most_le-count (t ∷ ts) = omega (arith, deep_le-before t (forest ts), most_le-count ts)
 
--- the law of the model's size
+-- what `size_decreases` requires: a stream counts at least as many trees as the trees in its list do
 pub deep_le-held : (o : Option (Rc (Vec TokenTree Global) Global))
     → max (weighed-TokenStream-trees.weight TokenTree deep-TokenTree o) 0 ≤ count (held o)
 deep_le-held None = omega arith

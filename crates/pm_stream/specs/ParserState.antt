@@ -8,7 +8,7 @@ use Rattle.pm_stream.specs.Taken.{Taken, position}
 use Rattle.pm_stream.specs.declared.parse.Frame.{Frame}
 use Rattle.pm_stream.specs.declared.parse.Parser.{Parser}
 
--- the one list holds the trees of all open groups, which are built and have these events
+-- the parser's list holds the trees of all open groups. They are built, and their events are those that were taken
 pub record Parses (parser : Parser) (taken : Taken Frame) : Type 0 where
   pub nested : IsNested taken.opened (length parser.trees.items)
   pub events : unclosed_onto (opened taken.opened parser.trees.items)
@@ -16,7 +16,7 @@ pub record Parses (parser : Parser) (taken : Taken Frame) : Type 0 where
   pub built : IsBuiltUpTo (position taken) (opened taken.opened parser.trees.items)
       (forest (innermost taken.opened parser.trees.items))
 
--- the step put in trees of these events
+-- the step added trees with these events
 abbrev pub Adds : Parser → Parser → List Event → Type 0
 Adds old new more = (taken : Taken Frame) → Parses old taken → Parses new (record {
   base = taken.base;

@@ -1,4 +1,4 @@
--- What a source parses to, and where its fault stands. Positions count from base on, where the source begins.
+-- What a source parses to, and the position of its fault. Positions count characters; the source begins at `base`.
 use Rattle.std.specs.Prelude.{ℕ, Bool, true, false, ◌+◌, ◌≡◌, ◌≢◌, ◌⊎◌, List, [], ◌∷◌, ◌++◌, length}
 use Rattle.lexical.specs.Piece.{Piece, Close, IsPiece, HasNoPiece}
 use Rattle.lexical.specs.Cover.{CoversUpTo, IsCover, width}
@@ -13,12 +13,12 @@ pub record ParsesTo (base : ℕ) (source : List ℕ) (stream : Forest) : Type 0 
   pub covers : IsCover pieces source
   pub expands : flattening stream ≡ expansion base pieces
 
--- no piece stands before any other
+-- whether there are no pieces yet, so that the next one is the first
 abbrev pub is_first : List Piece → Bool
 is_first [] = true
 is_first (piece ∷ pieces) = false
 
--- a closer stands at the front of the text, after which the events can't go on
+-- the text begins with a closer, and with that closer the events can't go on
 pub record HasStrayCloser (first : Bool) (position : ℕ) (events : List Event) (text : List ℕ) : Type 0 where
   pub character : ℕ
   pub front : List ℕ
@@ -27,7 +27,7 @@ pub record HasStrayCloser (first : Bool) (position : ℕ) (events : List Event) 
   pub stands : IsPiece first (Close character) front rest
   pub stray : CanGoOn (events ++ (Closes (delimiter_of character) (position + length front) ∷ [])) → ⊥
 
--- pieces cover the source up to the position and can go on, and there stands no piece or a stray closer
+-- pieces that can go on cover the source up to the position, where no piece begins or a stray closer does
 pub record StopsAt (base : ℕ) (source : List ℕ) (position : ℕ) : Type 0 where
   pub pieces : List Piece
   pub rest : List ℕ

@@ -1,4 +1,4 @@
--- What was placed so far, while groups are open.
+-- What was placed so far, in the middle of a text.
 use Rattle.std.specs.Prelude.{ℕ, ◌≡◌, ◌≤◌, Bool, true, false, List, [], ◌∷◌, ◌++◌, length}
 use Rattle.pm_stream.specs.Forest.{Forest}
 use Rattle.pm_stream.specs.OpenGroups.{Opened, unclosed_onto}
@@ -10,17 +10,17 @@ use Rattle.pm_stream.specs.declared.placing.TreeKind.TheVariants as kinds
 use Rattle.pm_stream.specs.declared.placing.OpenGroup.{OpenGroup}
 use Rattle.pm_stream.specs.declared.placing.Placer.{Placer}
 
--- a group that begins at a position and isn't closed
+-- a group that is still open: its end equals its start
 abbrev pub opener : (ℕ → Place) → ℕ → PlacedTree
 opener place lo = record { start = place lo; end = place lo; kind = kinds.Group }
 
--- the trees of the open groups, the innermost of them first, and its trees
+-- the open groups, the innermost given first, each after the trees before it, and then the innermost group's trees
 abbrev pub listed_open : (ℕ → Place) → List Opened → Forest → List PlacedTree
 listed_open place [] trees = listed place trees
 listed_open place (group ∷ groups) trees =
     listed_open place groups group.outer ++ (opener place group.lo ∷ listed place trees)
 
--- the open groups without their trees
+-- what the placer keeps of each open group, the innermost first
 abbrev pub open_groups : (ℕ → Place) → List Opened → List OpenGroup
 open_groups place [] = []
 open_groups place (group ∷ groups) =
@@ -32,11 +32,11 @@ open_groups place (group ∷ groups) =
     }
     ∷ open_groups place groups
 
--- where a text begins
+-- the line and column where a text begins
 abbrev pub origin : Place
 origin = record { line = 1; column = 0 }
 
--- what was placed is the trees and the open groups of these events, which need not be there
+-- the placer's list has the trees and the open groups of the events taken. The program does not build these trees
 pub record Places (placer : Placer) (taken : Taken OpenGroup) : Type 0 where
   pub begins : 1 ≤ taken.base
   pub groups : List Opened
@@ -46,7 +46,7 @@ pub record Places (placer : Placer) (taken : Taken OpenGroup) : Type 0 where
   pub around : taken.opened ≡ open_groups (place_of taken.base taken.source) groups
   pub lists : placer.trees.items ≡ listed_open (place_of taken.base taken.source) groups trees
 
--- the group of a doc comment's text
+-- the group of a doc comment's text, and the trees inside it
 abbrev pub doc_group_places : Place → Place → List PlacedTree
 doc_group_places start end =
     record { start = start; end = end; kind = kinds.Group }
@@ -55,7 +55,7 @@ doc_group_places start end =
     ∷ record { start = start; end = end; kind = kinds.Literal }
     ∷ []
 
--- its tokens
+-- the trees of a doc comment, with a `!` if it is inner
 abbrev pub doc_places : Bool → Place → Place → List PlacedTree
 doc_places true start end =
     record { start = start; end = end; kind = kinds.Punct }

@@ -1,4 +1,4 @@
--- Where the trees of a text stand, by line and column.
+-- Where the trees of a text begin and end, by line and column.
 use Rattle.std.specs.Prelude.{ℕ, ◌≡◌, ◌+◌, ◌-◌, List, [], ◌∷◌, map, if◌then◌else◌}
 use Rattle.pm_span.specs.CharOffset.{is_line_feed, line, column}
 use Rattle.pm_stream.specs.Forest.{Forest}
@@ -12,21 +12,21 @@ use Rattle.pm_stream.specs.declared.placing.PlacedTree.{PlacedTree}
 use Rattle.pm_stream.specs.declared.placing.TreeKind.{TreeKind}
 use Rattle.pm_stream.specs.declared.placing.TreeKind.TheVariants as kinds
 
--- `line`, `column`: those of an offset
+-- `line`, `column`: the line and column of an offset, in characters
 abbrev pub place_at : List ℕ → ℕ → Place
 place_at text k = record { line = line text k; column = column text k }
 
--- those of a position of a text that begins at base
+-- the line and column of a position, in a text that begins at base
 abbrev pub place_of : ℕ → List ℕ → ℕ → Place
 place_of base source position = place_at source (position - base)
 
--- the place after a character that stands at this one
+-- the line and column after a character at this one
 abbrev pub next_place : Place → ℕ → Place
 next_place place c =
     if is_line_feed c then record { line = place.line + 1; column = 0 }
     else record { line = place.line; column = place.column + 1 }
 
--- the place after a text that begins at this one
+-- the line and column after a text that begins at this one
 abbrev pub moved_past : Place → List ℕ → Place
 moved_past place [] = place
 moved_past place (c ∷ text) = moved_past (next_place place c) text
@@ -38,16 +38,16 @@ tree_kind (trees.Ident i) = kinds.Ident
 tree_kind (trees.Punct p) = kinds.Punct
 tree_kind (trees.Literal l) = kinds.Literal
 
--- a tree with the places of the positions where it begins and ends
+-- where a tree begins and ends, by line and column, and its kind
 abbrev pub placed : (ℕ → Place) → TokenTree → PlacedTree
 placed place tree =
     record { start = place (extent_of tree).lo; end = place (extent_of tree).hi; kind = tree_kind tree }
 
--- the trees of a stream in reading order
+-- where the trees of a stream begin and end, in reading order
 abbrev pub listed : (ℕ → Place) → Forest → List PlacedTree
 listed place trees = map (placed place) (in_order trees)
 
--- the trees, with their places, are those of the stream that the source parses to
+-- the list says where each tree begins and ends, for the stream that the source parses to
 pub record ArePlaced (base : ℕ) (source : List ℕ) (trees : List PlacedTree) : Type 0 where
   pub stream : Forest
   pub parses : ParsesTo base source stream

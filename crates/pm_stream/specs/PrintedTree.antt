@@ -1,4 +1,4 @@
--- What is printed of one tree.
+-- The printed text of one tree.
 use Rattle.std.specs.Prelude.{ℕ, Bool, true, List, ◌++◌}
 use Rattle.lexical.specs.Token.{token_text}
 use Rattle.pm_token.specs.declared.delimiters.Delimiter.{Delimiter}
@@ -11,25 +11,25 @@ use Rattle.pm_stream.specs.declared.stream.Group.{Group as Grouped}
 use Rattle.pm_stream.specs.declared.stream.TokenTree.{TokenTree}
 use Rattle.pm_stream.specs.declared.stream.TokenTree.TheVariants.{Group, Ident, Punct, Literal}
 
--- a group with its delimiters
+-- the printed text of a group, with its delimiters
 abbrev pub group_text : Grouped → List ℕ
 group_text g = printed (alone (Group g))
 
--- a token, or what a group begins with
+-- the printed text of a token, or the opener of a group
 abbrev pub front_text : TokenTree → List ℕ
 front_text (Group g) = opening g.delimiter
 front_text (Ident i) = token_text (name_token i)
 front_text (Punct p) = token_text (mark_token p)
 front_text (Literal l) = token_text (text_token l)
 
--- a space goes before what is printed next, within a group or after a token
+-- whether a space goes before what is printed next: the first tree inside a group, or the tree after a token
 abbrev pub gap_within : TokenTree → Bool
 gap_within (Group g) = is_brace g.delimiter
 gap_within (Ident i) = parts (name_token i)
 gap_within (Punct p) = parts (mark_token p)
 gap_within (Literal l) = parts (text_token l)
 
--- what a group ends with, and in a Brace the space before it
+-- the closer of a group, with a space before `}`
 abbrev pub ending : Delimiter → List ℕ
 ending d = space (is_brace d) ++ closing d
 
@@ -39,7 +39,7 @@ step_text gap (Enter g after) = space gap ++ opening g.delimiter
 step_text gap (Leave g after) = ending g.delimiter
 step_text gap (Token tree after) = space gap ++ front_text tree
 
--- a space goes before what is printed after the step
+-- whether a space goes before what is printed after the step
 abbrev pub gap_after_step : Step → Bool
 gap_after_step (Enter g after) = is_brace g.delimiter
 gap_after_step (Leave g after) = true

@@ -1,4 +1,4 @@
--- What the loop over pieces has read so far, and all that it reads.
+-- What the loop over pieces has read so far, and what it has read at the end of the text.
 use Rattle.std.specs.Prelude.{ℕ, Bool, ◌≡◌, ◌+◌, List, [], ◌∷◌, ◌++◌, length, reverse, map}
 use Rattle.lexical.specs.Cover.{CoversUpTo, width}
 use Rattle.lexical.specs.Found.{kind_of}
@@ -10,7 +10,8 @@ use Rattle.pm_stream.specs.Parsing.{ParsesTo, is_first}
 use Rattle.pm_stream.specs.Taken.{IsTakenTo, Taken, Waiting}
 use Rattle.pm_stream.specs.declared.reading.Lexed.{Lexed}
 
--- what was read has the expansion of pieces up to the rest of the source; `first` says that there are none
+-- pieces cover the source up to the rest, with the events of these open groups and trees. `first` says whether there
+-- are no pieces
 pub record Reads (base : ℕ) (source rest : List ℕ) (at : ℕ) (first : Bool) (groups : List Opened)
     (trees : Forest) : Type 0 where
   pub pieces : List Piece
@@ -19,12 +20,12 @@ pub record Reads (base : ℕ) (source rest : List ℕ) (at : ℕ) (first : Bool)
   pub position : at ≡ base + width pieces
   pub expands : unclosed_onto groups trees [] ≡ expansion base pieces
 
--- the openers of groups
+-- the delimiter of each group, and the position of its opener
 abbrev pub openers_of : List Opened → List Waiting
 openers_of [] = []
 openers_of (x ∷ groups) = (x.delimiter, x.lo) ∷ openers_of groups
 
--- the sink took the events of these open groups and trees, which need not be there
+-- the sink has taken the events of these open groups and trees, which the program need not build
 pub record Reading {S T : Type 0} (opens : T → Waiting) (took : S → Taken T → Type 0) (base : ℕ)
     (source passed : List ℕ) (sink : S) (stack : List T) (groups : List Opened) (trees : Forest) : Type 0 where
   pub around : map opens (reverse stack) ≡ openers_of groups
@@ -36,7 +37,7 @@ pub record Reading {S T : Type 0} (opens : T → Waiting) (took : S → Taken T 
     events = unclosed_onto groups trees [];
   })
 
--- of these and then more
+-- the sink has taken the events of these open groups and trees, and then more events
 pub record ReadsMore {S T : Type 0} (opens : T → Waiting) (took : S → Taken T → Type 0) (base : ℕ)
     (source passed : List ℕ) (sink : S) (stack : List T) (groups : List Opened) (trees : Forest)
     (events : List Event) : Type 0 where
@@ -45,7 +46,7 @@ pub record ReadsMore {S T : Type 0} (opens : T → Waiting) (took : S → Taken 
   pub reads : Reading opens took base source passed sink stack groups_now trees_now
   pub grows : unclosed_onto groups_now trees_now [] ≡ unclosed_onto groups trees events
 
--- what stands before the piece was read
+-- everything before the piece was read
 pub record CanRead {S T : Type 0} (opens : T → Waiting) (took : S → Taken T → Type 0) (sink : S) (stack : List T)
     (lexed : Lexed) : Type 0 where
   pub to : IsTakenTo took sink lexed
@@ -63,7 +64,7 @@ HasRead opens took old new stack stack' lexed =
     (can.to.before.passed ++ can.to.is.found.front) new stack' can.groups can.trees
     (events_onto lexed.at (kind_of lexed.piece.kind can.to.is.found.front) can.to.is.found.front [])
 
--- what was read up to the rest of the source, and what the sink took of it
+-- the source was read up to the rest, and the sink has taken its events up to there
 pub record ReadsTo {S T : Type 0} (opens : T → Waiting) (took : S → Taken T → Type 0) (base : ℕ)
     (source rest : List ℕ) (at : ℕ) (first : Bool) (sink : S) (stack : List T) : Type 0 where
   pub groups : List Opened
@@ -74,7 +75,7 @@ pub record ReadsTo {S T : Type 0} (opens : T → Waiting) (took : S → Taken T 
   pub takes : Reading opens took base source passed sink stack groups trees
   pub reads : Reads base source rest at first groups trees
 
--- the sink took the events of the stream that the source parses to
+-- the sink has taken all events of the stream that the source parses to
 pub record ReadsAll {S : Type 0} {T : Type 0} (took : S → Taken T → Type 0) (base : ℕ) (source : List ℕ)
     (sink : S) : Type 0 where
   pub stream : Forest

@@ -1,4 +1,4 @@
--- The rule of the printer, as it reads in words.
+-- The rule of the printer, by cases.
 use Rattle.std.specs.Prelude.{ℕ, Bool, true, List, [], ◌++◌, codes, if◌then◌else◌}
 use Rattle.lexical.specs.Token.{token_text}
 use Rattle.pm_token.specs.declared.delimiters.Delimiter.{Delimiter}
@@ -11,14 +11,14 @@ use Rattle.pm_stream.specs.Size.{is_nil}
 abbrev pub separator : Bool → Forest → List ℕ
 separator parting rest = if is_nil rest then [] else (if parting then codes " " else [])
 
--- a group around the text of its stream, which may be empty
+-- the text of a group, from the text of its stream and whether that stream is empty
 abbrev pub enclosed : Delimiter → Bool → List ℕ → List ℕ
 enclosed Parenthesis empty text = codes "(" ++ (text ++ codes ")")
 enclosed Brace empty text = if empty then codes "{ }" else (codes "{ " ++ (text ++ codes " }"))
 enclosed Bracket empty text = codes "[" ++ (text ++ codes "]")
 enclosed None empty text = text
 
--- what the trees print, one after another
+-- the text of the trees, one after another
 abbrev pub ruled : Forest → List ℕ
 ruled nil = []
 ruled (leaf token lo hi rest) = token_text token ++ (separator (parts token) rest ++ ruled rest)

@@ -1,9 +1,9 @@
--- Which groups one can read in a printed text.
+-- Which groups are visible in a printed text.
 use Rattle.std.specs.Prelude.{Bool, true, false}
 use Rattle.pm_token.specs.declared.delimiters.Delimiter.{Delimiter}
 use Rattle.pm_token.specs.declared.delimiters.Delimiter.TheVariants.{Parenthesis, Brace, Bracket, None}
 
--- whether a group with the delimiter shows where it begins and ends
+-- whether the printed text shows where a group with this delimiter begins and ends
 abbrev pub is_shown : Delimiter → Bool
 is_shown Parenthesis = true
 is_shown Brace = true

@@ -8,7 +8,7 @@ is_nil nil = true
 is_nil (leaf token lo hi rest) = false
 is_nil (group d lo hi inside rest) = false
 
--- how many trees there are, with those inside of groups
+-- the number of trees, including those inside groups
 abbrev pub count : Forest → ℕ
 count nil = 0
 count (leaf token lo hi rest) = 1 + count rest

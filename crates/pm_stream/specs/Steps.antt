@@ -1,4 +1,4 @@
--- The steps of a traversal, which goes into each group and out of it again.
+-- The steps of a traversal, which enters and leaves each group.
 use Rattle.std.specs.Prelude.{◌≡◌, ◌⊎◌, refl, ℕ, List, [], ◌∷◌, length, Option, Some, None}
 use Rattle.std.specs.Coded.{Coded, code_by, coded×, coded⊎}
 use mathlib.Core.Logic.{inl, inr}
@@ -14,16 +14,16 @@ use Rattle.pm_stream.specs.declared.stream.Group.{Group as Grouped}
 use Rattle.pm_stream.specs.declared.stream.TokenTree.{TokenTree}
 use Rattle.pm_stream.specs.declared.stream.TokenTree.TheVariants.{Group}
 
--- into a group, out of it again, or past a token, with the trees that follow in the same list
+-- a step, with the trees that follow in the same list
 pub data Step : Type 0 where
-  -- into this group; the other trees are those that follow it
+  -- enters this group; the trees are those that follow it
   Enter : Grouped → Forest → Step
-  -- out of this group; the other trees are those that follow it
+  -- leaves this group; the trees are those that follow it
   Leave : Grouped → Forest → Step
-  -- past this token; the other trees are those that follow it
+  -- visits this token; the trees are those that follow it
   Token : TokenTree → Forest → Step
 
--- the step that the walk gave
+-- the value in contracts of a step that the traversal gave
 abbrev pub step_of : Given → Step
 step_of (given.Enter g after) = Enter g.now (forest after.now)
 step_of (given.Leave g after) = Leave g.now (forest after.now)
@@ -41,33 +41,33 @@ steps_onto (group d lo hi inside rest) more =
 abbrev pub steps : Forest → List Step
 steps stream = steps_onto stream []
 
--- the first of the steps goes into a group
+-- the first of the steps enters a group
 abbrev pub EntersNext : List Step → Type 0
 EntersNext steps = (g : Grouped) × (after : Forest) × (rest : List Step) × (steps ≡ Enter g after ∷ rest)
 
--- a step is followed by those over its siblings; one into a group first by those over its trees, and out of it. A token
--- has no trees inside
+-- the steps that follow a step: those over the trees after it. After `Enter` those over the group's trees come first,
+-- and then its `Leave`. A token has no trees inside
 abbrev pub FollowedBy : Step → List Step → Type 0
 FollowedBy (Enter g after) new =
     (later : List Step) × (new ≡ steps_onto g.stream (Leave g after ∷ steps_onto after later))
 FollowedBy (Leave g after) new = (later : List Step) × (new ≡ steps_onto after later)
 FollowedBy (Token tree after) new = (later : List Step) × (new ≡ steps_onto after later) × (inside tree ≡ nil)
 
--- the trees that the steps come to, each group before those inside it
+-- the trees that the steps enter or visit, each group before the trees inside it
 abbrev pub trees_given : List Step → List TokenTree
 trees_given [] = []
 trees_given (Enter g after ∷ steps) = Group g ∷ trees_given steps
 trees_given (Leave g after ∷ steps) = trees_given steps
 trees_given (Token tree after ∷ steps) = tree ∷ trees_given steps
 
--- the tree that the first of the steps comes to
+-- the tree that the first of the steps enters or visits, if it does
 abbrev pub front_tree : List Step → Option TokenTree
 front_tree [] = None
 front_tree (Enter g after ∷ steps) = Some (Group g)
 front_tree (Leave g after ∷ steps) = None
 front_tree (Token tree after ∷ steps) = Some tree
 
--- as many trees as these were passed over, where they come next
+-- the next `count` trees were skipped, each with the trees inside it
 abbrev pub PassesTrees : ℕ → List Step → List Step → Type 0
 PassesTrees count old new =
     (passed rest : List TokenTree) → length passed ≡ count → trees_given old ≡ in_order_onto (forest passed) rest
@@ -75,24 +75,29 @@ PassesTrees count old new =
 
 -- ---- how a step is stored
 
+-- the parts of a step: a group or a token, and the trees after it
 abbrev Parts : Type 0
 Parts = (Grouped × Forest) ⊎ ((Grouped × Forest) ⊎ (TokenTree × Forest))
 
+-- the parts of this step
 abbrev parts_of : Step → Parts
 parts_of (Enter g after) = inl (g, after)
 parts_of (Leave g after) = inr (inl (g, after))
 parts_of (Token tree after) = inr (inr (tree, after))
 
+-- the step that has these parts
 abbrev of_parts : Parts → Step
 of_parts (inl p) = Enter p.0 p.1
 of_parts (inr (inl p)) = Leave p.0 p.1
 of_parts (inr (inr p)) = Token p.0 p.1
 
+-- a step is determined by its parts
 pub of_parts-parts_of : (step : Step) → of_parts (parts_of step) ≡ step
 of_parts-parts_of (Enter g after) = refl
 of_parts-parts_of (Leave g after) = refl
 of_parts-parts_of (Token tree after) = refl
 
+-- the code of steps, with the proof that it tells any two apart
 abbrev pub coded_step : Coded Step
 coded_step =
     code_by Parts

@@ -1,4 +1,4 @@
--- What a sink has taken of a text so far, and what its calls ask for and promise.
+-- What a sink has taken of a text so far, and what its calls require and guarantee.
 use Rattle.std.specs.Prelude.{ℕ, Bool, ◌≡◌, ◌⊎◌, ◌+◌, ◌<◌, ◌^◌, List, [], ◌∷◌, ◌++◌, length}
 use Rattle.std.specs.Str.{chars, IsUtf8}
 use Rattle.lexical.specs.Found.{IsPieceAt, kind_of}
@@ -10,11 +10,11 @@ use Rattle.pm_stream.specs.Delimited.{closing, opening}
 use Rattle.pm_stream.specs.Events.{Closes, Event, Opens, events_onto}
 use Rattle.pm_stream.specs.declared.reading.Lexed.{Lexed}
 
--- a delimiter and the position of its opener
+-- an open group: its delimiter and the position of its opener
 abbrev pub Waiting : Type 0
 Waiting = Delimiter × ℕ
 
--- the position where the source begins, the source, the characters of it that were read, the open groups, the
+-- what was read of a source: the position where it begins, its characters, those that were read, the open groups, the
 -- innermost first, and the events of all tokens that were read
 pub record Taken (T : Type 0) : Type 0 where
   pub base : ℕ
@@ -23,15 +23,15 @@ pub record Taken (T : Type 0) : Type 0 where
   pub opened : List T
   pub events : List Event
 
--- nothing yet, of a source that begins at this position
+-- nothing was read yet, of a source that begins at this position
 abbrev pub nothing : {T : Type 0} → ℕ → List ℕ → Taken T
 nothing base source = record { base = base; source = source; passed = []; opened = []; events = [] }
 
--- up to where it is read
+-- the position up to which the source was read
 abbrev pub position : {T : Type 0} → Taken T → ℕ
 position taken = taken.base + length taken.passed
 
--- past a front, with these groups open and these events more
+-- what was read after these further characters, with these groups open and these further events
 abbrev pub past : {T : Type 0} → Taken T → List ℕ → List T → List Event → Taken T
 past taken front opened events = record {
   base = taken.base;
@@ -41,14 +41,14 @@ past taken front opened events = record {
   events = taken.events ++ events;
 }
 
--- the piece stands at the front of the text, and after it there is room for positions
+-- the text begins with the piece, and the position after it is less than 2^32
 pub record IsLexed (lexed : Lexed) : Type 0 where
   pub first : Bool
   pub found : IsPieceAt first (chars lexed.text.now) lexed.piece
   pub utf8 : IsUtf8 lexed.text.now
   pub room : lexed.at + lexed.piece.chars < 2 ^ 32
 
--- the sink has taken what stands before the piece
+-- the sink has taken everything before the piece
 pub record IsTakenTo {S T : Type 0} (took : S → Taken T → Type 0) (sink : S) (lexed : Lexed) : Type 0 where
   pub is : IsLexed lexed
   pub before : Taken T
@@ -56,11 +56,11 @@ pub record IsTakenTo {S T : Type 0} (took : S → Taken T → Type 0) (sink : S)
   pub at : lexed.at ≡ position before
   pub source : before.source ≡ before.passed ++ chars lexed.text.now
 
--- the sink has taken what stands before the piece, which is of this kind
+-- the sink has taken everything before the piece, which is of this kind
 abbrev pub CanTake : {S T : Type 0} → (S → Taken T → Type 0) → S → Lexed → PieceKind → Type 0
 CanTake took sink lexed kind = IsTakenTo took sink lexed × (lexed.piece.kind ≡ kind)
 
--- the sink has taken what stands before the piece, which is no token
+-- the sink has taken everything before the piece, which is no token
 abbrev pub CanSkip : {S T : Type 0} → (S → Taken T → Type 0) → S → Lexed → Type 0
 CanSkip took sink lexed =
     IsTakenTo took sink lexed × ((lexed.piece.kind ≡ kinds.FrontMark) ⊎ (lexed.piece.kind ≡ kinds.Gap))
@@ -71,7 +71,7 @@ HasTaken took old new lexed kind =
     (to : IsTakenTo took old lexed) → took new (past to.before to.is.found.front to.before.opened
     (events_onto lexed.at (kind_of kind to.is.found.front) to.is.found.front []))
 
--- the sink has taken what stands before the text, which begins with exactly so many white characters of ASCII
+-- the sink has taken everything before the text, which begins with exactly `size` ASCII white characters
 pub record CanPass {S T : Type 0} (took : S → Taken T → Type 0) (sink : S) (text : List ℕ) (size : ℕ) : Type 0 where
   pub rest : List ℕ
   pub white : IsPastWhite text rest size
@@ -80,12 +80,12 @@ pub record CanPass {S T : Type 0} (took : S → Taken T → Type 0) (sink : S) (
   pub source : before.source ≡ before.passed ++ text
   pub room : position before + size < 2 ^ 32
 
--- the step passed the white characters at the front of the text
+-- the step skipped the ASCII white characters at the start of the text
 abbrev pub HasPassed : {S T : Type 0} → (S → Taken T → Type 0) → S → S → List ℕ → ℕ → Type 0
 HasPassed took old new text size =
     (can : CanPass took old text size) → took new (past can.before can.white.front can.before.opened [])
 
--- the sink has taken what stands before the piece, which is an opener of one character
+-- the sink has taken everything before the piece, which is an opener of one character
 pub record CanOpen {S T : Type 0} (took : S → Taken T → Type 0) (sink : S) (lexed : Lexed)
     (delimiter : Delimiter) : Type 0 where
   pub to : IsTakenTo took sink lexed
@@ -99,7 +99,7 @@ HasOpened opens took old new lexed delimiter group =
     × ((can : CanOpen took old lexed delimiter) → took new (past can.to.before can.to.is.found.front
     (group ∷ can.to.before.opened) (Opens delimiter lexed.at ∷ [])))
 
--- the sink has taken what stands before the piece, which is the closer of the innermost open group, of one character
+-- the sink has taken everything before the piece, which is the closer, of one character, of the innermost open group
 pub record CanClose {S T : Type 0} (opens : T → Waiting) (took : S → Taken T → Type 0) (sink : S) (lexed : Lexed)
     (delimiter : Delimiter) (group : T) : Type 0 where
   pub to : IsTakenTo took sink lexed

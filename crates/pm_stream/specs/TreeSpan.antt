@@ -1,4 +1,4 @@
--- Where a tree stands.
+-- The span of a tree.
 use Rattle.pm_span.specs.Extent.{Extent}
 use Rattle.pm_stream.specs.declared.stream.TokenTree.{TokenTree}
 use Rattle.pm_stream.specs.declared.stream.TokenTree.TheVariants.{Group, Ident, Punct, Literal}
@@ -10,7 +10,7 @@ extent_of (Ident i) = i.span
 extent_of (Punct p) = p.span
 extent_of (Literal l) = l.span
 
--- the tree with this span, and nothing else changed: what is in a group keeps its spans
+-- the tree with this span; the trees in a group keep their spans
 abbrev pub with_span : TokenTree → Extent → TokenTree
 with_span (Group g) span = Group (record g { span = span })
 with_span (Ident i) span = Ident (record i { span = span })

@@ -1,4 +1,4 @@
--- What trees and lists of trees are seen as.
+-- The values of trees and of lists of trees in contracts.
 use Rattle.std.specs.Prelude.{◌≡◌, List, [], ◌∷◌, Option, Some, None, Vec}
 use Rattle.std.specs.declared.alloc.Global.{Global}
 use Rattle.std.specs.declared.rc.Rc.{Rc}
@@ -9,7 +9,7 @@ use Rattle.pm_stream.specs.declared.stream.Group.{Group as Grouped}
 use Rattle.pm_stream.specs.declared.stream.TokenTree.{TokenTree}
 use Rattle.pm_stream.specs.declared.stream.TokenTree.TheVariants.{Group, Ident, Punct, Literal}
 
--- one tree before others
+-- this tree, and then the others
 abbrev pub before : TokenTree → Forest → Forest
 before (Group g) rest = group g.delimiter g.span.lo g.span.hi g.stream rest
 before (Ident i) rest = leaf (name_token i) i.span.lo i.span.hi rest
@@ -25,26 +25,26 @@ forest (tree ∷ trees) = before tree (forest trees)
 abbrev pub alone : TokenTree → Forest
 alone tree = before tree nil
 
--- the tree may be put into a stream: a literal that has no `-` before it, or any other tree
+-- the tree may be put into a stream as it is: any tree but a literal with a `-` before it
 abbrev pub GoesInside : TokenTree → Type 0
 GoesInside (Group g) = Unit {0}
 GoesInside (Ident i) = Unit {0}
 GoesInside (Punct p) = Unit {0}
 GoesInside (Literal l) = IsLiteralToken l.text
 
--- the trees within a group, and none of a token
+-- the trees inside a group; a token has none
 abbrev pub inside : TokenTree → Forest
 inside (Group g) = g.stream
 inside (Ident i) = nil
 inside (Punct p) = nil
 inside (Literal l) = nil
 
--- the trees that a stream holds, which may be shared: nothing is held by an empty stream
+-- the trees that a stream holds, which other streams may share. A stream without a list is empty
 abbrev pub held : Option (Rc (Vec TokenTree Global) Global) → Forest
 held None = nil
 held (Some shared) = forest shared.value.items
 
--- the last group is taken away with the trees after it, or the last trees are
+-- the last group was removed, with the trees after it; or no group is returned, and only trees at the end were removed
 abbrev pub TakesGroup : Forest → Option Grouped → Forest → Type 0
 TakesGroup old None new = (rest : Forest) × old ≡ joined new rest
 TakesGroup old (Some g) new = (rest : Forest) × old ≡ joined new (before (Group g) rest)

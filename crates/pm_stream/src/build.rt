@@ -1,4 +1,4 @@
-//! Building and changing streams.
+//! Calls that build and change streams.
 ghost use Rattle.std.specs.Prelude.{◌≡◌, IfErr, IfOk, OnErr};
 ghost use Rattle.std.specs.Iterator.{ExtendsWithItems, IsFiniteIterable};
 ghost use Rattle.pm_stream.specs.Building.{GivesAll, GivesAnItem, PutsIn, RefusesAnItem, gathered, split};
@@ -14,10 +14,10 @@ impl TokenStream {
     ghost use Rattle.pm_stream.specs.declared.stream.TokenTree.TheVariants.{Group as GroupTree, Ident as IdentTree};
     ghost use Rattle.pm_stream.specs.declared.stream.TokenTree.TheVariants.{Punct as PunctTree, Literal as LiteralTree};
 
-    /// The stream of this tree, by the rule `split`. Fails where memory runs out.
+    /// Returns the stream of this tree, by the rule `split`. Fails if memory runs out.
     ///
-    /// The literal `-3i32` gives two trees, the mark `-` Alone and the literal `3i32`, both with the
-    /// span of that literal. Any other tree gives itself.
+    /// A negative literal gives two trees: `-3i32` gives the mark `-` Alone and the literal `3i32`, both with the span
+    /// of `-3i32`. Any other tree gives itself.
     pub fn from_tree(alloc: Global, tree: TokenTree) -> Result<TokenStream, AllocError>
         ensures ok { IfOk result (λ stream. stream ≡ split tree) }
     {
@@ -26,8 +26,8 @@ impl TokenStream {
         Ok(stream)
     }
 
-    /// The stream of these trees, in order, each by the rule `split`. Fails where memory runs out,
-    /// which it doesn't for no trees.
+    /// Returns the stream of these trees, in order, each by the rule `split`. Fails if memory runs out. Without trees
+    /// it never fails.
     pub fn from_trees<I: IntoIterator<Item = TokenTree>>(
         alloc: Global,
         trees: I,
@@ -42,10 +42,10 @@ impl TokenStream {
         Ok(stream)
     }
 
-    /// The stream of the trees of these streams, one stream after another. Fails where memory runs
-    /// out, which it doesn't for no streams.
+    /// Returns the stream of the trees of these streams, one stream after another. Fails if memory runs out. Without
+    /// streams it never fails.
     ///
-    /// The trees of a stream that shares them with no other are moved, not copied.
+    /// Trees that no other stream shares are moved, not copied.
     pub fn from_streams<I: IntoIterator<Item = TokenStream>>(
         alloc: Global,
         streams: I,
@@ -60,11 +60,10 @@ impl TokenStream {
         Ok(stream)
     }
 
-    /// Puts these trees after its own, in order, each by the rule `split`.
+    /// Appends these trees to the stream, in order, each by the rule `split`.
     ///
-    /// Where memory runs out the trees before that which found none stay, both halves of a negative
-    /// literal or none. It doesn't run out for no trees. Other streams that share the trees keep
-    /// what they had.
+    /// If memory runs out, the stream keeps the trees that were appended before. Of a negative literal, both trees are
+    /// appended or neither. Without trees the call never fails. Other streams that share the old trees do not change.
     #[tactic(auto, using(crate::proofs::BuildingLemmas::joined_nil, crate::proofs::BuildingLemmas::puts_more))]
     pub fn extend_trees<I: IntoIterator<Item = TokenTree>>(
         &mut self,
@@ -83,10 +82,10 @@ impl TokenStream {
         Ok(())
     }
 
-    /// Puts the trees of these streams after its own, one stream after another.
+    /// Appends the trees of these streams, one stream after another.
     ///
-    /// Where memory runs out the streams before that which found none stay whole, and no tree of that
-    /// one. The trees of a stream that shares them with no other are moved, not copied.
+    /// If memory runs out, the streams that were appended before remain, and no tree of the next stream is appended.
+    /// Trees that no other stream shares are moved, not copied.
     #[tactic(auto, using(crate::proofs::BuildingLemmas::joined_nil, crate::proofs::BuildingLemmas::puts_more))]
     pub fn extend_streams<I: IntoIterator<Item = TokenStream>>(
         &mut self,
@@ -105,7 +104,7 @@ impl TokenStream {
         Ok(())
     }
 
-    /// Puts these groups after its trees, as [`extend_trees`](TokenStream::extend_trees) does.
+    /// Appends these groups to the stream, as [`extend_trees`](TokenStream::extend_trees) does.
     #[tactic(auto, using(crate::proofs::BuildingLemmas::joined_nil, crate::proofs::BuildingLemmas::puts_more))]
     pub fn extend_groups<I: IntoIterator<Item = Group>>(
         &mut self,
@@ -125,7 +124,7 @@ impl TokenStream {
         Ok(())
     }
 
-    /// Puts these identifiers after its trees, as [`extend_trees`](TokenStream::extend_trees) does.
+    /// Appends these identifiers to the stream, as [`extend_trees`](TokenStream::extend_trees) does.
     #[tactic(auto, using(crate::proofs::BuildingLemmas::joined_nil, crate::proofs::BuildingLemmas::puts_more))]
     pub fn extend_idents<I: IntoIterator<Item = Ident>>(
         &mut self,
@@ -145,7 +144,7 @@ impl TokenStream {
         Ok(())
     }
 
-    /// Puts these marks after its trees, as [`extend_trees`](TokenStream::extend_trees) does.
+    /// Appends these marks to the stream, as [`extend_trees`](TokenStream::extend_trees) does.
     #[tactic(auto, using(crate::proofs::BuildingLemmas::joined_nil, crate::proofs::BuildingLemmas::puts_more))]
     pub fn extend_puncts<I: IntoIterator<Item = Punct>>(
         &mut self,
@@ -165,8 +164,8 @@ impl TokenStream {
         Ok(())
     }
 
-    /// Puts these literals after its trees, as [`extend_trees`](TokenStream::extend_trees) does: a
-    /// negative one as its `-` and the rest.
+    /// Appends these literals to the stream, as [`extend_trees`](TokenStream::extend_trees) does. A negative literal
+    /// gives its `-` and the rest.
     #[tactic(auto, using(crate::proofs::BuildingLemmas::joined_nil, crate::proofs::BuildingLemmas::puts_more))]
     pub fn extend_literals<I: IntoIterator<Item = Literal>>(
         &mut self,

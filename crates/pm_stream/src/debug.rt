@@ -1,4 +1,4 @@
-//! How streams are shown to programmers.
+//! How streams are shown by `Debug`.
 use crate::stream::{Group, TokenStream, TokenTree};
 use pm_token::parts::show_span;
 use std::fmt;

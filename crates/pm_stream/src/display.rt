@@ -1,7 +1,7 @@
 //! How streams are printed.
 //!
-//! Where a step into a group is refused memory, the function calls itself for the group, so that it
-//! prints all the same.
+//! If memory for the list of open groups runs out, the function calls itself for the group. So it prints the group
+//! anyway.
 ghost use Rattle.std.specs.Prelude.{◌≡◌, OnOk};
 ghost use Rattle.std.specs.Fmt.{WritesOnOk};
 ghost use Rattle.std.specs.Str.{encode_utf8_all};
@@ -18,6 +18,7 @@ use std::alloc::Global;
 use std::fmt;
 use std::fmt::Display;
 
+/// Prints the trees, with a space before them if `within`.
 fn print_trees<W: fmt::Write>(
     alloc: Global,
     trees: &[TokenTree],
@@ -51,7 +52,8 @@ fn print_trees<W: fmt::Write>(
     }
 }
 
-/// What is printed of one step, with a space before it if gap. Then gap is whether one goes before what comes after it.
+/// Prints one step, with a space before it if `gap`. Then sets `gap` to whether a space goes before what is printed
+/// next.
 #[inline(always)]
 fn print_step<W: fmt::Write>(
     step: Step<'_>,
@@ -81,13 +83,14 @@ fn print_step<W: fmt::Write>(
     }
 }
 
+/// Prints a space if `gap`.
 fn print_space<W: fmt::Write>(gap: bool, f: &mut fmt::Formatter<W>) -> fmt::Result
     ensures { WritesOnOk W.write_str_gives f.old result (encode_utf8_all (space gap)) f.new }
 {
     if gap { f.write_str(" ") } else { Ok(()) }
 }
 
-/// A token, or what a group begins with.
+/// Prints a token, or the opener of a group.
 fn print_front<W: fmt::Write>(tree: &TokenTree, f: &mut fmt::Formatter<W>) -> fmt::Result
     ensures { WritesOnOk W.write_str_gives f.old result
         (encode_utf8_all (front_text tree.now)) f.new }
@@ -100,7 +103,7 @@ fn print_front<W: fmt::Write>(tree: &TokenTree, f: &mut fmt::Formatter<W>) -> fm
     }
 }
 
-/// What a group begins with.
+/// Prints the opener of a group.
 fn print_opening<W: fmt::Write>(delimiter: Delimiter, f: &mut fmt::Formatter<W>) -> fmt::Result
     ensures { WritesOnOk W.write_str_gives f.old result
         (encode_utf8_all (opening delimiter)) f.new }
@@ -108,13 +111,14 @@ fn print_opening<W: fmt::Write>(delimiter: Delimiter, f: &mut fmt::Formatter<W>)
     f.write_str(opener(delimiter))
 }
 
-/// What a group ends with, and in a Brace the space before it.
+/// Prints the closer of a group, with a space before `}`.
 fn print_ending<W: fmt::Write>(delimiter: Delimiter, f: &mut fmt::Formatter<W>) -> fmt::Result
     ensures { WritesOnOk W.write_str_gives f.old result (encode_utf8_all (ending delimiter)) f.new }
 {
     f.write_str(closer(delimiter))
 }
 
+/// Returns the opener of a group with this delimiter.
 pub(crate) fn opener(delimiter: Delimiter) -> &'static str
     ensures { result.now ≡ opening delimiter }
 {
@@ -126,6 +130,7 @@ pub(crate) fn opener(delimiter: Delimiter) -> &'static str
     }
 }
 
+/// Returns the closer of a group with this delimiter, with a space before `}`.
 pub(crate) fn closer(delimiter: Delimiter) -> &'static str
     ensures { result.now ≡ ending delimiter }
 {
@@ -137,13 +142,14 @@ pub(crate) fn closer(delimiter: Delimiter) -> &'static str
     }
 }
 
+/// Whether the delimiter is `Brace`.
 pub(crate) fn is_brace(delimiter: Delimiter) -> bool
     ensures { result ≡ is_brace delimiter }
 {
     delimiter == Delimiter::Brace
 }
 
-/// Whether a space goes before what is printed next, within a group or after a token.
+/// Whether a space goes before what is printed next: the first tree inside a group, or the tree after a token.
 fn gap_within(tree: &TokenTree) -> bool
     ensures { result ≡ gap_within tree.now }
 {
@@ -154,10 +160,9 @@ fn gap_within(tree: &TokenTree) -> bool
     }
 }
 
-/// The trees by the rule `printed`: one space between two, but none after a Joint mark. A group is
-/// written with its delimiters, a Brace with spaces inside them, so that `{x}` is printed `{ x }`
-/// and `{}` is `{ }`. Fails only where the writer does, whatever memory there is; the text may be
-/// written in part then.
+/// Prints the trees by the rule `printed`: one space between two trees, but none after a Joint mark. Groups are printed
+/// with their delimiters. Braces have spaces inside, so `{x}` is printed `{ x }` and `{}` is printed `{ }`. Fails only
+/// if the writer fails; a part of the text may be written then. If memory runs out, all trees are printed anyway.
 impl Display for TokenStream {
     ghost use Rattle.std.specs.Prelude.{Some};
     ghost use Rattle.pm_stream.specs.Printed.{printed};
@@ -169,7 +174,7 @@ impl Display for TokenStream {
     }
 }
 
-/// A token, or a group with its delimiters, by the rule `printed`. Fails as a stream does.
+/// Prints a token, or a group with its delimiters, by the rule `printed`. Fails only if the writer fails.
 impl Display for TokenTree {
     ghost use Rattle.std.specs.Prelude.{Some};
     ghost use Rattle.pm_stream.specs.Trees.{alone};
@@ -187,8 +192,8 @@ impl Display for TokenTree {
     }
 }
 
-/// The trees between the delimiters, by the rule `printed`. A group without delimiters is its trees
-/// alone. Fails as a stream does.
+/// Prints the trees between the delimiters, by the rule `printed`. Of a group without delimiters only the trees are
+/// printed. Fails only if the writer fails.
 impl Display for Group {
     ghost use Rattle.std.specs.Prelude.{Some};
     ghost use Rattle.pm_stream.specs.PrintedTree.{group_text};

@@ -8,9 +8,9 @@ use pm_span::parts::{bounds, span_of};
 use std::fmt;
 use std::marker::Model;
 
-/// The span of a group, which gives those of its delimiters too.
+/// The span of a group, from which the spans of its delimiters are computed.
 ///
-/// They are the first and the last character of the group's span, whatever its delimiter is. A
+/// The spans of the delimiters are the first and the last character of the group's span, whatever its delimiter is. A
 /// group that was read from `(x)` at 1..4 opens at 1..2 and closes at 3..4.
 #[derive(Clone, Copy)]
 pub struct DelimSpan {
@@ -28,16 +28,16 @@ impl Model for DelimSpan {
 }
 
 impl DelimSpan {
-    /// The span of the whole group, with its delimiters.
+    /// Returns the span of the whole group, including its delimiters.
     pub fn join(&self) -> Span
         ensures { result ≡ self.now }
     {
         self.span
     }
 
-    /// The span of the opening delimiter (`open-span`): the first character of the group's span.
+    /// Returns the span of the opening delimiter (`open-span`): the first character of the group's span.
     ///
-    /// It is empty where the group's span is: of 1..4 it is 1..2, and of 0..0 it is 0..0.
+    /// The result is empty if the group's span is empty. For 1..4 it is 1..2, and for 0..0 it is 0..0.
     pub fn open(&self) -> Span
         ensures { result ≡ opening_span self.now }
     {
@@ -45,9 +45,9 @@ impl DelimSpan {
         span_of(lo, hi.min(lo.saturating_add(1)))
     }
 
-    /// The span of the closing delimiter (`close-span`): the last character of the group's span.
+    /// Returns the span of the closing delimiter (`close-span`): the last character of the group's span.
     ///
-    /// It is empty where the group's span is: of 1..4 it is 3..4, and of 0..0 it is 0..0.
+    /// The result is empty if the group's span is empty. For 1..4 it is 3..4, and for 0..0 it is 0..0.
     pub fn close(&self) -> Span
         ensures { result ≡ closing_span self.now }
     {
@@ -69,25 +69,25 @@ impl fmt::Debug for DelimSpan {
 }
 
 impl Group {
-    /// The span of its opening delimiter (`open-span`): the first character of its span.
+    /// Returns the span of the opening delimiter (`open-span`): the first character of the group's span.
     ///
-    /// It is empty where the group's span is: of 1..4 it is 1..2, and of 0..0 it is 0..0.
+    /// The result is empty if the group's span is empty. For 1..4 it is 1..2, and for 0..0 it is 0..0.
     pub fn span_open(&self) -> Span
         ensures { result ≡ opening_span self.now.span }
     {
         self.delim_span().open()
     }
 
-    /// The span of its closing delimiter (`close-span`): the last character of its span.
+    /// Returns the span of the closing delimiter (`close-span`): the last character of the group's span.
     ///
-    /// It is empty where the group's span is: of 1..4 it is 3..4, and of 0..0 it is 0..0.
+    /// The result is empty if the group's span is empty. For 1..4 it is 3..4, and for 0..0 it is 0..0.
     pub fn span_close(&self) -> Span
         ensures { result ≡ closing_span self.now.span }
     {
         self.delim_span().close()
     }
 
-    /// Its span, together with those of its delimiters.
+    /// Returns the span of the group, together with those of its delimiters.
     pub fn delim_span(&self) -> DelimSpan
         ensures { result ≡ self.now.span }
     {

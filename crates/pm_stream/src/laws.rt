@@ -1,13 +1,14 @@
-//! What is proved of the definitions that the other contracts cite.
+//! Facts that are proved about the definitions which the other contracts use.
 ghost use Rattle.std.specs.Prelude.{◌≡◌};
 ghost use Rattle.pm_stream.specs.Forest.{Forest};
 ghost use Rattle.pm_stream.specs.Printed.{printed};
 ghost use Rattle.pm_stream.specs.Rule.{ruled};
 
-/// What is printed of a stream is its trees in order, with one space between two of them but none
-/// after a Joint mark; of a group, its delimiters around its stream: `( .. )` and `[ .. ]` without
-/// spaces inside, `{ }` of an empty stream and else `{ .. }` with one space on each side, or the
-/// stream alone.
+/// The printed text of a stream is its trees in order, with one space between two trees but none after a Joint mark.
+///
+/// The text of a group is its delimiters around the text of its stream. `( .. )` and `[ .. ]` have no spaces inside.
+/// Braces are `{ }` around an empty stream, and otherwise `{ .. }` with one space on each side. A group without
+/// delimiters is printed as its stream.
 pub fn printed_by_the_rule()
     ensures { (stream : Forest) → printed stream ≡ ruled stream }
 {}

@@ -26,22 +26,23 @@ use pm_token::parts::{ident, literal, punct};
 use pm_token::{Delimiter, ParseError, Spacing};
 use std::alloc::{AllocError, Global};
 
-/// For how many trees a list may keep room that stays empty.
+/// How many trees a finished list may keep unused room for.
 const FEW_TREES: usize = 8;
 
 impl TokenStream {
-    /// The token trees of a text, which becomes the next file of the map (`parses-to`). The stream is
+    /// Parses a text, which becomes the next file of the map, and returns its token trees (`parses-to`). The stream is
     /// `built`.
     ///
-    /// Spans count characters, from the position on where the file begins, and the map holds the
-    /// span of each tree. A fault (`fault`) has an empty span: where no piece of the grammar stands,
-    /// before a closer that doesn't close the innermost open group, or else before the last opener
-    /// that no closer matches. The text is a file of the map then too, so that its line can be
-    /// asked. `MapFull` is answered exactly where the text would end past the map's limit (`fits`),
-    /// and `Memory` where a growth was refused; both leave the map as it was.
+    /// Spans count characters, from the position where the file begins. The map holds the span of each tree.
     ///
-    /// In a new map `a += b` gives four trees, the first the identifier `a` at 1..2. The fault of
-    /// `(]` is 2..2, that of `a ( b` is 3..3.
+    /// For a fault (`fault`) the call returns `Lex` with an empty span. The fault is where no piece of the grammar
+    /// begins, or before a closer that doesn't close the innermost open group. If the text has neither, the fault is
+    /// before the last opener that no closer matches. Even then the text becomes a file of the map, so that the map can
+    /// give the fault's line. `MapFull` is returned exactly if the text would end past the map's limit (`fits`), and
+    /// `Memory` if memory runs out. Both leave the map as it was.
+    ///
+    /// In a new map `a += b` gives four trees, the first of which is the identifier `a` at 1..2. The fault of `(]` is
+    /// 2..2, and that of `a ( b` is 3..3.
     pub fn from_str(text: &str, map: &mut SourceMap) -> Result<TokenStream, ParseError>
         ensures ok { IfOk result (λ stream. ParsesTo (next_lo map.old) (chars text.now) stream) }
         ensures built { IfOk result IsBuilt }
@@ -72,14 +73,14 @@ impl TokenStream {
         parsed
     }
 
-    /// The token trees of a text that becomes no file of a map (`parses-to`). The stream is `built`.
+    /// Parses a text that becomes no file of a map, and returns its token trees (`parses-to`). The stream is `built`.
     ///
-    /// Answers and spans are those of [`from_str`](TokenStream::from_str) with a new map, but the text is no
-    /// file of any map, so no map is promised to hold the spans. It takes no copy of the text and looks for
-    /// no lines, so what only prints trees reads a text by it in less time. Where a fault stands is asked of
-    /// a map: `from_str` finds it at the same position.
+    /// Results, errors and spans are those of [`from_str`](TokenStream::from_str) with a new map. But no map is
+    /// guaranteed to hold the spans. The call does not copy the text and does not search for lines, so it is faster for
+    /// programs that only print trees. To get the line of a fault, call `from_str`, which finds the fault at the same
+    /// position.
     ///
-    /// `a += b` gives four trees, the first the identifier `a` at 1..2. The fault of `(]` is 2..2.
+    /// `a += b` gives four trees, the first of which is the identifier `a` at 1..2. The fault of `(]` is 2..2.
     pub fn parse_unmapped(alloc: Global, text: &str) -> Result<TokenStream, ParseError>
         ensures ok { IfOk result (λ stream. ParsesTo (next_lo new_map) (chars text.now) stream) }
         ensures built { IfOk result IsBuilt }
@@ -98,7 +99,7 @@ impl TokenStream {
     }
 }
 
-/// The trees of a text that begins at the position `base`.
+/// Parses a text that begins at the position `base`.
 pub(crate) fn parse(alloc: Global, base: u32, text: &str) -> Result<TokenStream, ParseError>
     requires { base + length (chars text.now) < 2 ^ 32 }
     ensures ok { IfOk result (λ stream. ParsesTo base (chars text.now) stream) }
@@ -113,22 +114,23 @@ pub(crate) fn parse(alloc: Global, base: u32, text: &str) -> Result<TokenStream,
     Ok(parser.finish()?)
 }
 
-/// What was read so far.
+/// A sink that builds trees.
 #[derive(Drop)]
 struct Parser {
     alloc: Global,
-    /// The trees of all open groups and those outside every group, the innermost group's last.
+    /// The trees read so far: those outside all groups and those of each open group. The innermost group's trees are
+    /// last.
     trees: Vec<TokenTree>,
 }
 
-/// A group whose closer is still to come.
+/// A group whose closer was not read yet.
 #[derive(Drop)]
 struct Frame {
-    /// How many trees are before its own.
+    /// How many trees of the list come before the group's own.
     before: usize,
-    /// What stands around its trees.
+    /// Its delimiter.
     delimiter: Delimiter,
-    /// Where its opener begins.
+    /// The position of its opener.
     lo: u32,
 }
 
@@ -192,20 +194,20 @@ impl TokenSink for Parser {
 }
 
 impl Parser {
-    /// Takes a tree that may be put into a stream.
-    // Inlined so that the tree is made in the list itself.
+    /// Adds a tree that may be put into a stream.
+    // Inlined so that the tree is built in the list itself.
     #[inline(always)]
     fn push(&mut self, tree: TokenTree) -> Result<(), AllocError>
         requires { GoesInside tree }
         ensures { OnOk result (Adds self.old self.new (flat_onto (alone tree) [])) }
     {
-        // Proofs learn by it that the tree is built.
+        // This call computes nothing. Its contract says that the tree is `built`.
         let _ = tree.span();
         self.trees.push(tree)?;
         Ok(())
     }
 
-    /// Takes a mark.
+    /// Adds a mark.
     fn push_mark(&mut self, mark: char, joint: bool, span: Span) -> Result<(), AllocError>
         requires { IsTrue (is_mark mark) }
         ensures { OnOk result (Adds self.old self.new (One (tokens.Mark mark joint) span.lo span.hi ∷ [])) }
@@ -213,8 +215,9 @@ impl Parser {
         self.push(TokenTree::Punct(punct(mark, spacing(joint), span)))
     }
 
-    /// Takes a literal of this text, by the rule `literal-token`.
-    // Out of line, as are doc comments and closers: most pieces are none of these, and pass by at less cost.
+    /// Adds a literal with this text, by the rule `literal-token`.
+    // Not inlined, like doc comments and closers: the loop is then faster for the other pieces, which are more
+    // frequent.
     #[inline(never)]
     fn push_literal(&mut self, text: &str, span: Span) -> Result<(), AllocError>
         requires { IsBuiltToken (tokens.Literal (chars text.now)) }
@@ -224,7 +227,7 @@ impl Parser {
         self.push(TokenTree::Literal(literal))
     }
 
-    /// Takes a doc comment: the mark `#`, the mark `!` if it is inner, and the group of its text.
+    /// Adds the trees of a doc comment: the mark `#`, the mark `!` if it is inner, and the group of its text.
     #[inline(never)]
     fn push_doc(&mut self, inner: bool, text: &str, span: Span) -> Result<(), AllocError>
         ensures { OnOk result (Adds self.old self.new (doc_onto span.lo span.hi inner (chars text.now) [])) }
@@ -237,7 +240,7 @@ impl Parser {
         self.push(TokenTree::Group(group))
     }
 
-    /// Puts a group in the place of the trees from this one on, which become those inside it.
+    /// Replaces the trees from index `first` on with one group that holds them.
     #[inline(never)]
     fn push_group(
         &mut self,
@@ -257,13 +260,13 @@ impl Parser {
         Ok(())
     }
 
-    /// The stream of what was read, where no group is open.
+    /// Returns the stream of the trees. No group may be open.
     fn finish(self) -> Result<TokenStream, AllocError>
         requires { IsBuilt (forest self.trees.items) }
         ensures ok { IfOk result (λ stream. stream ≡ forest self.trees.items) }
     {
         let Parser { alloc, mut trees } = self;
-        // The list also held the trees of all open groups. If the smaller allocation is refused,
+        // The list also held the trees of groups, so much of its room may be unused. If the smaller allocation fails,
         // the list stays as it is.
         if trees.capacity().saturating_sub(trees.len()) > FEW_TREES {
             trees.shrink_to_fit();
@@ -272,7 +275,7 @@ impl Parser {
     }
 }
 
-/// The spacing of a mark.
+/// Returns the spacing of a mark.
 fn spacing(joint: bool) -> Spacing
     ensures { is_joint result ≡ joint }
 {

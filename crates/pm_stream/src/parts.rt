@@ -1,4 +1,4 @@
-//! What the crates above make streams of, and users don't.
+//! Calls for the crates that are built on this one, not for users.
 ghost use Rattle.std.specs.Prelude.{◌≡◌, IfOk, OnErr, OnOk};
 ghost use Rattle.pm_stream.specs.Building.{split};
 ghost use Rattle.pm_stream.specs.Forest.{IsBuilt, joined, nil};
@@ -11,14 +11,14 @@ use pm_span::Span;
 use pm_token::{Delimiter, Ident, Literal, Punct};
 use std::alloc::{AllocError, Global};
 
-/// The group of these parts.
+/// Returns the group with this delimiter, stream and span.
 pub fn group(delimiter: Delimiter, stream: TokenStream, span: Span) -> Group
     ensures { result ≡ record { delimiter = delimiter; stream = stream; span = span } }
 {
     Group::from_parts(delimiter, stream, span)
 }
 
-/// The stream of these trees. Fails where memory runs out.
+/// Returns the stream of these trees. Fails if memory runs out.
 pub fn stream(alloc: Global, trees: Vec<TokenTree>) -> Result<TokenStream, AllocError>
     requires { IsBuilt (forest trees.items) }
     ensures ok { IfOk result (λ stream. stream ≡ forest trees.items) }
@@ -26,8 +26,8 @@ pub fn stream(alloc: Global, trees: Vec<TokenTree>) -> Result<TokenStream, Alloc
     TokenStream::from_vec(alloc, trees)
 }
 
-/// The trees of the stream, in order. A list that no other stream shares is taken over. Another is copied, which fails
-/// where memory runs out.
+/// Returns the trees of the stream, in order. A list that no other stream shares is moved. A shared list is copied,
+/// which fails if memory runs out.
 pub fn into_trees(stream: TokenStream) -> Result<Vec<TokenTree>, AllocError>
     ensures value { IfOk result (λ list. forest list.items ≡ stream) }
     ensures built { IsBuilt stream }
@@ -35,7 +35,7 @@ pub fn into_trees(stream: TokenStream) -> Result<Vec<TokenTree>, AllocError>
     stream.into_list()
 }
 
-/// Takes the trees out of the group, which is empty afterwards.
+/// Takes the trees out of the group and returns them. The group is empty afterwards.
 #[inline(always)]
 pub fn take_stream(group: &mut Group) -> TokenStream
     ensures value { result ≡ group.old.stream }
@@ -44,7 +44,7 @@ pub fn take_stream(group: &mut Group) -> TokenStream
     group.take_stream()
 }
 
-/// Puts these trees into the group in place of its own.
+/// Replaces the group's trees with these trees.
 #[inline(always)]
 pub fn set_stream(group: &mut Group, stream: TokenStream)
     ensures { group.new ≡ record group.old { stream = stream } }
@@ -52,7 +52,7 @@ pub fn set_stream(group: &mut Group, stream: TokenStream)
     group.set_stream(stream);
 }
 
-/// Puts a group after the trees of a stream. Where memory runs out the stream stays as it was.
+/// Appends a group to a stream. If memory runs out, the stream does not change.
 #[inline(always)]
 pub fn put_group(stream: &mut TokenStream, group: Group) -> Result<(), AllocError>
     ensures ok { OnOk result (stream.new ≡ joined stream.old (split (GroupTree group))) }
@@ -61,7 +61,7 @@ pub fn put_group(stream: &mut TokenStream, group: Group) -> Result<(), AllocErro
     stream.put_group(group)
 }
 
-/// Puts an identifier after the trees of a stream. Where memory runs out the stream stays as it was.
+/// Appends an identifier to a stream. If memory runs out, the stream does not change.
 #[inline(always)]
 pub fn put_ident(stream: &mut TokenStream, ident: Ident) -> Result<(), AllocError>
     ensures ok { OnOk result (stream.new ≡ joined stream.old (split (IdentTree ident))) }
@@ -70,7 +70,7 @@ pub fn put_ident(stream: &mut TokenStream, ident: Ident) -> Result<(), AllocErro
     stream.put_ident(ident)
 }
 
-/// Puts a mark after the trees of a stream. Where memory runs out the stream stays as it was.
+/// Appends a mark to a stream. If memory runs out, the stream does not change.
 #[inline(always)]
 pub fn put_punct(stream: &mut TokenStream, punct: Punct) -> Result<(), AllocError>
     ensures ok { OnOk result (stream.new ≡ joined stream.old (split (PunctTree punct))) }
@@ -79,8 +79,8 @@ pub fn put_punct(stream: &mut TokenStream, punct: Punct) -> Result<(), AllocErro
     stream.put_punct(punct)
 }
 
-/// Puts a literal after the trees of a stream, a negative one as its `-` and the rest. Where memory runs out the
-/// stream stays as it was.
+/// Appends a literal to a stream; a negative one gives its `-` and the rest. If memory runs out, the stream does not
+/// change.
 #[inline(always)]
 pub fn put_literal(stream: &mut TokenStream, literal: Literal) -> Result<(), AllocError>
     ensures ok { OnOk result (stream.new ≡ joined stream.old (split (LiteralTree literal))) }

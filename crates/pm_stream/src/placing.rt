@@ -1,4 +1,4 @@
-//! Where each tree of a text stands, with no trees made of it.
+//! Finds where each tree of a text begins and ends, without building trees.
 ghost use Rattle.std.specs.Prelude.{◌≡◌, ◌+◌, ◌<◌, ◌≤◌, ◌^◌, ◌↔◌, ◌++◌, [], ◌∷◌, length, true};
 ghost use Rattle.std.specs.Prelude.{OnOk, IfOk, IfErr};
 ghost use Rattle.std.specs.Str.{chars};
@@ -18,12 +18,12 @@ use std::alloc::{AllocError, Global};
 
 /// A line and a column of a text, as in [`LineColumn`](pm_span::LineColumn), in half the memory.
 ///
-/// A text that fits a new map has no more lines or columns than 32 bits can tell.
+/// If a text fits a new map, its lines and columns fit 32 bits.
 #[derive(Clone, Copy, Debug, PartialEq, Eq)]
 pub struct Place {
-    /// The line, from 1 on.
+    /// The line, counted from 1.
     pub line: u32,
-    /// The column in characters, from 0 on.
+    /// The column in characters, counted from 0.
     pub column: u32,
 }
 
@@ -51,17 +51,18 @@ pub struct PlacedTree {
     pub kind: TreeKind,
 }
 
-/// Where each tree of a text stands, in reading order: each group before those inside it.
+/// Returns where each tree of a text begins and ends, in reading order: each group before the trees inside it.
 ///
-/// They are the places of the spans of `TokenStream::walk` over the stream that the text parses to, by line and
-/// column as a new map has them. Trees are not made, and no map: it takes 20 bytes for each tree, with room for one
-/// for each four bytes of text, and a list of the groups that are open. Answers are those of
-/// [`parse_unmapped`](crate::TokenStream::parse_unmapped): `Lex` has the position of the fault, in
-/// characters from 1 on (`fault`), `MapFull` is answered exactly where the text would not fit a new map
-/// (`fits`), and `Memory` where a growth was refused.
+/// The result has the spans of `TokenStream::walk` over the stream that the text parses to, as lines and columns of a
+/// new map. No tree and no map is built. Each tree takes 20 bytes, and the call first allocates room for one tree for
+/// each four bytes of text. It also keeps a list of the open groups.
 ///
-/// `a (b)` has an identifier from 1:0 to 1:1, a group from 1:2 to 1:5, and an identifier from 1:3 to 1:4. The fault
-/// of `(]` is 2..2.
+/// The errors are those of [`parse_unmapped`](crate::TokenStream::parse_unmapped). `Lex` has the position of
+/// the fault (`fault`), in characters counted from 1. `MapFull` is returned exactly if the text does not fit a new map
+/// (`fits`), and `Memory` if memory runs out.
+///
+/// `a (b)` gives an identifier from 1:0 to 1:1, a group from 1:2 to 1:5, and an identifier from 1:3 to 1:4. For `(]`
+/// the fault is 2..2.
 pub fn place_trees(alloc: Global, text: &str) -> Result<Vec<PlacedTree>, ParseError>
     ensures ok { IfOk result (λ trees. ArePlaced (next_lo new_map) (chars text.now) trees.items) }
     ensures apart { IfOk result (λ _. HasNoFault (next_lo new_map) (chars text.now)) }
@@ -78,7 +79,7 @@ pub fn place_trees(alloc: Global, text: &str) -> Result<Vec<PlacedTree>, ParseEr
     place_trees_at(alloc, lo, text)
 }
 
-/// Where each tree of a text that begins at the position `base` stands.
+/// Returns where each tree begins and ends in a text that begins at the position `base`.
 fn place_trees_at(alloc: Global, base: u32, text: &str) -> Result<Vec<PlacedTree>, ParseError>
     requires begins { 1 ≤ base }
     requires room { base + length (chars text.now) < 2 ^ 32 }
@@ -87,14 +88,14 @@ fn place_trees_at(alloc: Global, base: u32, text: &str) -> Result<Vec<PlacedTree
 {
     let mut placer = Placer {
         here: Place { line: 1, column: 0 },
-        // A tree of code has some five bytes, with the white characters after it.
+        // In code, a tree has about five bytes, including the white characters after it.
         trees: Vec::with_capacity(alloc, text.len() / 4)?,
     };
     read(alloc, base, text, &mut placer)?;
     Ok(placer.trees)
 }
 
-/// The place after a text that begins at this one.
+/// Returns the line and column after a text that begins at `start`.
 fn past(start: Place, text: &str) -> Place
     requires lines { start.line + length (chars text.now) < 2 ^ 32 }
     requires columns { start.column + length (chars text.now) < 2 ^ 32 }
@@ -107,7 +108,7 @@ fn past(start: Place, text: &str) -> Place
     place
 }
 
-/// The place after a character.
+/// Returns the line and column after a character at `place`.
 #[inline(always)]
 fn past_char(place: Place, c: char) -> Place
     requires lines { place.line + 1 < 2 ^ 32 }
@@ -127,25 +128,25 @@ fn past_char(place: Place, c: char) -> Place
     }
 }
 
-/// What was placed so far.
+/// A sink that records where each tree begins and ends.
 #[derive(Drop)]
 struct Placer {
-    /// The place up to which it was read.
+    /// The line and column up to which the text was read.
     here: Place,
-    /// The trees in reading order. An open group ends where it begins.
+    /// The trees in reading order. As long as a group is open, its end equals its start.
     trees: Vec<PlacedTree>,
 }
 
-/// A group whose closer is still to come.
+/// A group whose closer was not read yet.
 #[derive(Drop)]
 struct OpenGroup {
-    /// What stands around it.
+    /// Its delimiter.
     delimiter: Delimiter,
     /// The position where its opener begins.
     lo: u32,
-    /// The place of that position.
+    /// The line and column of that position.
     start: Place,
-    /// How many trees stand before it in the list.
+    /// The index of the group in the list of trees.
     index: usize,
 }
 
@@ -225,7 +226,7 @@ impl TokenSink for Placer {
 }
 
 impl Placer {
-    /// The place after the piece, which is on one line.
+    /// Returns the line and column after the piece, which must be on one line.
     #[inline(always)]
     fn along(&self, lexed: Lexed<'_>) -> Place
         requires { IsTakenTo Places self.now lexed }
@@ -238,7 +239,7 @@ impl Placer {
         }
     }
 
-    /// The place after the piece.
+    /// Returns the line and column after the piece.
     #[inline(always)]
     fn past(&self, lexed: Lexed<'_>) -> Place
         requires { IsTakenTo Places self.now lexed }
@@ -247,7 +248,7 @@ impl Placer {
         past(self.here, lexed.own_text())
     }
 
-    /// Adds a tree of this kind, from where it was read to `end`.
+    /// Adds a tree of this kind, which begins at `here` and ends at `end`. Moves `here` to `end`.
     #[inline(always)]
     fn push(&mut self, end: Place, kind: TreeKind) -> Result<(), AllocError>
         ensures { OnOk result ((self.new.here ≡ end) × (self.new.trees.items
@@ -274,7 +275,8 @@ impl Placer {
         self.push(end, TreeKind::Literal)
     }
 
-    /// Adds a tree of this kind, but more begin where it does.
+    /// Adds a tree of this kind, which begins at `here` and ends at `end`. Leaves `here` as it is: more trees begin
+    /// there.
     #[inline(always)]
     fn add(&mut self, end: Place, kind: TreeKind) -> Result<(), AllocError>
         ensures trees { OnOk result (self.new.trees.items

@@ -1,6 +1,6 @@
 //! The one loop over the pieces of a text. Delimiters are matched here, and nowhere else.
 //!
-//! What makes something of a text's tokens is a [`TokenSink`], and [`read`] gives it the tokens in order.
+//! [`read`] passes the tokens of a text, in order, to a [`TokenSink`], which builds trees or something else of them.
 ghost use Rattle.std.specs.Prelude.{◌≡◌, ◌≢◌, ◌≤◌, ◌+◌, ◌<◌, ◌^◌, ℕ, Bool, List, [], ◌∷◌, length, reverse, map};
 ghost use Rattle.std.specs.Prelude.{IfErr, IfNone, IfOk, IfSome, MatchOption, OnOk, false, true};
 ghost use Rattle.std.specs.Str.{chars};
@@ -21,19 +21,20 @@ use pm_token::parts::fault;
 use pm_token::{Delimiter, ParseError};
 use std::alloc::{AllocError, Global};
 
-/// A piece of a text, and where it stands.
+/// A piece of a text, with its position.
 #[derive(Clone, Copy)]
 pub struct Lexed<'t> {
     /// What kind of piece it is, and its size in bytes and in characters.
     pub piece: Piece<'t>,
-    /// The text from the piece on to the end of the source.
+    /// The text from the start of the piece to the end of the source.
     pub text: &'t str,
-    /// The position of the piece: that where the source begins, plus the number of characters before the piece.
+    /// The position of the piece, in characters: the position of the source plus the number of characters before the
+    /// piece.
     pub at: u32,
 }
 
 impl<'t> Lexed<'t> {
-    /// The text of the piece.
+    /// Returns the text of the piece.
     #[inline(always)]
     pub fn own_text(self) -> &'t str
         requires { IsLexed self }
@@ -42,7 +43,7 @@ impl<'t> Lexed<'t> {
         &self.text[..self.piece.bytes]
     }
 
-    /// From where the piece begins to where it ends.
+    /// Returns the span of the piece.
     #[inline(always)]
     pub fn span(self) -> Span
         requires { IsLexed self }
@@ -55,22 +56,22 @@ impl<'t> Lexed<'t> {
 
 /// Receives the tokens of a text from [`read`], in reading order.
 ///
-/// A call gets the piece that the token was read from. The tail after it is `text[piece.bytes..]`, at the position
-/// `at + piece.chars`.
+/// Each call gets the piece that the token was read from. The text after the piece is `text[piece.bytes..]`, and its
+/// position is `at + piece.chars`.
 ///
 /// `opens` gives an open group's delimiter and position. `took` relates a sink to what was read: it holds before each
 /// call, and the call preserves it.
 pub trait TokenSink {
-    /// What is kept of a group until its closer comes.
+    /// What the sink keeps of a group until its closer is read.
     type Opened: Drop;
 
     // The group's delimiter, and the position of its opener.
     ghost opens: { Self.Opened → Waiting };
 
-    // What the sink has taken.
+    // How the sink relates to what was read.
     ghost took: { Self → Taken Self.Opened → Type 0 };
 
-    /// The delimiter of an open group, and the position of its opener.
+    /// Returns the delimiter of an open group, and the position of its opener.
     fn opener(group: &Self::Opened) -> (Delimiter, u32)
         ensures { result ≡ opens group.now };
 
@@ -79,30 +80,31 @@ pub trait TokenSink {
         requires { CanTake took self.old lexed (kinds.Mark joint mark) }
         ensures { OnOk result (HasTaken took self.old self.new lexed.entry (kinds.Mark joint mark)) };
 
-    /// Takes an identifier, or a lifetime's name after the mark `'`. `name` leaves out the `r#` of a raw one, which
-    /// `lexed` has.
+    /// Takes an identifier, or a lifetime's name after the mark `'`. `name` is without the `r#` of a raw identifier,
+    /// which the text of `lexed` includes.
     fn name(&mut self, lexed: Lexed<'_>, raw: bool, name: &str) -> Result<(), AllocError>
         requires { CanTake took self.old lexed (kinds.Name raw name) }
         ensures { OnOk result (HasTaken took self.old self.new lexed.entry (kinds.Name raw name.entry)) };
 
-    /// Takes a literal, whose text is the piece's.
+    /// Takes a literal, whose text is the text of the piece.
     fn literal(&mut self, lexed: Lexed<'_>) -> Result<(), AllocError>
         requires { CanTake took self.old lexed kinds.Literal }
         ensures { OnOk result (HasTaken took self.old self.new lexed.entry kinds.Literal) };
 
-    /// Takes a doc comment in place of all its tokens. `said` is its text without the comment's marks.
+    /// Takes a doc comment, instead of all the tokens that it expands to. `said` is its text without the comment's
+    /// marks.
     fn doc(&mut self, lexed: Lexed<'_>, inner: bool, said: &str) -> Result<(), AllocError>
         requires { CanTake took self.old lexed (kinds.Doc inner said) }
         ensures { OnOk result (HasTaken took self.old self.new lexed.entry (kinds.Doc inner said.entry)) };
 
-    /// Passes a piece that is no token: the front mark, a comment that is no doc comment, or a white character. White
-    /// characters of ASCII right after a piece come in [`white`](TokenSink::white) instead.
+    /// Takes a piece that is no token: the front mark, a comment that is no doc comment, or a white character. ASCII
+    /// white characters right after a piece are passed to [`white`](TokenSink::white) instead.
     fn gap(&mut self, lexed: Lexed<'_>)
         requires { CanSkip took self.old lexed }
         ensures { HasTaken took self.old self.new lexed.entry kinds.Gap };
 
-    /// Passes the first `size` characters of `text`, perhaps none: the white ones of ASCII right after a piece. It is
-    /// called after each piece's call. `text` reaches from that piece's end to the end of the source.
+    /// Takes the ASCII white characters right after a piece: the first `size` characters of `text`, where `size` may be
+    /// 0. It is called after each piece's call. `text` is all of the source after that piece.
     fn white(&mut self, text: &str, size: usize)
         requires { CanPass took self.old (chars text.now) size }
         ensures { HasPassed took self.old self.new (chars text.now) size };
@@ -112,7 +114,8 @@ pub trait TokenSink {
         requires { CanOpen took self.old lexed delimiter }
         ensures { IfOk result (HasOpened opens took self.old self.new lexed.entry delimiter) };
 
-    /// Takes the closer of the innermost open group. A closer of no such group is a fault, and isn't given to the sink.
+    /// Takes the closer of the innermost open group. A closer that does not match that group is a fault, and is not
+    /// passed to the sink.
     fn close(
         &mut self,
         lexed: Lexed<'_>,
@@ -123,25 +126,28 @@ pub trait TokenSink {
         ensures { OnOk result (HasClosed opens took self.old self.new lexed.entry delimiter group) };
 }
 
-/// Where reading stopped, and what was open there.
+/// Where reading stopped, and which groups were open there.
 #[derive(Drop)]
 pub struct Ending<'t, T> {
-    /// What was not read, empty if all was read. It begins with the stray closer, or no piece begins there.
+    /// The text that was not read, which is empty if all was read. Otherwise it begins with the stray closer, or no
+    /// piece begins there.
     pub rest: &'t str,
-    /// The position of the rest.
+    /// The position where the rest begins.
     pub at: u32,
     /// Whether the rest is the whole text.
     pub first: bool,
-    /// The groups that are open, the innermost last.
+    /// The groups that were open, the innermost last.
     pub opened: Vec<T>,
-    /// The closer at the front of the rest, if one stands there that doesn't close the innermost open group.
+    /// The closer at which reading stopped, if that closer doesn't close the innermost open group.
     pub stray: Option<Piece<'t>>,
 }
 
-/// Gives the sink the tokens of a text that begins at the position `base`, as far as they can be read: up to the end,
-/// to where no piece stands, or to a closer that doesn't close the innermost open group.
+/// Passes the tokens of a text to the sink, as far as the text can be read.
 ///
-/// Fails where memory runs out, in the sink or for the list of open groups.
+/// The text begins at the position `base`. Reading stops at the end of the text, where no piece begins, or before a
+/// closer that doesn't close the innermost open group.
+///
+/// The call fails if memory runs out, in the sink or for the list of open groups.
 #[inline(always)]
 pub fn walk<'t, S: TokenSink>(
     alloc: Global,
@@ -163,7 +169,8 @@ pub fn walk<'t, S: TokenSink>(
     let mut opened: Vec<S::Opened> = Vec::new(alloc);
     let mut rest = text;
     let mut at = base;
-    // A flag for the first piece would take a register in all loops that this becomes part of.
+    // Comparing lengths avoids a flag for the first piece, which would take a register in each loop that inlines this
+    // one.
     while let Some(piece) = piece_at(rest, rest.len() == text.len()) {
         let lexed = Lexed {
             piece,
@@ -180,7 +187,7 @@ pub fn walk<'t, S: TokenSink>(
             });
         }
         let tail = &rest[piece.bytes..];
-        // White characters are gaps, and are passed over all at once.
+        // White characters are gaps. Those of ASCII are skipped all at once.
         let (after, white) = past_white(tail);
         sink.white(tail, white);
         rest = after;
@@ -195,7 +202,7 @@ pub fn walk<'t, S: TokenSink>(
     })
 }
 
-/// Gives the sink the tokens of a text that begins at the position `base`, all of them, or else fails.
+/// Passes all tokens of a text that begins at the position `base` to the sink, or fails.
 ///
 /// `Lex` has the position of the fault (`fault`). `Memory` is returned if memory runs out, and `MapFull` never.
 #[inline(always)]
@@ -214,7 +221,8 @@ pub fn read<S: TokenSink>(
     end::<S>(ending.opened, ending.rest, ending.at)
 }
 
-/// Takes the piece, and answers whether it could: a closer that doesn't close the innermost open group isn't taken.
+/// Passes the piece to the sink and returns `true`. For a closer that doesn't close the innermost open group, does
+/// nothing and returns `false`.
 #[inline(always)]
 fn take<S: TokenSink>(
     sink: &mut S,
@@ -251,7 +259,7 @@ fn take<S: TokenSink>(
     Ok(true)
 }
 
-/// Takes out the innermost open group, if it has this delimiter.
+/// Removes and returns the innermost open group, if it has this delimiter.
 fn innermost<S: TokenSink>(opened: &mut Vec<S::Opened>, delimiter: Delimiter) -> Option<S::Opened>
     ensures some { IfSome result (λ group. (reverse opened.old.items ≡ group ∷ reverse opened.new.items)
         × ((S.opens group).0 ≡ delimiter)) }
@@ -265,7 +273,8 @@ fn innermost<S: TokenSink>(opened: &mut Vec<S::Opened>, delimiter: Delimiter) ->
     opened.pop()
 }
 
-/// Whether all was read. What is left of the text is a fault, and else a group that is still open.
+/// Returns `Ok` if all was read and no group is open. Otherwise the fault is where the rest begins, or, if all was
+/// read, where the innermost open group begins.
 #[inline(never)]
 fn end<S: TokenSink>(mut opened: Vec<S::Opened>, rest: &str, at: u32) -> Result<(), ParseError>
     ensures ok { OnOk result ((chars rest.now ≡ []) × (opened.items ≡ [])) }
@@ -283,7 +292,7 @@ fn end<S: TokenSink>(mut opened: Vec<S::Opened>, rest: &str, at: u32) -> Result<
     Err(fault_at(lo))
 }
 
-/// The delimiter of which `c` is the opener or the closer.
+/// Returns the delimiter whose opener or closer is `c`.
 fn delimiter(c: char) -> Delimiter
     ensures { result ≡ delimiter_of c }
 {
@@ -294,7 +303,7 @@ fn delimiter(c: char) -> Delimiter
     }
 }
 
-/// The fault at a position.
+/// Returns the error for a fault at this position.
 fn fault_at(position: u32) -> ParseError
     ensures { result ≡ ParseError.Lex (record { lo = position; hi = position }) }
 {

@@ -1,6 +1,6 @@
-//! One traversal of a stream's trees, step by step.
+//! A traversal of a stream's trees, step by step.
 //!
-//! Groups may nest as deep as a text is long, so the groups that are open stand in a list and not on the stack.
+//! Groups may nest as deep as a text is long, so the open groups are kept in a list, not on the stack.
 ghost use Rattle.std.specs.Prelude.{◌≡◌, [], ◌∷◌, IfOk, IfSome, MatchOption, OnErr, option_copied};
 ghost use Rattle.pm_stream.specs.Steps.{Enter, EntersNext, FollowedBy, Leave, PassesTrees};
 ghost use Rattle.pm_stream.specs.Steps.{front_tree, step_of, steps, steps_onto};
@@ -10,23 +10,23 @@ use crate::stream::{Group, TokenStream, TokenTree};
 use std::alloc::{AllocError, Global};
 use std::marker::Model;
 
-/// A step of a traversal, each with the trees that follow in the same list.
+/// A step of a traversal, with the trees that follow in the same list.
 #[derive(Clone, Copy)]
 pub enum Step<'a> {
-    /// Into this group. The steps over its trees come next, and then its `Leave`.
+    /// Enters this group. The steps over its trees come next, and then its `Leave`.
     Enter(&'a Group, &'a [TokenTree]),
-    /// Out of this group, all of whose trees were given.
+    /// Leaves this group. All of its trees were visited.
     Leave(&'a Group, &'a [TokenTree]),
-    /// Past this tree, which is no group.
+    /// Visits this tree, which is no group.
     Token(&'a TokenTree, &'a [TokenTree]),
 }
 
-/// The steps of a traversal that are left. [`TokenStream::steps`] makes it.
+/// A traversal of a list of trees, which enters and leaves each group. [`TokenStream::steps`] creates it.
 #[derive(Drop)]
 pub struct Steps<'a> {
-    // The groups that are open, the outermost first.
+    // The open groups, the outermost first.
     outer: Vec<OpenGroup<'a>>,
-    // The trees that are left of the innermost.
+    // The trees that are left in the innermost open group, or outside all groups if none is open.
     left: &'a [TokenTree],
 }
 
@@ -52,9 +52,9 @@ impl<'a> Model for Steps<'a> {
 }
 
 impl TokenStream {
-    /// A traversal of all its trees, which goes into each group and out of it again. It takes no memory.
+    /// Returns a traversal of all trees of the stream, which enters and leaves each group. It allocates nothing.
     ///
-    /// `a (b) c` has the steps past `a`, into `(b)`, past `b`, out of `(b)` and past `c`.
+    /// For `a (b) c` the steps visit `a`, enter `(b)`, visit `b`, leave `(b)` and visit `c`.
     pub fn steps(&self) -> Steps<'_>
         ensures { result ≡ steps self.now }
     {
@@ -63,7 +63,7 @@ impl TokenStream {
 }
 
 impl<'a> Steps<'a> {
-    /// A traversal of these trees. It takes no memory.
+    /// Returns a traversal of these trees. It allocates nothing.
     pub fn new(alloc: Global, trees: &'a [TokenTree]) -> Steps<'a>
         ensures { result ≡ steps (forest trees.now) }
     {
@@ -73,10 +73,10 @@ impl<'a> Steps<'a> {
         }
     }
 
-    /// The next step, or `None` after the last.
+    /// Returns the next step, or `None` after the last.
     ///
-    /// It takes memory only on the way into a group, for what comes after that. Where it is refused, all stays as it
-    /// was, and [`pass_over`](Steps::pass_over) gives the group.
+    /// It allocates only when it enters a group, to remember the trees after it. If memory runs out, the traversal is
+    /// as before, and [`pass_over`](Steps::pass_over) returns the group.
     #[inline(always)]
     #[tactic(auto, using(crate::proofs::StepLemmas::token_inside))]
     pub fn next(&mut self) -> Result<Option<Step<'a>>, AllocError>
@@ -102,8 +102,8 @@ impl<'a> Steps<'a> {
         Ok(Some(Step::Token(tree, after)))
     }
 
-    /// Passes over the group that the next step goes into, and gives it with the trees that follow. `None` where the
-    /// next step is another, and then nothing is passed over. It takes no memory.
+    /// Skips the group that the next step enters, and returns it with the trees that follow. If the next step enters no
+    /// group, returns `None` and skips nothing. It allocates nothing.
     pub fn pass_over(&mut self) -> Option<(&'a Group, &'a [TokenTree])>
         ensures { MatchOption result ((EntersNext self.old → ⊥) × (self.new ≡ self.old)) (λ next. self.old
             ≡ Enter next.0.now (forest next.1.now) ∷ steps_onto next.0.now.stream
@@ -119,8 +119,8 @@ impl<'a> Steps<'a> {
         Some((group, after))
     }
 
-    /// Passes over so many trees, each with what is in it: those that are left of the innermost group, and then those
-    /// after it, and so on.
+    /// Skips the next `count` trees, each with the trees inside it. They are those left in the innermost group, then
+    /// those after that group, and so on.
     pub(crate) fn pass_trees(&mut self, count: usize)
         ensures { PassesTrees count self.old self.new }
     {
@@ -135,7 +135,7 @@ impl<'a> Steps<'a> {
         self.left = &self.left[count..];
     }
 
-    /// The tree that the next step comes to, if it comes to one.
+    /// Returns the tree that the next step enters or visits, or `None` if there is no such tree.
     pub(crate) fn front(&self) -> Option<&'a TokenTree>
         ensures { option_copied result ≡ front_tree self.now }
     {

@@ -1,4 +1,4 @@
-//! The trees of a stream, given away one at a time.
+//! The iterator that takes a stream apart: it returns the trees one at a time.
 ghost use Rattle.std.specs.Prelude.{◌≡◌, All, IfOk, Some, length};
 ghost use Rattle.pm_span.specs.Files.{Files};
 ghost use Rattle.pm_stream.specs.Forest.{IsBuilt};
@@ -12,9 +12,9 @@ use std::collections::VecDeque;
 use std::fmt;
 use std::marker::Model;
 
-/// The trees of a stream that are left, in order. A group comes whole, with its trees inside it.
+/// An iterator over the trees of a stream, in order. A group is one item, with its trees inside it.
 ///
-/// [`TokenStream::into_iter`] makes it.
+/// [`TokenStream::into_iter`] creates it.
 #[derive(Drop)]
 pub struct IntoIter {
     left: VecDeque<TokenTree>,
@@ -42,11 +42,11 @@ impl Model for IntoIter {
 }
 
 impl TokenStream {
-    /// Its trees in order. A group comes whole, with its trees inside it: `a (b c) d` gives `a`, `(b c)`
-    /// and `d`.
+    /// Returns an iterator over the stream's trees, in order. A group is one item, with its trees inside it:
+    /// `a (b c) d` gives `a`, `(b c)` and `d`.
     ///
-    /// Where another stream shares the trees they are copied, and this fails where memory for that runs
-    /// out; the other stream stays as it was. Else it takes no memory.
+    /// If another stream shares the trees, they are copied. The call fails if memory for the copy runs out, and the
+    /// other stream does not change. Without sharing, the call allocates nothing.
     pub fn into_iter(self) -> Result<IntoIter, AllocError>
         ensures value { IfOk result (λ it. forest it ≡ self) }
         ensures built { IsBuilt self }
@@ -69,13 +69,13 @@ impl Iterator for IntoIter {
 
     ghost remaining = { item_count (λ left. left) };
 
-    /// The next tree, or `None` after the last. It may be put into a stream again, and those that are
+    /// Returns the next tree, or `None` after the last. The tree may be put into a stream again, and the trees that are
     /// left are `built`.
     fn next(&mut self) -> Option<TokenTree> {
         self.left.pop_front()
     }
 
-    /// Exactly how many trees are left, as the lower and as the upper bound. A group counts as one.
+    /// Returns the exact number of trees that are left, as the lower and as the upper bound. A group counts as one.
     fn size_hint(&self) -> (usize, Option<usize>)
         ensures exact { result ≡ (length self.now, Some (length self.now)) }
     {
@@ -84,7 +84,7 @@ impl Iterator for IntoIter {
     }
 }
 
-/// An iterator over copies of the trees that are left. Fails where memory runs out.
+/// Returns an iterator over copies of the trees that are left. Fails if memory runs out.
 impl Clone for IntoIter {
     ghost use Rattle.std.specs.Prelude.{◌≡◌};
 
@@ -97,7 +97,7 @@ impl Clone for IntoIter {
     }
 }
 
-/// Shows the list of the trees that are left, as a stream of them is shown.
+/// Shows the list of the trees that are left, in the form in which a stream is shown.
 impl fmt::Debug for IntoIter {
     fn fmt<W: fmt::Write>(&self, f: &mut fmt::Formatter<W>) -> fmt::Result {
         f.write_str("TokenStream ")?;

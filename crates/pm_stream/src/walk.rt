@@ -1,4 +1,4 @@
-//! All trees of a stream, one at a time.
+//! A walk over all trees of a stream, one at a time.
 ghost use Rattle.std.specs.Prelude.{◌≡◌, List, [], ◌∷◌, IfOk, IfSome, MatchOption, OnErr};
 ghost use Rattle.pm_stream.specs.InOrder.{in_order, in_order_onto, BeginsWithGroup};
 ghost use Rattle.pm_stream.specs.Trees.{inside};
@@ -9,7 +9,7 @@ use crate::stream::{Group, TokenStream, TokenTree};
 use std::alloc::AllocError;
 use std::marker::Model;
 
-/// The trees of a stream that are left to read, each group before those inside it.
+/// A walk over the trees of a stream, each group before the trees inside it.
 #[derive(Drop)]
 pub struct Walk<'a> {
     steps: Steps<'a>,
@@ -32,10 +32,10 @@ impl<'a> Model for Walk<'a> {
 }
 
 impl TokenStream {
-    /// A walk over all its trees, each group before those inside it (`reading-order`). It takes no
-    /// memory.
+    /// Returns a walk over all trees of the stream, each group before the trees inside it (`reading-order`). It
+    /// allocates nothing.
     ///
-    /// `a (b) c` has four trees in the order `a`, `(b)`, `b`, `c`.
+    /// `a (b) c` has four trees, in the order `a`, `(b)`, `b`, `c`.
     pub fn walk(&self) -> Walk<'_>
         ensures { result ≡ in_order self.now }
     {
@@ -46,10 +46,10 @@ impl TokenStream {
 }
 
 impl<'a> Walk<'a> {
-    /// The next tree, or `None` after the last.
+    /// Returns the next tree, or `None` after the last.
     ///
-    /// It takes memory only at a group, for what comes after that, so it fails only where the next tree
-    /// is a group. Where memory is refused the walk stays as it was.
+    /// It allocates only at a group, to remember the trees after it. So it fails only if the next tree is a group.
+    /// After an error the walk is as before.
     pub fn next(&mut self) -> Result<Option<&'a TokenTree>, AllocError>
         ensures ok { IfOk result (λ next. MatchOption next ((self.old ≡ []) × (self.new ≡ []))
             (λ tree. self.old ≡ tree.now ∷ self.new)) }
@@ -66,9 +66,10 @@ impl<'a> Walk<'a> {
             }
         }
     }
-    /// Passes over the trees in this group, where [`next`](Walk::next) gave it last. It takes no memory.
+    /// Skips the trees inside this group, which must be the tree that [`next`](Walk::next) returned last. It allocates
+    /// nothing.
     ///
-    /// In `a (b) c`, after `(b)` was given and passed over, `c` is next.
+    /// In `a (b) c`, after `next` returned `(b)` and this call skipped its trees, the next tree is `c`.
     pub fn pass_over(&mut self, group: &Group)
         ensures { (rest : List TreeValue) → self.old ≡ in_order_onto group.now.stream rest → self.new ≡ rest }
     {

@@ -1,7 +1,7 @@
-//! Whether a stream comes back from its printed text.
+//! Whether parsing the printed text of a stream gives the stream again.
 //!
-//! Where a step into a group is refused memory, the function calls itself for the group, so that it
-//! answers all the same.
+//! If memory for the list of open groups runs out, the function calls itself for the group. So it returns an answer
+//! anyway.
 ghost use Rattle.std.specs.Prelude.{◌≡◌, ◌↔◌, ◌==◌, IsTrue, true};
 ghost use Rattle.std.specs.Str.{chars};
 ghost use Rattle.lexical.specs.Character.{single_quote};
@@ -23,14 +23,14 @@ use pm_token::{Delimiter, Punct, Spacing};
 use std::alloc::Global;
 
 impl TokenStream {
-    /// Whether it is `well-spaced`: whether a parse of its printed text gives the same stream again,
-    /// up to spans. Every stream that was read from a text is well spaced.
+    /// Returns whether the stream is `well-spaced`: whether parsing its printed text gives the same stream, up to
+    /// spans. Every stream that was parsed from a text is well spaced.
     ///
-    /// It always answers, whatever memory there is, and in time proportional to the number of trees.
-    /// Proofs learn by it what every stream is (`built`).
+    /// The answer is right even if memory runs out. The time is proportional to the number of trees. The contract also
+    /// says that every stream is `built`.
     ///
-    /// The stream of `+` Joint and the identifier `a` is not well spaced: it prints `+a`, which is
-    /// `+` Alone and `a`.
+    /// The stream of `+` Joint and the identifier `a` is not well spaced. It is printed as `+a`, which parses to `+`
+    /// Alone and `a`.
     pub fn is_well_spaced(&self) -> bool
         ensures value { IsTrue result ↔ IsWellSpaced self.now }
         ensures built { IsBuilt self.now }
@@ -67,7 +67,7 @@ fn are_well_spaced(alloc: Global, trees: &[TokenTree]) -> bool
     }
 }
 
-/// Whether the group that the step goes into is shown, or its token may stand there.
+/// Whether the step fits: the group that it enters has delimiters, or its token may come before the trees after it.
 fn step_fits(step: Step<'_>) -> bool
     ensures { result ≡ step_fits (step_of step.entry) }
 {
@@ -78,14 +78,14 @@ fn step_fits(step: Step<'_>) -> bool
     }
 }
 
-/// Whether a group with the delimiter shows where it begins and ends.
+/// Whether the printed text shows where a group with this delimiter begins and ends.
 fn is_shown(delimiter: Delimiter) -> bool
     ensures { result ≡ is_shown delimiter }
 {
     delimiter != Delimiter::None
 }
 
-/// Whether the tree may stand before these, whatever is inside it.
+/// Whether the tree may come before these trees, whatever is inside it.
 fn fits(tree: &TokenTree, after: &[TokenTree]) -> bool
     ensures { result ≡ tree_fits tree.now (forest after.now) }
 {
@@ -96,7 +96,7 @@ fn fits(tree: &TokenTree, after: &[TokenTree]) -> bool
     }
 }
 
-/// Whether the mark may stand before these trees.
+/// Whether the mark may come before these trees.
 fn mark_fits(punct: &Punct, after: &[TokenTree]) -> bool
     ensures { result ≡ fits (mark_token punct.now) (next_token (forest after.now)) }
 {
@@ -107,13 +107,13 @@ fn mark_fits(punct: &Punct, after: &[TokenTree]) -> bool
     }
 }
 
-/// Whether this mark may stand before these trees with the spacing Joint, so that the stream is `well-spaced`.
+/// Returns whether this mark may come before these trees with the spacing Joint, in a stream that is `well-spaced`.
 ///
-/// `'` may where an identifier is next, or a literal that begins as `b"` or `r"` do. Any other mark may where a mark is
-/// next with which it begins no comment, or a literal that begins with `'`. Alone each mark may stand anywhere, but `'`
-/// nowhere.
+/// The mark `'` may come before an identifier, or a literal that begins with `b"`, `c"`, `r"`, `br"` or `cr"`. Any
+/// other mark may come before a mark with which it begins no comment, or a literal that begins with `'`. With the
+/// spacing Alone each mark may come before any tree, except that `'` is never Alone.
 ///
-/// `+` may before `=`, and may not before `a` or at the end.
+/// `+` may be Joint before `=`, but not before `a` or at the end.
 pub fn may_be_joint(mark: char, after: &[TokenTree]) -> bool
     ensures { result ≡ fits (Mark mark true) (next_token (forest after.now)) }
 {
@@ -124,7 +124,7 @@ pub fn may_be_joint(mark: char, after: &[TokenTree]) -> bool
     }
 }
 
-/// Whether the first tree may stand right after `'`.
+/// Whether the first tree may come right after `'`.
 fn follows_quote(trees: &[TokenTree]) -> bool
     ensures { result ≡ follows_quote (next_token (forest trees.now)) }
 {
@@ -135,7 +135,7 @@ fn follows_quote(trees: &[TokenTree]) -> bool
     }
 }
 
-/// Whether the first tree may stand right after this Joint mark, which isn't `'`.
+/// Whether the first tree may come right after this Joint mark, which isn't `'`.
 fn follows_joint(mark: char, trees: &[TokenTree]) -> bool
     ensures { result ≡ follows_joint mark (next_token (forest trees.now)) }
 {
@@ -146,7 +146,7 @@ fn follows_joint(mark: char, trees: &[TokenTree]) -> bool
     }
 }
 
-/// Whether it is how a literal begins that may stand right after `'`.
+/// Whether the text begins as a literal does that may come right after `'`.
 fn is_quotable(text: &str) -> bool
     ensures { result ≡ begins_any quotable_fronts (chars text.now) }
 {
@@ -157,7 +157,7 @@ fn is_quotable(text: &str) -> bool
         || begins(text, "cr\"")
 }
 
-/// Whether a `'` stands at the front of the text.
+/// Whether the text begins with `'`.
 #[tactic(auto, using(std::proofs::lemmas::Str::chars_past_char))]
 fn begins_with_quote(text: &str) -> bool
     ensures { result ≡ first_passes (λ c. c == single_quote) (chars text.now) }

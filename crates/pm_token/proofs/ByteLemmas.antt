@@ -1,4 +1,4 @@
--- What the constructors write of bytes is a literal.
+-- What the constructors write for bytes is a literal of the grammar.
 use Rattle.std.proofs.Common.{◌≡◌, ℕ, ◌<◌, ◌/◌, ◌%◌, Bool, true, false, not, ◌&&◌, ◌||◌, ◌==◌, nat_lt, nat_le, List, []}
 use Rattle.std.proofs.Common.{◌∷◌, ◌++◌, codes, get_or, refl, sym, ap, ◌∙◌, arith, inl, inr, zero, suc}
 use Rattle.std.specs.List.{concat}
@@ -33,7 +33,7 @@ pair_hex b r low = record {
   second = (digit_glyph true (b % 16), refl, glyph_hex (b % 16) (omega arith));
 }
 
--- the digits of a byte that isn't zero aren't both zero
+-- if a byte isn't zero, one of its digits isn't
 pub pair_nonzero : (b : ℕ) (r : List ℕ) → b < 256 → (b == 0) ≡ false
     → begins_any (codes "00" ∷ []) (hex_pair b ++ r) ≡ false
 pair_nonzero b r low some = not-true _ (
@@ -72,9 +72,9 @@ byte_plain d low plain = and_from _ _ (string_plain d plain) (ascii_below d low)
 byte_char_plain : (d : ℕ) → d < 128 → is_plain 39 d ≡ true → is_byte_char_plain d ≡ true
 byte_char_plain d low plain = and_from _ _ plain (ascii_below d low)
 
--- ---- some bytes
+-- ---- several bytes
 
--- each is below 256
+-- whether each number is below 256
 abbrev pub AreBytes : List ℕ → Type 0
 AreBytes [] = Unit {0}
 AreBytes (b ∷ bytes) = (b < 256) × AreBytes bytes
@@ -135,7 +135,7 @@ pub byte_string_whole : (bytes : List ℕ) → AreBytes bytes → IsLiteralToken
 unfolding IsLiteralToken literals.Literal
 byte_string_whole bytes are = inl (inl (inr (inr (inl (inl (byte_string_stands bytes [] are (stop_ends [] refl)))))))
 
--- what `byte_character` writes is one
+-- what `byte_character` writes is a whole literal
 pub byte_whole : (b : ℕ) → b < 256 → IsLiteralToken (byte_text b)
 unfolding IsLiteralToken literals.Literal
 byte_whole b low = inl (inl (inr (inr (inr (inl (byte_stands b [] low (stop_ends [] refl)))))))

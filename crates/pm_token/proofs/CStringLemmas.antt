@@ -141,7 +141,7 @@ c_string_whole bytes text is fit none =
 
 -- ---- the parts of bytes
 
--- what is written for a character that isn't zero, where neither zero nor a short escape is
+-- how a character that isn't zero is written: its short escape, or else as in a string
 abbrev later : ℕ → List ℕ
 later c =
     if c == 9 then codes "\\t"
@@ -151,12 +151,12 @@ later c =
     else if c == 34 then 92 ∷ 34 ∷ []
     else written_char c
 
--- what follows counts for a zero only
+-- what follows a character matters only if the character is zero
 some_written : (c : ℕ) (rest : List ℕ) → (c == 0) ≡ false → written 34 written_char c rest ≡ later c
 some_written c rest some = ap (λ z. if z && first_passes is_octal_digit rest then codes "\\x00" else if z then codes
     "\\0" else later c) some
 
--- no character is zero
+-- whether no character is zero
 abbrev pub no_zero_in : List ℕ → Bool
 no_zero_in cs = list_all (λ c. not (c == 0)) cs
 
@@ -172,7 +172,7 @@ parts_append [] qs = refl
 parts_append (p ∷ ps) qs = ap (λ x. part_text p ++ x) (parts_append ps qs)
     ∙ sym (append_assoc (part_text p) (parts_text ps) (parts_text qs))
 
--- a text, and then other parts
+-- the parts of a text, followed by other parts
 chars_parts : (cs : List ℕ) (more : List Part) (rest : List ℕ) → all_scalars cs ≡ true → AreParts more rest
     → AreParts (map Char cs ++ more) (encode_utf8_all cs ++ rest)
 chars_parts [] more rest all are = are
@@ -184,7 +184,7 @@ chars_parts (c ∷ cs) more rest all are =
       chars_parts cs more rest parts.1 are,
     )
 
--- a text whose bytes aren't zero has no such character
+-- if no byte of a text is zero, no character is
 chars_some : (cs rest : List ℕ) → has_no_zero (encode_utf8_all cs ++ rest) ≡ true → no_zero_in cs ≡ true
 chars_some [] rest none = refl
 chars_some (c ∷ cs) rest none =
@@ -193,7 +193,7 @@ chars_some (c ∷ cs) rest none =
     and_from _ _ (ap not (char_some c (encode_utf8_all cs ++ rest) whole))
     (chars_some cs rest (no_zero_behind (encode_utf8 c) (encode_utf8_all cs ++ rest) whole))
 
--- ---- where a text ends
+-- ---- the end of the longest text
 
 longest : (bytes : List ℕ) (m n : ℕ) → m ≤ n → is_utf8 (take m bytes) ≡ true → m ≤ valid_len_up_to bytes n
 longest bytes m zero le is = le
@@ -208,7 +208,7 @@ longest bytes m (suc n) le is =
           absurd (both_ways _ e (subst (λ k. is_utf8 (take k bytes) ≡ true) same is))
     ]
 
--- after the longest text at the front no character begins
+-- after the longest text at the start, no character begins
 begins_none : (bytes valid tail : List ℕ) → IsUtf8 valid → bytes ≡ valid ++ tail → length valid ≡ utf8_valid_len bytes
     → BeginsNone tail
 unfolding utf8_valid_len
@@ -227,7 +227,7 @@ begins_none bytes valid tail utf8 whole long c rest scalar e =
 
 -- ---- one step
 
--- what follows a text at the front
+-- the bytes after a text at the start
 tail_of : (bytes valid more : List ℕ) → bytes ≡ valid ++ more
     → bytes ≡ valid ++ take (length bytes - length valid) (drop (length valid) bytes)
 tail_of bytes valid more whole =
@@ -237,7 +237,7 @@ tail_of bytes valid more whole =
     whole ∙ ap (λ x. valid ++ x)
     (sym (take_all (length bytes - length valid) more count) ∙ ap (take (length bytes - length valid)) (sym behind))
 
--- the same of what the chunk of some bytes says
+-- the bytes after the text of a chunk
 pub chunk_whole : (bytes left valid text more : List ℕ) → left ≡ bytes → left ≡ valid ++ more → text ≡ valid
     → bytes ≡ text ++ take (length bytes - length text) (drop (length text) bytes)
 chunk_whole bytes left valid text more same split is =
@@ -247,7 +247,7 @@ pub chunk_long : (bytes left valid text : List ℕ) → left ≡ bytes → lengt
     → length text ≡ utf8_valid_len bytes
 chunk_long bytes left valid text same long is = ap length is ∙ (long ∙ ap utf8_valid_len same)
 
--- the text at the front, and the byte after it
+-- the text at the start and the byte after it are written
 pub front_and_byte : (bytes valid tail rest old new : List ℕ) (b : ℕ) → IsUtf8 valid → bytes ≡ valid ++ tail
     → length valid ≡ utf8_valid_len bytes → tail ≡ b ∷ rest
     → has_no_zero bytes ≡ true → new ≡ (old ++ content 34 written_char (chars valid)) ++ (codes "\\x" ++ hex_pair b)
@@ -273,7 +273,7 @@ front_and_byte bytes valid tail rest old new b utf8 whole long split none e =
       shorter = omega (arith, ap length whole, length-append valid tail, ap length split);
     }
 
--- the text that is all of them
+-- the text is all the bytes
 pub front_alone : (bytes valid tail old new : List ℕ) → IsUtf8 valid → bytes ≡ valid ++ tail → length tail ≡ 0
     → has_no_zero bytes ≡ true → bytes ≢ []
     → new ≡ old ++ content 34 written_char (chars valid) → WritesFront bytes [] old new

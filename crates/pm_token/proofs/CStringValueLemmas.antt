@@ -1,4 +1,4 @@
--- The value of a C string literal that was made.
+-- The value of the C string literal of some bytes.
 use Rattle.std.proofs.Common.{◌≡◌, ℕ, ◌*◌, ◌+◌, ◌/◌, ◌%◌, ◌<◌, true, false, not, ◌&&◌, ◌==◌, nat_eq, List, [], ◌∷◌}
 use Rattle.std.proofs.Common.{◌++◌, codes, Some, Ok, refl, sym, ap, ap₂, ◌∙◌, subst, arith, inl, inr, eqb-true}
 use Rattle.std.specs.Prelude.{encode_utf8}
@@ -57,7 +57,7 @@ short_quote = record { letter = 34; back = []; whole = refl; no_line = refl; giv
 same_char : (p : List ℕ) (c d : ℕ) → (c == d) ≡ true → Escapes c_kind p (units.Char d) → Escapes c_kind p (units.Char c)
 same_char p c d e is = subst (λ x. Escapes c_kind p (units.Char x)) (sym (eqb-true c d e)) is
 
--- whatever is written for a character that isn't zero
+-- any character that isn't zero is read back
 char_as : (c : ℕ) → IsScalar c → (c == 0) ≡ false → WrittenAs c_kind 34 c (part_text (Char c)) (units.Char c)
 char_as c scalar some =
     cond_both ((c == 0) && first_passes is_octal_digit []) _ _ As
@@ -121,7 +121,7 @@ abbrev units_of : List Part → List MixedUnit
 units_of [] = []
 units_of (part ∷ parts) = unit_of part ∷ units_of parts
 
--- the bytes are fit for a C string
+-- whether these are bytes, and none is zero
 record AreFit (bytes : List ℕ) : Type 0 where
   low : AllByRecursion (λ b. b < 256) bytes
   some : has_no_zero bytes ≡ true

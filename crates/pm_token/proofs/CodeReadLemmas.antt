@@ -1,4 +1,4 @@
--- What is read of the code of a character that the constructors wrote.
+-- How the code of a character is read, as the constructors write it.
 use Rattle.std.proofs.Common.{◌≡◌, ℕ, ◌*◌, ◌+◌, ◌<◌, ◌≤◌, true, false, ◌==◌, nat_lt, List, [], ◌∷◌, ◌++◌, length, Ok}
 use Rattle.std.proofs.Common.{refl, ap, ap₂, ◌∙◌, arith, suc}
 use Rattle.std.specs.Prelude.{filter}
@@ -28,7 +28,7 @@ digit_no_line d low = agree_below_at (λ x. digit_char x == 95) (λ x. false) 16
 digit_no_brace : (d : ℕ) → d < 16 → (digit_char d == 125) ≡ false
 digit_no_brace d low = agree_below_at (λ x. digit_char x == 125) (λ x. false) 16 d refl low
 
--- ---- digits, and the brace that closes them
+-- ---- digits, and the closing brace
 
 digits_front : (ds more : List ℕ) → AreHex ds
     → while_front is_code_character ((digits_of ds ++ 125 ∷ []) ++ more) ≡ digits_of ds
@@ -67,7 +67,7 @@ code_is kind unit c ds all few value scalar is =
     ∙ (ap (λ n. kind.of_code (character n)) (digits_number 0 ds all ∙ value)
     ∙ (ap kind.of_code (scalar_character c (is_scalar-IsScalar c scalar)) ∙ is))
 
--- the digits in the braces
+-- the digits in braces are read as the character
 coded_is : {U : Type 0} (kind : Kind U) (unit : U) (c : ℕ) (ds more : List ℕ) → AreHex ds → length ds ≤ 6
     → value_behind 0 ds ≡ c → IsScalar c → kind.of_code (Ok c) ≡ Ok unit
     → coded kind ((digits_of ds ++ 125 ∷ []) ++ more) ≡ record { unit = Ok unit; rest = more }
@@ -77,7 +77,7 @@ coded_is kind unit c ds more all few value scalar is =
     (digits_rest ds more all)
     ∙ ap (λ u. record { unit = u; rest = more }) (code_is kind unit c ds all few value scalar is)
 
--- after `u`
+-- the text after `\u` is read as the character
 unicode_is : {U : Type 0} (kind : Kind U) (unit : U) (c first : ℕ) (others more : List ℕ) → AreHex (first ∷ others)
     → length others ≤ 5 → value_behind 0 (first ∷ others) ≡ c → IsScalar c
     → kind.of_code (Ok c) ≡ Ok unit
@@ -89,7 +89,7 @@ unicode_is kind unit c first others more all few value scalar is =
     ∙ (cond-false _ _ _ (digit_no_brace first all.0) ∙ (cond-true _ _ _ (digit_hex first all.0)
     ∙ coded_is kind unit c (first ∷ others) more all (omega arith) value scalar is))
 
--- the escape of a character by its code
+-- the `\u` escape of a character is read as the character, in any kind
 pub code_escapes_as : {U : Type 0} (kind : Kind U) (unit : U) (c : ℕ) → IsScalar c → kind.of_code (Ok c) ≡ Ok unit
     → Escapes kind (escape_unicode c) unit
 code_escapes_as kind unit c scalar is =
@@ -101,6 +101,6 @@ code_escapes_as kind unit c scalar is =
       gives = λ more. unicode_is kind unit c coded.first coded.others more coded.hex coded.few coded.value scalar is;
     }
 
--- in a string
+-- the `\u` escape in a string
 pub code_escapes : (c : ℕ) → IsScalar c → Escapes string_kind (escape_unicode c) c
 code_escapes c scalar = code_escapes_as string_kind c c scalar refl

@@ -1,4 +1,4 @@
--- Lemmas on identifiers as they are written.
+-- Comparisons of identifiers as they are written.
 use Rattle.std.proofs.Common.{◌≡◌, ◌≢◌, ◌↔◌, ℕ, Bool, true, false, not, ◌&&◌, ◌||◌, ◌==◌, List, [], ◌∷◌, ◌++◌, IsTrue}
 use Rattle.std.proofs.Common.{nat_eq, codes, refl, sym, ap, ap₂, ◌∙◌, subst, arith, ◌⊎◌, inl, inr}
 use Rattle.std.specs.Bool.{beq}
@@ -26,7 +26,7 @@ use Rattle.pm_token.specs.Leaf.{Name, name_token}
 use Rattle.pm_token.specs.Spelling.{name_text, spelling, name_eq, name_cmp, fed_for}
 use Rattle.pm_token.proofs.NameLemmas.{written_is}
 
--- ---- what begins with a text
+-- ---- texts that begin with another text
 
 begins_apart : (front x t : List ℕ) → begins_with front t ≡ false → pointwise nat_eq (front ++ x) t ≡ false
 begins_apart [] x t h = absurd (both_ways _ h refl)
@@ -36,13 +36,13 @@ begins_apart (c ∷ front) x (d ∷ t) h = false_from_ne_true _ (λ same.
     let more : begins_with front t ≡ false = ap (λ b. b && begins_with front t) (sym parts.0) ∙ h in
     both_ways _ (begins_apart front x t more) parts.1)
 
--- two orders are one if what follows in them is, where they aren't decided yet
+-- two lexicographic orders are equal if they are in the case that the first part leaves open
 then_same : (o a b : Ordering) → (o ≡ Equal → a ≡ b) → ordering_then o a ≡ ordering_then o b
 then_same Less a b h = refl
 then_same Equal a b h = h refl
 then_same Greater a b h = refl
 
--- what doesn't begin with a text is decided by that text
+-- if t doesn't begin with a text, that text decides the order
 pub order_front : (front x t : List ℕ) → begins_with front t ≡ false
     → slice_cmp nat_cmp (front ++ x) t ≡ slice_cmp nat_cmp front t
 order_front [] x t h = absurd (both_ways _ h refl)
@@ -61,7 +61,7 @@ order_back (c ∷ front) x (d ∷ t) h = then_same (nat_cmp d c) _ _ (λ e.
 
 -- ---- identifiers
 
--- the bytes s are those of the identifier's name
+-- whether s has the bytes of the identifier's name
 pub record IsNameOf (a : Name) (s : List ℕ) : Type 0 where
   pub own : a.name ≡ chars s
   pub utf8 : IsUtf8 s
@@ -96,7 +96,7 @@ spelling_bytes a s h = written_is a.raw a.name
 
 -- ---- equality
 
--- written alike in bytes, and in characters
+-- identifiers are equal exactly if the same characters are written
 pub eq_text : (a b : Name) (r : Bool) → r ≡ name_eq a b → IsTrue r ↔ (name_text a ≡ name_text b)
 eq_text a b r is =
     let same = bytes_eq-Decides (spelling a) (spelling b) in
@@ -107,7 +107,7 @@ past_front : (raw : Bool) (x y : List ℕ)
 past_front true x y = refl
 past_front false x y = refl
 
--- both raw or both plain: by the names
+-- if both are raw or both plain, the names decide
 pub eq_alike : (a b : Name) (s t : List ℕ) (r : Bool) → IsNameOf a s → IsNameOf b t → a.raw ≡ b.raw
     → r ≡ pointwise nat_eq s t → r ≡ name_eq a b
 eq_alike a b s t r h k alike is =
@@ -115,7 +115,7 @@ eq_alike a b s t r h k alike is =
     ∙ ap₂ (pointwise nat_eq) (ap (λ x. raw_front x ++ s) (sym alike) ∙ sym (spelling_bytes a s h))
     (sym (spelling_bytes b t k)))
 
--- one raw and one plain: apart
+-- a raw and a plain identifier differ
 pub eq_apart : (a b : Name) (s t : List ℕ) → IsNameOf a s → IsNameOf b t → a.raw ≢ b.raw → name_eq a b ≡ false
 eq_apart a b s t h k differ = ap₂ (pointwise nat_eq) (spelling_bytes a s h) (spelling_bytes b t k)
     ∙ fronts_apart a.raw b.raw differ
@@ -126,7 +126,7 @@ eq_apart a b s t h k differ = ap₂ (pointwise nat_eq) (spelling_bytes a s h) (s
     fronts_apart false true differ = nat_list_eq_equiv.symm s (codes "r#" ++ t) ∙ begins_apart (codes "r#") t s h.plain
     fronts_apart false false differ = absurd (differ refl)
 
--- by the fields
+-- if both are raw or both plain, they are equal exactly if their fields are
 pub eq_fields : (a b : Name) (s t : List ℕ) (r : Bool) → IsNameOf a s → IsNameOf b t → a.raw ≡ b.raw
     → r ≡ pointwise nat_eq s t → IsTrue r ↔ ((a.name ≡ b.name) × (a.raw ≡ b.raw))
 eq_fields a b s t r h k alike is =
@@ -136,7 +136,7 @@ eq_fields a b s t r h k alike is =
           ∙ (ap encode_utf8_all (sym h.own ∙ (fields.0 ∙ k.own)) ∙ encodes-chars t k.utf8)),
     )
 
--- what a name is told by is its own bytes
+-- the bytes of an identifier's name
 pub name_by_bytes : {a b : Name} → b ≡ a → IsBuiltToken (name_token b) → IsNameOf a (encode_utf8_all b.name)
 name_by_bytes {a} {b} view built =
     name_of (encode_utf8_all b.name) view (chars-encodes b.name built.2) (b.name, (built.2, refl)) built
@@ -147,7 +147,7 @@ alike_or_apart true false = inr (λ e. both_ways true e refl)
 alike_or_apart false true = inr (λ e. both_ways false refl e)
 alike_or_apart false false = inl refl
 
--- what tells whether the fields are the same tells whether both are written alike
+-- a test of the fields tells whether both are written alike
 pub eq_by_fields : (a b : Name) (s t : List ℕ) (r : Bool) → IsNameOf a s → IsNameOf b t
     → IsTrue r ↔ ((a.name ≡ b.name) × (a.raw ≡ b.raw)) → r ≡ name_eq a b
 eq_by_fields a b s t r h k fields = same_from_decides r (name_eq a b) fields (elim (alike_or_apart a.raw b.raw) [
@@ -161,7 +161,7 @@ eq_by_fields a b s t r h k fields = same_from_decides r (name_eq a b) fields (el
 
 -- ---- order
 
--- equal in order, and written alike
+-- the order is `Equal` exactly if both are written alike
 pub cmp_text : (a b : Name) (o : Ordering) → o ≡ name_cmp a b → (o ≡ Equal) ↔ (name_text a ≡ name_text b)
 cmp_text a b o is =
     let text = eq_text a b (name_eq a b) refl in
@@ -180,7 +180,7 @@ cmp_fronts : (a b : Name) (s t : List ℕ) (x y : Bool) → IsNameOf a s → IsN
 cmp_fronts a b s t x y h k p q = cmp_bytes a b s t h k
     ∙ ap₂ (λ u v. slice_cmp nat_cmp (raw_front u ++ s) (raw_front v ++ t)) p q
 
--- raw and plain: the plain name is compared with `r#`
+-- a raw and a plain identifier: the plain name is compared with `r#`
 pub cmp_raw_plain : (a b : Name) (s t : List ℕ) → IsNameOf a s → IsNameOf b t
     → a.raw ≡ true → b.raw ≡ false → slice_cmp nat_cmp (codes "r#") t ≡ name_cmp a b
 cmp_raw_plain a b s t h k p q = sym (cmp_fronts a b s t true false h k p q ∙ order_front (codes "r#") s t k.plain)
@@ -189,13 +189,13 @@ pub cmp_plain_raw : (a b : Name) (s t : List ℕ) → IsNameOf a s → IsNameOf 
     → a.raw ≡ false → b.raw ≡ true → slice_cmp nat_cmp s (codes "r#") ≡ name_cmp a b
 cmp_plain_raw a b s t h k p q = sym (cmp_fronts a b s t false true h k p q ∙ order_back (codes "r#") t s h.plain)
 
--- both raw or both plain: by the names
+-- if both are raw or both plain, the order is that of the names
 pub cmp_alike : (a b : Name) (s t : List ℕ) (x : Bool) → IsNameOf a s → IsNameOf b t → a.raw ≡ x → b.raw ≡ x
     → slice_cmp nat_cmp s t ≡ name_cmp a b
 cmp_alike a b s t true h k p q = sym (cmp_fronts a b s t true true h k p q)
 cmp_alike a b s t false h k p q = sym (cmp_fronts a b s t false false h k p q)
 
--- of two that differ the other is plain, or raw
+-- if two flags differ and one is set, the other is not
 pub other_plain : (x y : Bool) → beq x y ≡ false → x ≡ true → y ≡ false
 other_plain x true h e = absurd (both_ways _ h ((booleans_Decides x true).1 e))
 other_plain x false h e = refl

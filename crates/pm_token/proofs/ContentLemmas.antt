@@ -1,4 +1,4 @@
--- Fronts and ends of texts, and what stands between quotes.
+-- Prefixes and endings of texts, and the text between quotes.
 use Rattle.std.proofs.Common.{◌≡◌, ◌≢◌, ℕ, ◌<◌, Bool, true, false, List, [], ◌∷◌, ◌++◌, length, drop, take, get_or}
 use Rattle.std.proofs.Common.{length-append, codes, Option, Some, None, MatchOption, Bor, refl, sym, ap, ap₂, ◌∙◌}
 use Rattle.std.proofs.Common.{subst, arith, append_assoc, eqb-true, cond}
@@ -15,7 +15,7 @@ use Rattle.lexical.specs.Text.{begins_with, first_passes}
 use Rattle.lexical.proofs.TextLemmas.{begins_front, begins_splits, seam_bytes}
 use Rattle.pm_token.specs.Content.{behind, before, between, cooked_content, is_hash, hashes, hashed_content}
 
--- ---- words on options
+-- ---- options
 
 pub some_same : {A : Type 0} (x y : A) → Some x ≡ Some y → x ≡ y
 some_same x y e = ap (λ o. unwrap_or o x) e
@@ -23,7 +23,7 @@ some_same x y e = ap (λ o. unwrap_or o x) e
 pub not_some : {A : Type 0} (x : A) → None ≡ Some x → ⊥
 not_some x e = both_ways _ refl (ap is_some e)
 
--- two options with the same value, if they have one
+-- two options are equal if each has the value of the other
 pub same_option : {A : Type 0} (a b : Option A) → ((x : A) → a ≡ Some x → b ≡ Some x)
     → ((x : A) → b ≡ Some x → a ≡ Some x) → a ≡ b
 same_option None None f g = refl
@@ -34,7 +34,7 @@ pub no_option : {A : Type 0} (a : Option A) → ((x : A) → a ≡ Some x → �
 no_option None f = refl
 no_option (Some x) f = absurd (f x refl)
 
--- ---- the front and the end
+-- ---- prefixes and endings
 
 pub behind_front : (front rest : List ℕ) → behind front (front ++ rest) ≡ Some rest
 unfolding behind
@@ -76,7 +76,7 @@ before_splits back text front e = before_cases (behind (reverse back) (reverse t
 pub before_none : (back text : List ℕ) → ((front : List ℕ) → text ≢ front ++ back) → before back text ≡ None
 before_none back text none = no_option (before back text) (λ front e. none front (before_splits back text front e))
 
--- ---- between a front and an end
+-- ---- the text between a prefix and an ending
 
 pub between_within : (front back content : List ℕ) → between front back (front ++ (content ++ back)) ≡ Some content
 between_within front back content = ap (option_and_then (before back)) (behind_front front (content ++ back))
@@ -94,7 +94,7 @@ between_splits front back text content e = between_cases (behind front text) fro
 
 -- ---- hash signs
 
--- quotes with hash signs round a content
+-- whether the text is the content in quotes, with equally many hash signs on both sides
 pub record IsHashed (text content : List ℕ) : Type 0 where
   pub signs : List ℕ
   pub all : list_all is_hash signs ≡ true
@@ -115,7 +115,7 @@ hashes_front (c ∷ signs) rest h =
     let parts = and_parts (is_hash c) (list_all is_hash signs) h in
     cond-true _ _ _ parts.0 ∙ ap (λ xs. c ∷ xs) (hashes_front signs rest parts.1)
 
--- a sign at the end may stand at the front
+-- a hash sign after hash signs may as well be before them
 turned : (signs : List ℕ) → list_all is_hash signs ≡ true → signs ++ codes "#" ≡ 35 ∷ signs
 turned [] h = refl
 turned (c ∷ signs) h =
@@ -139,7 +139,7 @@ hashed_within text content is =
     ap₂ (λ s t. between (s ++ codes "\"") (codes "\"" ++ s) t) signs is.whole
     ∙ between_within (is.signs ++ codes "\"") (codes "\"" ++ is.signs) content
 
--- the end of quotes with one sign more
+-- the closing quote with one more hash sign
 more_signs : (signs content : List ℕ) → list_all is_hash signs ≡ true
     → (signs ++ codes "\"") ++ (content ++ (codes "\"" ++ (35 ∷ signs)))
     ≡ ((signs ++ codes "\"") ++ (content ++ (codes "\"" ++ signs))) ++ codes "#"
@@ -162,7 +162,7 @@ behind_sign (c ∷ signs) text content h e =
           (signs ++ codes "\"") ++ (content ++ (34 ∷ (d ∷ signs)))) sign ∙ more_signs signs content parts.1),
     )
 
--- a sign at the front and one at the end
+-- one hash sign is removed at each end
 pub hashed_peel : (text : List ℕ) → hashed_content (35 ∷ (text ++ codes "#")) ≡ hashed_content text
 hashed_peel text = same_option _ _ inside outside
   where
@@ -184,7 +184,7 @@ hashed_peel text = same_option _ _ inside outside
           whole = ap (λ xs. 35 ∷ xs) (ap (λ xs. xs ++ codes "#") is.whole ∙ sym (more_signs is.signs content is.all));
         })
 
--- a sign at the front, and none at the end
+-- a hash sign at the start only
 pub hashed_alone : (text : List ℕ) → before (codes "#") text ≡ None → hashed_content (35 ∷ text) ≡ None
 hashed_alone text none =
     no_option (hashed_content (35 ∷ text)) (λ content e.
@@ -201,7 +201,7 @@ no_hashes (c ∷ text) e = step (is_hash c) refl
         (sym e ∙ (ap (λ d. behind (codes "#") (d ∷ text)) (eqb-true c 35 h) ∙ behind_front (codes "#") text)))
     step false h = cond-false _ _ _ h
 
--- no sign at the front
+-- no hash sign at the start
 pub hashed_plain : (text : List ℕ) → behind (codes "#") text ≡ None
     → hashed_content text ≡ cooked_content (codes "\"") text
 unfolding hashed_content
@@ -215,7 +215,7 @@ pub behind_found : (front text : List ℕ) (r : Option (Bor (List ℕ)))
 behind_found front text None h = behind_none front text h
 behind_found front text (Some x) h = ap (behind front) h ∙ behind_front front (chars x.now)
 
--- a text without an ASCII character at its end is a text
+-- a UTF-8 text without the ASCII character at its end is UTF-8
 utf8_before : (text front : List ℕ) (c : ℕ) → IsUtf8 text → text ≡ front ++ (c ∷ []) → c < 128 → IsUtf8 front
 utf8_before text front c utf8 whole low =
     let byte : get_or text (length front) 0 ≡ c = ap (λ xs. get_or xs (length front) 0) whole
@@ -239,15 +239,15 @@ before_found c text (Some x) low utf8 whole =
     ∙ ap (λ xs. chars x.now ++ xs) (chars-IsAscii (c ∷ []) (IsAscii-cons c [] low IsAscii-nil))) in
     ap (before (c ∷ [])) split ∙ before_back (c ∷ []) (chars x.now)
 
--- ---- the loop over the signs
+-- ---- the loop over the hash signs
 
--- a sign at the front, none at the end
+-- a hash sign at the start only: there is no content
 pub stop_signs : (all quoted rest : List ℕ) → hashed_content quoted ≡ hashed_content all
     → behind (codes "#") quoted ≡ Some rest → before (codes "#") rest ≡ None → hashed_content all ≡ None
 stop_signs all quoted rest same front back = sym same
     ∙ (ap hashed_content (behind_splits (codes "#") quoted rest front) ∙ hashed_alone rest back)
 
--- one at either end
+-- a hash sign at each end is removed
 pub past_signs : (all quoted rest inside : List ℕ) → hashed_content quoted ≡ hashed_content all
     → behind (codes "#") quoted ≡ Some rest → before (codes "#") rest ≡ Some inside
     → hashed_content inside ≡ hashed_content all
@@ -255,7 +255,7 @@ past_signs all quoted rest inside same front back =
     sym (hashed_peel inside) ∙ (ap (λ xs. hashed_content (35 ∷ xs)) (sym (before_splits (codes "#") rest inside back))
     ∙ (sym (ap hashed_content (behind_splits (codes "#") quoted rest front)) ∙ same))
 
--- what is left is shorter
+-- the remaining text is shorter
 pub past_shorter : (quoted rest inside : List ℕ) → behind (codes "#") quoted ≡ Some rest
     → before (codes "#") rest ≡ Some inside → length inside < length quoted
 past_shorter quoted rest inside front back =
@@ -263,7 +263,7 @@ past_shorter quoted rest inside front back =
     let last = ap length (before_splits (codes "#") rest inside back) in
     omega (arith, first, last, length-append inside (codes "#"))
 
--- none at the front
+-- no hash sign at the start: the rest is a quoted content
 pub no_signs : (all quoted : List ℕ) (r : Option (Bor (List ℕ))) → hashed_content quoted ≡ hashed_content all
     → behind (codes "#") quoted ≡ None
     → MatchOption r (cooked_content (codes "\"") quoted ≡ None) (λ x. cooked_content (codes "\"") quoted

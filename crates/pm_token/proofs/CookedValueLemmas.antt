@@ -1,4 +1,4 @@
--- The value of a content without CR is what the units of the grammar give that it is made of.
+-- The value of a content without CR is what the units of the grammar give.
 use Rattle.std.proofs.Common.{◌≡◌, ℕ, nat_eq, Bool, true, false, cond, not, ◌&&◌, ◌||◌, ◌==◌, ne_eqb, List, [], ◌∷◌}
 use Rattle.std.proofs.Common.{◌++◌, codes, Option, Some, None, Ok, map-id, refl, sym, ap, ap₂, ◌∙◌, subst, inl, inr}
 use Rattle.std.proofs.Math.Bool.{or-false}
@@ -66,7 +66,7 @@ or_none false b h = (refl, h)
 flipped : (c d : ℕ) → (d == c) ≡ false → (c == d) ≡ false
 flipped c d e = ne_eqb c d (λ same. eqb-false d c e (sym same))
 
--- a character that stands for itself
+-- a character that is a unit alone
 alone : {U : Type 0} (kind : Kind U) (c : ℕ) (unit : U) → is_string_plain c ≡ true → kind.of_char c ≡ Ok unit
     → Alone kind c unit
 alone kind c unit plain is =
@@ -81,15 +81,14 @@ alone kind c unit plain is =
           flipped c 34 quote.0;
     }
 
--- what the kind has to give: for each character that stands for itself, and for each escape, a unit that gives what is
--- made of them
+-- what a kind must provide: a unit with the right value for each character that may be alone, and for each escape
 pub record Fits {U : Type 0} (kind : Kind U) (spell : U → List ℕ) (makes : Makes) (plain : ℕ → Bool)
     (Escape : Form) : Type 0 where
   pub bare : (c : ℕ) → plain c ≡ true → is_string_plain c ≡ true
   pub char : Spells spell kind.of_char makes.of_char plain
   pub escape : (back r : List ℕ) → Escape back r → EscapesAs kind spell (92 ∷ back) (escape_value makes back)
 
--- there are units and no fault, and the units give this
+-- whether the text has no error, and its units give this value
 record Has {U : Type 0} (kind : Kind U) (spell : U → List ℕ) (end : ℕ) (text value : List ℕ) : Type 0 where
   units : List U
   give : Give (items_from kind end text) units
@@ -111,7 +110,7 @@ escape_stands letter back true line = ap (λ b. (b && pointwise nat_eq back []) 
 escape_stands letter back false line = ap (λ b. (b && pointwise nat_eq back []) || false) line
 
 module _ {U : Type 0} (kind : Kind U) (spell : U → List ℕ) (makes : Makes) (end : ℕ) where
-  -- what these units of the grammar give; and so where the blanks at the front are skipped
+  -- what the units of the grammar give, both if blanks at the start are kept and if they are skipped
   abbrev HasBoth : List ℕ → List (List ℕ) → Type 0
   HasBoth text parts = Has kind spell end text (joined makes false parts)
       × Has kind spell end (while_rest blank text) (joined makes true parts)
@@ -126,14 +125,14 @@ module _ {U : Type 0} (kind : Kind U) (spell : U → List ℕ) (makes : Makes) (
         value_is = ap₂ (λ x y. x ++ y) is has.value_is;
       }
 
-  -- one or the other, as the test says
+  -- the one of two facts that the test selects
   has_chosen : (b : Bool) (text other value another : List ℕ) → Has kind spell end text value
       → Has kind spell end other another
       → Has kind spell end (cond b text other) (cond b value another)
   has_chosen true text other value another has more = has
   has_chosen false text other value another has more = more
 
-  -- a character that stands for itself
+  -- the first unit is a character alone
   has_plain : (c : ℕ) (rest : List ℕ) (parts : List (List ℕ)) (unit : U) → Alone kind c unit
       → spell unit ≡ makes.of_char c → HasBoth rest parts
       → HasBoth (c ∷ rest) ((c ∷ []) ∷ parts)
@@ -152,7 +151,7 @@ module _ {U : Type 0} (kind : Kind U) (spell : U → List ℕ) (makes : Makes) (
             (sym (skips c is.no_return is.no_backslash)) both,
       )
 
-  -- an escape
+  -- the first unit is an escape
   has_escape : (back rest : List ℕ) (parts : List (List ℕ)) → EscapesAs kind spell (92 ∷ back) (escape_value makes back)
       → HasBoth rest parts
       → HasBoth (92 ∷ (back ++ rest)) ((92 ∷ back) ∷ parts)
@@ -172,7 +171,7 @@ module _ {U : Type 0} (kind : Kind U) (spell : U → List ℕ) (makes : Makes) (
           (cond b (joined makes true parts) (escape_value makes back ++ joined makes false parts)))
           (sym (stands skipping)) here
 
-  -- a line end after a backslash
+  -- the first unit is a line end after a backslash
   has_line : (rest : List ℕ) (parts : List (List ℕ)) → HasBoth rest parts
       → HasBoth (92 ∷ 10 ∷ rest) ((92 ∷ 10 ∷ []) ∷ parts)
   has_line rest parts has =
@@ -219,7 +218,7 @@ module _ {U : Type 0} (kind : Kind U) (spell : U → List ℕ) (makes : Makes) (
         let more = and_parts _ _ (sym (list_all-append (λ c. not (c == 13)) unit (concat parts)) ∙ clean) in
         has_unit unit (concat parts) (concat parts ++ r) parts clean each.0 (has_units parts r more.1 each.1)
 
--- the units that are read of a content give what those of the grammar give, however these divide it
+-- whether the content has no error, and its units give this value
 record Reads {U : Type 0} (kind : Kind U) (spell : U → List ℕ) (content value : List ℕ) : Type 0 where
   units : List U
   is : value_of (items kind content) ≡ Ok units

@@ -1,4 +1,4 @@
--- What is read of each escape that the grammar allows. Hex digits and codes have files of their own.
+-- The value of each escape that the grammar allows, but for hex digits and codes.
 use Rattle.std.proofs.Common.{◌≡◌, ℕ, ◌<◌, Bool, true, false, not, ◌&&◌, ◌==◌, nat_lt, List, [], ◌∷◌, codes, Option}
 use Rattle.std.proofs.Common.{Some, None, Ok, refl, sym, ap, ◌∙◌, subst, arith, inl, inr, eqb-true, ltb-true}
 use Rattle.std.specs.Char.{is_ascii}
@@ -37,12 +37,12 @@ that_is : (o : Option ℕ) (c : ℕ) → is_that o c ≡ true → o ≡ Some c
 that_is None c h = absurd (both_ways false refl h)
 that_is (Some d) c h = ap Some (eqb-true d c h)
 
--- a letter is read as the character that it stands for, which passes, and begins no other escape
+-- whether the letter is read as the character that it means, which passes, and begins no other kind of escape
 abbrev is_letter : (ℕ → Bool) → ℕ → Bool
 is_letter passes c = (is_that (letter c) (meant c) && passes (meant c)) &&
     (not (c == 120) && (not (c == 117) && not (c == 10)))
 
--- letters for which that holds
+-- whether this is true of each of the letters
 abbrev AreLetters : (ℕ → Bool) → List ℕ → Type 0
 AreLetters passes letters = (c : ℕ) → is_one_of letters c ≡ true → is_letter passes c ≡ true
 
@@ -74,7 +74,7 @@ letter_escapes kind spell makes passes letters back r spells are simple =
       value_is = gives.value_is ∙ sym (cond-false _ _ _ (not-true _ others.0) ∙ cond-false _ _ _ (not-true _ more.0));
     })
 
--- letters of ASCII, by trying all of it
+-- ASCII letters are tested one by one
 letters_are : (passes : ℕ → Bool) (letters : List ℕ) → list_all (λ d. nat_lt d 128) letters ≡ true
     → agree_below (λ x. is_one_of letters x && is_letter passes x) (is_one_of letters) 128 ≡ true
     → AreLetters passes letters

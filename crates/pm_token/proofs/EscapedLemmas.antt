@@ -1,4 +1,4 @@
--- What the constructors write is a literal.
+-- What the constructors write is a literal of the grammar.
 use Rattle.std.proofs.Common.{◌≡◌, ℕ, ◌≤◌, Bool, true, false, not, ◌&&◌, ◌==◌, List, [], ◌∷◌, ◌++◌, codes, length, refl}
 use Rattle.std.proofs.Common.{sym, ap, ne_eqb, ◌∙◌, subst, arith, inl, inr, append-nil}
 use Rattle.std.specs.Prelude.{filter}
@@ -27,11 +27,11 @@ use Rattle.pm_token.proofs.TextLemmas.{text_literal}
 
 -- ---- one character
 
--- neither this quote nor a backslash, LF, CR or the tab
+-- whether the character is neither this quote nor a backslash, LF, CR or tab
 abbrev pub is_plain : ℕ → ℕ → Bool
 is_plain quote c = not (is_one_of (quote ∷ codes "\\\n\r\t") c)
 
--- what a kind of literal allows after a backslash, and bare, of what is written for c
+-- whether a kind of literal allows what is written for c: the letters after a backslash, zeros, and c without them
 pub record Allows (class : ℕ → Bool) (Escape : Form) (plain : ℕ → List ℕ) (quote c : ℕ) : Type 0 where
   pub letter : (letter : ℕ) (r : List ℕ) → is_one_of (codes "nrt\\'\"") letter ≡ true → Escape (letter ∷ []) r
   pub zeros : (r : List ℕ) → (c == 0) ≡ true → Escape (codes "0") r × Escape (codes "x00") r
@@ -45,7 +45,7 @@ behind_backslash class Escape back r is =
 flipped : (c d : ℕ) → (c == d) ≡ false → (d == c) ≡ false
 flipped c d e = ne_eqb d c (λ same. eqb-false c d e (sym same))
 
--- what is none of these stands for itself
+-- any other character is plain
 bare : (quote c : ℕ) → (c == 9) ≡ false → (c == 13) ≡ false → (c == 10) ≡ false → (c == 92) ≡ false
     → (c == quote) ≡ false
     → is_plain quote c ≡ true
@@ -53,7 +53,7 @@ bare quote c tab cr lf backslash other =
     ap not (or_from _ _ (flipped c quote other) (or_from _ _ (flipped c 92 backslash)
     (or_from _ _ (flipped c 10 lf) (or_from _ _ (flipped c 13 cr) (or_from _ _ (flipped c 9 tab) refl)))))
 
--- whatever is written for a character, before anything
+-- what is written for a character is a unit, whatever follows
 pub written_stands : (class : ℕ → Bool) (Escape : Form) (plain : ℕ → List ℕ) (quote c : ℕ) (rest r : List ℕ)
     → Allows class Escape plain quote c
     → is_one_of (codes "nrt\\'\"") quote ≡ true → SingleUnit class Escape (written quote plain c rest) r
@@ -92,7 +92,7 @@ code allowed c p r is scalar fits =
           (and_from _ _ (ap is_scalar number ∙ is_scalar-IsScalar c scalar) (ap allowed number ∙ fits)),
     )
 
--- the escape by a character's number
+-- the escape with a character's number
 pub unicode : (letters : List ℕ) (pair : Rule) (allowed class : ℕ → Bool) (c : ℕ) (r : List ℕ) → IsScalar c
     → allowed c ≡ true
     → SingleUnit class (Stands (rule.escape_of letters pair allowed)) (escape_unicode c) r
@@ -116,7 +116,7 @@ unicode letters pair allowed class c r scalar fits =
       };
     }))))
 
--- one of these letters is one of all
+-- a letter of the shorter list is in the longer one
 pub letter_of_all : (letter : ℕ)
     → is_one_of (codes "nrt\\'\"") letter ≡ true → is_one_of (codes "nrt\\0'\"") letter ≡ true
 letter_of_all letter is =
@@ -176,7 +176,7 @@ body_unit class Escape p r is = elim is [
   }))
 ]
 
--- what is written for each character
+-- the text of each character, as it is written
 abbrev pub units_of : ℕ → (ℕ → List ℕ) → List ℕ → List (List ℕ)
 units_of quote plain [] = []
 units_of quote plain (c ∷ rest) = written quote plain c rest ∷ units_of quote plain rest
@@ -206,7 +206,7 @@ string_body text r all = record {
 
 -- ---- literals
 
--- what closes a literal, with no suffix
+-- the end of a literal without a suffix
 pub closed : (close r : List ℕ) → EndsSuffix r → Then (Exactly close) Suffix close r
 closed close r ends = record {
   front = close;
@@ -217,7 +217,7 @@ closed close r ends = record {
       inr (no_name r ends.start, refl);
 }
 
--- the text stands before whatever doesn't go on with a suffix
+-- the literal is a string before anything that can't continue a suffix
 pub string_stands : (text r : List ℕ) → IsText text → EndsSuffix r → Str (string_text text) r
 unfolding Str
 string_stands text r all ends = record {
@@ -242,7 +242,7 @@ pub string_whole : (text : List ℕ) → IsText text → IsLiteralToken (string_
 unfolding IsLiteralToken literals.Literal
 string_whole text all = inl (inl (inl (inl (string_before_stop text [] all refl))))
 
--- what `character` writes is one
+-- what `character` writes is a whole literal
 pub character_stands : (c : ℕ) (r : List ℕ) → IsScalar c → EndsSuffix r → Character (character_text c) r
 character_stands c r scalar ends = record {
   front = codes "'";
@@ -263,6 +263,6 @@ pub character_whole : (c : ℕ) → IsScalar c → IsLiteralToken (character_tex
 unfolding IsLiteralToken literals.Literal
 character_whole c scalar = inl (inl (inr (inl (character_stands c [] scalar (stop_ends [] refl)))))
 
--- what stands for a doc comment is built
+-- the string literal for a doc comment is a valid token
 pub doc_built : (text : List ℕ) → IsText text → IsBuiltToken (Literal (string_text text))
 doc_built text all = (string_whole text all, text_literal text all)

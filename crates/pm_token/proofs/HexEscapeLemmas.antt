@@ -1,4 +1,4 @@
--- What is read of two hex digits after `\x`, in each kind of string.
+-- How two hex digits after `\x` are read, in each kind of string.
 use Rattle.std.proofs.Common.{◌≡◌, ℕ, ◌*◌, ◌+◌, ◌<◌, ◌≤◌, true, false, not, ◌&&◌, ◌||◌, ◌==◌, nat_lt, nat_le, List, []}
 use Rattle.std.proofs.Common.{◌∷◌, ◌++◌, codes, refl, sym, ap, ap₂, ◌∙◌, subst, arith, inl, inr, eqb-true, ltb-true}
 use Rattle.std.proofs.Common.{leb-true}
@@ -46,7 +46,7 @@ pair_number a b high low =
     ap hex_value (cond-true _ _ _ high ∙ ap (λ p. a ∷ p) (cond-true _ _ _ low))
     ∙ (cond-false _ _ _ (no_line b low) ∙ ap (λ n. 16 * n + digit_value b) (cond-false _ _ _ (no_line a high) ∙ first))
 
--- two hex digits, whose number has a unit
+-- two hex digits are an escape, if their number has a unit
 pair_escapes : {U : Type 0} (kind : Kind U) (spell : U → List ℕ) (makes : Makes) (a b : ℕ) (back : List ℕ)
     → back ≡ 120 ∷ a ∷ b ∷ []
     → is_ascii_hexdigit a ≡ true → is_ascii_hexdigit b ≡ true

@@ -1,4 +1,4 @@
--- The number of a character in hex digits, and that they write it.
+-- The hex digits of a character's number.
 use Rattle.std.proofs.Common.{◌≡◌, ℕ, ◌+◌, ◌*◌, ◌/◌, ◌%◌, ◌<◌, ◌≤◌, true, false, cond, ◌&&◌, ◌||◌, ◌==◌, nat_lt, nat_le}
 use Rattle.std.proofs.Common.{List, [], ◌∷◌, ◌++◌, length, ltb-true, refl, ap, ◌∙◌, arith, inl, inr}
 use Rattle.std.specs.Prelude.{map, filter}
@@ -18,7 +18,7 @@ hex_digit d low = agree_below_at (λ x. is_ascii_hexdigit (digit_char x)) (λ x.
 not_underscore : (d : ℕ) → d < 16 → (digit_char d == 95) ≡ false
 not_underscore d low = agree_below_at (λ x. digit_char x == 95) (λ x. false) 16 d refl low
 
--- ---- the digits of these values
+-- ---- the digits of some values
 
 abbrev pub AreHex : List ℕ → Type 0
 AreHex ds = AllByRecursion (λ d. d < 16) ds
@@ -26,7 +26,7 @@ AreHex ds = AllByRecursion (λ d. d < 16) ds
 abbrev pub digits_of : List ℕ → List ℕ
 digits_of ds = map digit_char ds
 
--- the number of which these are the values, after n
+-- the number that these digits write after the number n
 abbrev pub value_behind : ℕ → List ℕ → ℕ
 value_behind n [] = n
 value_behind n (d ∷ ds) = value_behind (16 * n + d) ds
@@ -58,11 +58,11 @@ is_scalar-IsScalar c is = elim (scalar_cases c is) [
   | inr high ↦ or_right (nat_lt c 0xD800) _ (and_from _ _ (le-leb 0xE000 c high.0) (lt-ltb c 0x11_0000 high.1))
 ]
 
--- a character is below this number
+-- the bound of characters
 scalar_low : (c : ℕ) → IsScalar c → c < 0x11_0000
 scalar_low c is = elim (scalar_cases c is) [ inl low ↦ omega arith | inr high ↦ omega arith ]
 
--- the digits, from the first one on, are the number
+-- the digits of a number, from the first one that isn't zero, write the number
 value_1 : (c : ℕ) → c < 0x10 → value_behind 0 (c / 1 % 16 ∷ []) ≡ c
 value_1 c low = omega arith
 
@@ -84,7 +84,7 @@ value_6 : (c : ℕ) → c < 0x11_0000 → value_behind 0
     (c / 0x10_0000 % 16 ∷ c / 0x1_0000 % 16 ∷ c / 0x1000 % 16 ∷ c / 0x100 % 16 ∷ c / 0x10 % 16 ∷ c / 1 % 16 ∷ []) ≡ c
 value_6 c low = omega arith
 
--- p is the escape of c, by the values of its digits
+-- whether p is the `\u` escape of c, by the values of its digits
 pub record IsCoded (c : ℕ) (p : List ℕ) : Type 0 where
   pub first : ℕ
   pub others : List ℕ

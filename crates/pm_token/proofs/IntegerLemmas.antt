@@ -34,11 +34,11 @@ use Rattle.pm_token.specs.declared.literals.integers.Suffix.TheVariants.{I16, I3
 
 -- ---- suffixes
 
--- the letters of the prefixes of bases
+-- whether the letter is that of a base prefix: `x`, `o` or `b`
 abbrev is_base_letter : ℕ → Bool
 is_base_letter c = (c == 120) || ((c == 111) || (c == 98))
 
--- what ends a number after its digits, goes on with none of them, makes no prefix of a zero, and is ASCII
+-- whether the text may end an integer: it can't be read as digits or as part of a base prefix, and it is ASCII
 record EndsInteger (suffix : List ℕ) : Type 0 where
   ends : find tail suffix ≡ Some (suffix, [])
   stops : first_passes is_digit_or_underscore suffix ≡ false
@@ -90,7 +90,7 @@ no_prefix c rest h = false_from_ne_true _ (λ begins. elim (or_cases _ _ begins)
         let behind_zero : rest ≡ letter ∷ at.0 = ap (drop 1) (at.1 ∙ ap (λ x. x ++ at.0) e) in
         both_ways _ h (ap (first_passes is_base_letter) behind_zero ∙ is)
 
--- a digit is none of these letters, and a suffix begins with none
+-- no digit is the letter of a base prefix, and no suffix begins with one
 digit_no_letter : (c : ℕ) → is_ascii_digit c ≡ true → is_base_letter c ≡ false
 digit_no_letter c h = false_from_ne_true _ (λ is. elim (or_cases _ _ is) [
   | inl x ↦ absurd (both_ways (is_ascii_digit 120) refl (subst (λ d. is_ascii_digit d ≡ true) (eqb-true c 120 x) h))
@@ -129,7 +129,7 @@ integer_found c digits suffix all =
     ∙ (ap (and_find (find tail)) (finds_digits.complete (c ∷ digits) (suffix_text suffix) front)
     ∙ ap (behind (c ∷ digits)) (suffix_ends suffix).ends)
 
--- digits and such a suffix are a literal, which begins with a digit
+-- digits with a suffix are a literal, and it begins with a digit
 integer_literal : (digits : List ℕ) (suffix : Suffix) → IsNumeral 10 digits
     → Literal (digits ++ suffix_text suffix) [] × (first_passes is_ascii_digit (digits ++ suffix_text suffix) ≡ true)
 unfolding Literal
@@ -170,14 +170,14 @@ chars_signed (negsuc n) suffix h =
     chars_behind (45 ∷ decimal (suc n)) suffix
     (IsAscii-cons 45 (decimal (suc n)) (omega arith) (IsAscii-decimal_wide (suc n) (omega (arith, h.sfits))))
 
--- a number is written as its sign and the digits of its size
+-- a number is written as its sign and the digits of its absolute value
 pub sign_and_size : (z : ℤ) → sign (int_lt z (pos 0)) ++ decimal (unsigned_abs z) ≡ signed_decimal z
 sign_and_size (pos n) =
     ap (λ negative. sign negative ++ decimal n)
     (false_from_ne_true _ (λ less. let below : n < 0 = ltb-true n 0 less in omega (arith, below)))
 sign_and_size (negsuc n) = refl
 
--- a number that fits 64 bits fits 128
+-- a number of 64 bits also fits 128
 pub fits_wide : (z : ℤ) → SFits w64 z → SFits w128 z
 fits_wide (pos n) h = record { sfits = omega (arith, h.sfits) }
 fits_wide (negsuc n) h = record { sfits = omega (arith, h.sfits) }

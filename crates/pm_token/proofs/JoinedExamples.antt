@@ -1,20 +1,20 @@
--- Examples of what units give together, by computation.
+-- Examples of the values of units, by evaluation.
 use Rattle.std.proofs.Common.{◌≡◌, [], ◌∷◌, codes, refl, inl, inr}
 use lib.Utf8.{encode}
 use Rattle.lexical.specs.Form.{Many}
 use Rattle.lexical.specs.Quoted.{StringUnit}
 use Rattle.pm_token.specs.Joined.{c_joined, string_joined}
 
--- nothing is made of a backslash and LF, nor of the blanks after them
+-- a backslash and LF give nothing, nor do the blanks after them
 skipped : string_joined (codes "a" ∷ codes "\\\n" ∷ codes " " ∷ codes "\t" ∷ codes "\n" ∷ codes " " ∷ codes "b"
     ∷ codes " " ∷ []) ≡ codes "ab "
 skipped = refl
 
--- another line end stays, with the blanks after it
+-- a line end without a backslash is kept, with the blanks after it
 kept : string_joined (codes "a" ∷ codes "\n" ∷ codes " " ∷ codes "b" ∷ []) ≡ codes "a\n b"
 kept = refl
 
--- an escape is no blank, though it gives one
+-- an escape is not a blank, even if it gives one
 tab : string_joined (codes "\\\n" ∷ codes " " ∷ codes "\\t" ∷ codes " " ∷ []) ≡ codes "\t "
 tab = refl
 
@@ -35,7 +35,7 @@ c_units : c_joined (codes "\\xe9" ∷ (0xE9 ∷ []) ∷ codes "\\u{e9}" ∷ code
 unfolding encode
 c_units = refl
 
--- a content divided into the units of the grammar
+-- a content, divided into units of the grammar
 division : Many StringUnit (codes "a\\\n b") (codes "\"")
 division = record {
   units = codes "a" ∷ codes "\\\n" ∷ codes " " ∷ codes "b" ∷ [];

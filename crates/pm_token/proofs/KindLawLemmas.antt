@@ -1,4 +1,4 @@
--- The kinds of the literals that were made.
+-- The kinds of the literals that the constructors made.
 use Rattle.std.proofs.Common.{◌<◌, ℕ, List, [], ◌∷◌, refl, subst, sym}
 use Rattle.std.specs.List.{AllByRecursion}
 use Rattle.lexical.specs.Quoted.{CStr}

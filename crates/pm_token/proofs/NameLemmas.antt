@@ -20,7 +20,7 @@ use Rattle.pm_token.specs.declared.identifiers.faults.IdentError.TheVariants.{Em
 
 -- ---- texts
 
--- a text has no byte where it has no character
+-- a text has no bytes exactly if it has no characters
 pub empty_same : (text : List ℕ) → IsUtf8 text → (length text == 0) ≡ (length (chars text) == 0)
 empty_same text utf8 = sym (empty_encodes (chars text) ∙ ap (λ bytes. length bytes == 0) (encodes-chars text utf8))
   where
@@ -37,13 +37,13 @@ written_is true name = encodes-append (codes "r#") name
     ∙ ap (λ x. x ++ encode_utf8_all name) (encode_all_ascii (codes "r#") refl)
 written_is false name = refl
 
--- a plain identifier is written with the bytes of its name
+-- a plain identifier is written as the bytes of its name
 pub plain_bytes : (raw : Bool) (name s : List ℕ) → raw ≡ false → name ≡ chars s → IsUtf8 s
     → encode_utf8_all (raw_front raw ++ name) ≡ s
 plain_bytes true name s plain e own = absurd (both_ways _ plain refl)
 plain_bytes false name s plain e own = ap encode_utf8_all e ∙ encodes-chars s own
 
--- an identifier is written so in bytes where it is in characters
+-- equality of the written bytes is that of the written characters
 pub text_bytes : (raw : Bool) (name s text : List ℕ) → name ≡ chars s → IsUtf8 s → IsUtf8 text
     → (raw_front raw ++ s ≡ text) ↔ (raw_front raw ++ name ≡ chars text)
 text_bytes raw name s text e own utf8 =
@@ -53,7 +53,7 @@ text_bytes raw name s text e own utf8 =
       λ h. sym bytes ∙ (ap encode_utf8_all h ∙ encodes-chars text utf8),
     )
 
--- a plain identifier is written so where its name is so
+-- a plain identifier is written as its name
 pub plain_is : (raw : Bool) (name s text : List ℕ) (r : Bool) → raw ≡ false → name ≡ chars s → IsUtf8 s → IsUtf8 text
     → r ≡ pointwise nat_eq s text
     → IsTrue r ↔ (raw_front raw ++ name ≡ chars text)
@@ -63,7 +63,7 @@ plain_is false name s text r plain e own utf8 is =
     let bytes = text_bytes false name s text e own utf8 in
     (λ h. bytes.0 (same.0 (sym is ∙ h)), λ h. is ∙ same.1 (bytes.1 h))
 
--- a raw one where its name follows `r#`
+-- a raw identifier is written as `r#` and its name
 pub raw_is : (raw : Bool) (name s text rest : List ℕ) (r : Bool) → raw ≡ true → name ≡ chars s → IsUtf8 s
     → IsUtf8 text → text ≡ codes "r#" ++ rest → r ≡ pointwise nat_eq s rest
     → IsTrue r ↔ (raw_front raw ++ name ≡ chars text)
@@ -75,7 +75,7 @@ raw_is true name s text rest r marked e own utf8 split is =
       λ h. is ∙ same.1 (ap (drop 2) (bytes.1 h ∙ split)),
     )
 
--- a raw one isn't written as what doesn't begin `r#`
+-- a raw identifier is not written as a text that doesn't begin with `r#`
 pub raw_is_not : (raw : Bool) (name s text : List ℕ) → raw ≡ true → name ≡ chars s → IsUtf8 s → IsUtf8 text
     → ((rest : List ℕ) → text ≢ codes "r#" ++ rest)
     → IsTrue false ↔ (raw_front raw ++ name ≡ chars text)
@@ -85,7 +85,7 @@ raw_is_not true name s text marked e own utf8 none =
 
 -- ---- names
 
--- a text that is a name is one before nothing
+-- a text that is a name is a name of the grammar, with nothing after it
 pub is_name-Name : (text : List ℕ) → is_name text ≡ true → Name text []
 is_name-Name [] h = absurd (both_ways _ refl h)
 is_name-Name (c ∷ text) h =
@@ -100,7 +100,7 @@ is_name-Name (c ∷ text) h =
 
 -- ---- faults
 
--- a text without a fault is a name that is allowed
+-- a text without a fault is an allowed name
 pub built_from : (raw : Bool) (name : List ℕ) → IsText name → ident_fault raw name ≡ None
     → IsBuiltToken (tokens.Name raw name)
 built_from raw name text h =

@@ -1,4 +1,4 @@
--- Names of ASCII letters, digits and `_` have no fault.
+-- Names of ASCII letters, digits and `_` are valid.
 use Rattle.std.proofs.Common.{◌≡◌, ℕ, ◌<◌, Bool, true, false, not, ◌||◌, ◌==◌, List, [], ◌∷◌, length, None, refl}
 use Rattle.std.proofs.Common.{ap, sym, ◌∙◌, arith, inl, inr, nat_le, get_or, map, if◌then◌else◌, Some}
 use Rattle.std.specs.List.{list_all, range_with_len}
@@ -20,7 +20,7 @@ use Rattle.pm_token.specs.declared.identifiers.faults.TheConstants.{CONTINUES}
 use Rattle.pm_token.specs.declared.identifiers.faults.IdentError.TheVariants.{Reserved}
 use Rattle.pm_token.specs.IdentFault.{ident_fault, is_name, is_number, is_plain_continue, is_plain_start}
 
--- the table of what goes on with a plain name
+-- the table has the bytes that may continue a plain name
 continues_is : CONTINUES ≡ map is_plain_continue (range_with_len 0 256)
 continues_is = refl
 
@@ -28,7 +28,7 @@ pub continues_at : (byte : ℕ) → byte < 256 → get_or CONTINUES byte false �
 continues_at byte small = ap (λ table. get_or table byte false) continues_is
     ∙ get_or-map-range_with_len is_plain_continue 0 256 byte byte false small (omega arith)
 
--- what goes on with a plain name is ASCII
+-- a byte that may continue a plain name is ASCII
 plain_low : (c : ℕ) → is_plain_continue c ≡ true → c < 128
 plain_low c h = elim (or_cases (is_ascii_alphanumeric c) (c == 95) h) [
   | inl letter ↦ elim (or_cases (is_in_range 48 57 c || is_in_range 65 90 c) (is_in_range 97 122 c) letter) [
@@ -41,7 +41,7 @@ plain_low c h = elim (or_cases (is_ascii_alphanumeric c) (c == 95) h) [
   | inr line ↦ let e = eqb-true c 95 line in omega (arith, e)
 ]
 
--- a start goes on too
+-- a byte that may begin a plain name may also continue one
 start_continues : (c : ℕ) → is_plain_start c ≡ true → is_plain_continue c ≡ true
 start_continues c h = elim (or_cases (is_ascii_alphabetic c) (c == 95) h) [
   | inl letter ↦ elim (or_cases (is_in_range 65 90 c) (is_in_range 97 122 c) letter) [
@@ -54,7 +54,7 @@ start_continues c h = elim (or_cases (is_ascii_alphabetic c) (c == 95) h) [
   | inr line ↦ or_right (is_ascii_alphanumeric c) (c == 95) line
 ]
 
--- no digit is a start
+-- a byte that may begin a plain name is no digit
 start_no_digit : (c : ℕ) → is_plain_start c ≡ true → is_ascii_digit c ≡ false
 start_no_digit c h = false_from_ne_true (is_ascii_digit c) (λ digit.
     let top = leb-true c 57 (and_parts (nat_le 48 c) (nat_le c 57) digit).1 in
@@ -68,7 +68,7 @@ start_no_digit c h = false_from_ne_true (is_ascii_digit c) (λ digit.
       | inr line ↦ let e = eqb-true c 95 line in absurd (omega (arith, top, e))
     ])
 
--- where the front goes through, so does the first byte
+-- if all bytes may continue a plain name, so may the first
 first_plain : (b : ℕ) (bs : List ℕ) (p : Bool) → is_plain_continue b ≡ p
     → length (b ∷ bs) ≡ length (while_front is_plain_continue (b ∷ bs))
     → (is_plain_continue b ≡ true) × (length bs ≡ length (while_front is_plain_continue bs))
@@ -79,7 +79,7 @@ first_plain b bs false other e =
     let front = ap length (cond-false (is_plain_continue b) (b ∷ while_front is_plain_continue bs) [] other) in
     absurd (omega (arith, e, front))
 
--- where all bytes at the front are all that there are, each is plain
+-- if as many bytes as there are may continue a plain name, each may
 all_plain : (bs : List ℕ) → length bs ≡ length (while_front is_plain_continue bs)
     → list_all is_plain_continue bs ≡ true
 all_plain [] e = refl
@@ -97,7 +97,7 @@ all_continue [] all = refl
 all_continue (b ∷ bs) all = let parts = and_parts _ _ all in
     and_from _ _ (ident_continue_ascii b (plain_low b parts.0) ∙ parts.0) (all_continue bs parts.1)
 
--- of the faults a name can only have that it is reserved
+-- the only fault of a text that is a name is that it is reserved
 pub named_fault : (raw : Bool) (text : List ℕ) → is_name text ≡ true
     → ident_fault raw text ≡ (if not (is_allowed raw text) then Some Reserved else None)
 named_fault raw [] h = absurd (both_ways _ refl h)

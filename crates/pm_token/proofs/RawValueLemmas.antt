@@ -18,7 +18,7 @@ body_is front signs body all =
     ∙ hashed_within ((signs ++ codes "\"") ++ (body ++ (codes "\"" ++ signs))) body
     (record { signs = signs; all = all; whole = refl })
 
--- a text with another front has no content with escapes
+-- a text with another prefix has no content with escapes
 no_cooked : (front text : List ℕ) → begins_with front text ≡ false → cooked_content front text ≡ None
 no_cooked front text other = ap (option_and_then (before (codes "\""))) (behind_none front text other)
 

@@ -1,4 +1,4 @@
--- What is read of a content that the constructors wrote.
+-- How a content that the constructors wrote is read.
 use Rattle.std.proofs.Common.{◌≡◌, ◌⊎◌, ℕ, ◌<◌, true, false, ◌&&◌, ◌==◌, List, [], ◌∷◌, ◌++◌, codes, None, Ok, refl}
 use Rattle.std.proofs.Common.{sym, ap, ap₂, ◌∙◌, subst, arith, inl, inr, eqb-true}
 use Rattle.std.specs.declared.ops.Range.{Range}
@@ -13,9 +13,9 @@ use Rattle.literal_escaper.specs.Value.{last_fault, units_of, value_of, value_or
 use Rattle.literal_escaper.proofs.ItemLemmas.{items_none, items_past}
 use Rattle.pm_token.specs.Escaped.{written}
 
--- ---- items without a fault
+-- ---- items without an error
 
--- these units, and no fault
+-- whether the items have these units in order, and no error
 pub record Give {U : Type 0} (items : List (Item U)) (units : List U) : Type 0 where
   pub sound : last_fault items ≡ None
   pub all : units_of items ≡ units
@@ -30,7 +30,7 @@ give_more : {U : Type 0} (range : Range ℕ) (unit : U) (items : List (Item U)) 
     → Give ((range, Ok unit) ∷ items) (unit ∷ units)
 give_more range unit items units give = record { sound = give.sound; all = ap (λ us. unit ∷ us) give.all }
 
--- the front of the text is this unit, and this follows it
+-- whether the text begins with this unit, and `rest` follows it
 pub record Begins {U : Type 0} (kind : Kind U) (end : ℕ) (text : List ℕ) (unit : U) (rest : List ℕ) : Type 0 where
   pub range : Range ℕ
   pub items : (front kind end text).items ≡ (range, Ok unit) ∷ []
@@ -47,7 +47,7 @@ give_front kind end text unit rest units begins give =
 
 -- ---- one unit
 
--- an escape that gives this unit, whatever follows it
+-- whether p is an escape of this unit, whatever follows it
 pub record Escapes {U : Type 0} (kind : Kind U) (p : List ℕ) (unit : U) : Type 0 where
   pub letter : ℕ
   pub back : List ℕ
@@ -55,7 +55,7 @@ pub record Escapes {U : Type 0} (kind : Kind U) (p : List ℕ) (unit : U) : Type
   pub no_line : (letter == 10) ≡ false
   pub gives : (more : List ℕ) → escape kind (letter ∷ (back ++ more)) ≡ record { unit = Ok unit; rest = more }
 
--- a character that stands for itself
+-- whether p is the character c alone, which is this unit between such quotes
 pub record Stands {U : Type 0} (kind : Kind U) (quote c : ℕ) (p : List ℕ) (unit : U) : Type 0 where
   pub whole : p ≡ c ∷ []
   pub unit_is : kind.of_char c ≡ Ok unit
@@ -65,7 +65,7 @@ pub record Stands {U : Type 0} (kind : Kind U) (quote c : ℕ) (p : List ℕ) (u
   pub no_backslash : (c == 92) ≡ false
   pub no_quote : (c == quote) ≡ false
 
--- one of these, between such quotes
+-- whether p is an escape of this unit, or the character c alone
 abbrev pub WrittenAs : {U : Type 0} → Kind U → ℕ → ℕ → List ℕ → U → Type 0
 WrittenAs kind quote c p unit = Escapes kind p unit ⊎ Stands kind quote c p unit
 
@@ -90,7 +90,7 @@ begins_escape kind end p unit more is =
     subst (λ q. Begins kind end (q ++ more) unit more) (sym is.whole)
     (begins_read kind end 92 (is.letter ∷ (is.back ++ more)) unit more is.no_line (is.gives more))
 
--- a character that stands for itself between double quotes
+-- whether the character alone is this unit between double quotes
 pub record Alone {U : Type 0} (kind : Kind U) (c : ℕ) (unit : U) : Type 0 where
   pub unit_is : kind.of_char c ≡ Ok unit
   pub no_return : (c == 13) ≡ false
@@ -127,7 +127,7 @@ begins_written kind end c p unit more (inr is) = begins_stand kind end c p unit 
 
 -- ---- letters after a backslash
 
--- characters of ASCII are units of the kind by themselves
+-- whether each ASCII character alone is a unit of the kind
 pub record IsPlain (kind : Kind ℕ) : Type 0 where
   pub chars : (d : ℕ) → d < 128 → kind.of_char d ≡ Ok d
   pub zero : kind.of_hex 0 ≡ Ok 0
@@ -185,11 +185,11 @@ pub short_single : (kind : Kind ℕ) → IsPlain kind → Escapes kind (92 ∷ 3
 unfolding escape
 short_single kind is = simple kind 39 39 refl (λ more. refl) (is.chars 39 (omega arith))
 
--- the escape of a character that is this one
+-- an escape of d is one of c, if they are equal
 same_unit : (kind : Kind ℕ) (p : List ℕ) (c d : ℕ) → (c == d) ≡ true → Escapes kind p d → Escapes kind p c
 same_unit kind p c d e is = subst (Escapes kind p) (sym (eqb-true c d e)) is
 
--- whatever is written for a character, given what is written for one without a short escape
+-- any character is read back, if those without a short escape are
 pub written_as : (kind : Kind ℕ) (quote : ℕ) (how : ℕ → List ℕ) (c : ℕ) (rest : List ℕ) → IsPlain kind
     → Escapes kind (92 ∷ quote ∷ []) quote
     → ((c == 9) ≡ false → (c == 13) ≡ false → (c == 10) ≡ false → (c == 92) ≡ false → (c == quote) ≡ false

@@ -1,4 +1,4 @@
--- Short texts: bytes, and zeros up to the end of their room.
+-- Short texts: their bytes, and zeros in the rest of the array.
 use Rattle.std.proofs.Common.{◌≡◌, ◌+◌, ◌-◌, ◌≤◌, ◌++◌, ◌∷◌, ℕ, suc, zero, Bool, true, false, List, ap, ap₂}
 use Rattle.std.proofs.Common.{sym, ◌∙◌, arith, codes, length, take, drop, replicate, refl, length-append}
 use Rattle.std.proofs.Common.{append_assoc, IsUtf8}
@@ -12,12 +12,12 @@ use Rattle.std.proofs.lemmas.List.{take_at, drop_at, take-append-drop, length-ta
 use Rattle.std.proofs.lemmas.Slice.{take-put_mid, drop-put_mid, drop-append-drop}
 use Rattle.std.proofs.lemmas.Str.{IsUtf8-append, IsUtf8-from_ascii, encodes-chars}
 
--- lists that are the same up to a place and past it are the same
+-- lists are equal if their first n elements and the others are
 pub halves : (n : ℕ) (xs ys : List ℕ) → take n xs ≡ take n ys → drop n xs ≡ drop n ys → xs ≡ ys
 halves n xs ys front back =
     sym (take-append-drop n xs) ∙ (ap₂ (λ f b. f ++ b) front back ∙ take-append-drop n ys)
 
--- fronts that are the same are as long as each other
+-- equal prefixes have the same length
 pub same_length : (m n : ℕ) (xs ys : List ℕ) → m ≤ length xs → n ≤ length ys → take m xs ≡ take n ys → m ≡ n
 same_length m n xs ys fits goes same =
     sym (length-take-le m xs fits) ∙ (ap length same ∙ length-take-le n ys goes)
@@ -26,7 +26,7 @@ same_length m n xs ys fits goes same =
 pub same_bytes : (xs ys : List ℕ) → IsUtf8 xs → IsUtf8 ys → chars xs ≡ chars ys → xs ≡ ys
 same_bytes xs ys own other same = sym (encodes-chars xs own) ∙ (ap encode_utf8_all same ∙ encodes-chars ys other)
 
--- room into which a text was copied
+-- whether `bytes` is the array `room` with the text copied to its start
 pub record Holds (room bytes : List ℕ) (text : List ℕ) (end : ℕ) : Type 0 where
   pub front : take end bytes ≡ text
   pub rest : drop end bytes ≡ drop end room
@@ -38,7 +38,7 @@ copied room text x is = rw is (record {
   rest = drop-append-drop (length text) room text (length text) (omega arith) refl;
 })
 
--- and another behind it
+-- another text is copied after the first one
 pub copied_behind : (room bytes front back y : List ℕ) (start : ℕ) → start ≤ length bytes → y ≡ back
     → Holds room bytes front start
     → Holds room (put_mid start (start + length back - start) bytes y) (front ++ back) (start + length back)
@@ -66,7 +66,7 @@ pub sign_length : (negative : Bool) → from_bool negative ≡ length (sign nega
 sign_length true = refl
 sign_length false = refl
 
--- a sign and the digits behind it are short
+-- a sign and the digits after it are short
 pub number_short : (negative : Bool) (n start count : ℕ) → n < 2 ^ 64 → start ≡ from_bool negative
     → count ≡ length (decimal n) → start + count ≤ 21
 number_short true n start count small at is =
@@ -74,7 +74,7 @@ number_short true n start count small at is =
 number_short false n start count small at is =
     omega (arith, at, is, length-decimal-le 20 n (omega arith) (omega arith) small)
 
--- digits that were written behind the place of a sign, where a `-` stands at the front of the room
+-- digits are written after the sign; the first byte of the array is `-`
 pub digits_behind : (negative : Bool) (room bytes digits : List ℕ) (start end : ℕ) → start ≡ length (sign negative)
     → start + length digits ≡ end → 0 < length digits
     → take start bytes ≡ take start (45 ∷ room) → drop start bytes ≡ digits ++ drop end (45 ∷ room)
@@ -100,7 +100,7 @@ digits_behind negative room bytes digits start end at long some before written =
     past zero h = absurd (omega arith)
     past (suc n) h = refl
 
--- a sign, digits and what follows them
+-- a sign, digits and a suffix
 pub numbered : (negative : Bool) (n : ℕ) (suffix bytes y : List ℕ) (start count first : ℕ) → n < 2 ^ 64
     → start ≡ from_bool negative → count ≡ length (decimal n) → first + length (decimal n) ≡ start + count
     → take first bytes ≡ take first (45 ∷ replicate 21 0)

@@ -1,4 +1,4 @@
--- Examples of the values of characters and bytes, by computation.
+-- Examples of the values of characters and bytes, by evaluation.
 use Rattle.std.proofs.Common.{◌≡◌, codes, Ok, Err, refl}
 use Rattle.literal_escaper.specs.Escape.{escape, hex_escape}
 use Rattle.literal_escaper.specs.Single.{single}
@@ -6,7 +6,7 @@ use Rattle.pm_token.specs.declared.literals.conversion.ConversionErrorKind.TheVa
 use Rattle.pm_token.specs.Content.{behind, before}
 use Rattle.pm_token.specs.SingleValue.{byte_value, char_value}
 
--- an escape, and not its backslash
+-- the value is that of the escape, and not its backslash
 escaped_quote : char_value (codes "'\\''") ≡ Ok 39
 unfolding behind before single escape
 escaped_quote = refl
@@ -19,7 +19,7 @@ greatest_byte : byte_value (codes "b'\\xFF'") ≡ Ok 255
 unfolding behind before single escape hex_escape
 greatest_byte = refl
 
--- a suffix, a string, and each for the other
+-- rejected: a suffix, a string, and characters and bytes for each other
 suffixed : char_value (codes "'a'u8") ≡ Err InvalidLiteralKind
 unfolding behind before
 suffixed = refl

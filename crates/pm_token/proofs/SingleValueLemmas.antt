@@ -1,4 +1,4 @@
--- The values of characters and bytes.
+-- The values of character and byte literals.
 use Rattle.std.proofs.Common.{◌≡◌, ◌↔◌, ℕ, Bool, true, false, ◌==◌, ne_eqb, List, [], ◌∷◌, ◌++◌, codes, Option, Some}
 use Rattle.std.proofs.Common.{None, Result, Ok, Err, IsOk, IfErr, is_ok, refl, sym, ap, ap₂, ◌∙◌, subst, inl, inr}
 use Rattle.std.proofs.Common.{append_assoc}
@@ -36,7 +36,7 @@ use Rattle.pm_token.proofs.ValueLawLemmas.{bytes_come_back, characters_come_back
 flipped : (c d : ℕ) → (d == c) ≡ false → (c == d) ≡ false
 flipped c d e = ne_eqb c d (λ same. eqb-false d c e (sym same))
 
--- a character that may stand bare
+-- a character that may be alone is a unit
 bare_unit : (kind : Kind ℕ) (c : ℕ) → is_char_plain c ≡ true → kind.of_char c ≡ Ok c
     → (single kind (c ∷ [])).unit ≡ Ok c
 bare_unit kind c plain is =
@@ -55,7 +55,7 @@ bare_unit kind c plain is =
       no_quote = flipped c 39 quote.0;
     })
 
--- what the kind has to give: for each character that may stand bare, and for each escape, a unit
+-- what a kind must provide: a unit for each character that may be alone, and for each escape
 record Fits (kind : Kind ℕ) (plain : ℕ → Bool) (Escape : Form) : Type 0 where
   bare : (c : ℕ) → plain c ≡ true → is_char_plain c ≡ true
   char : (c : ℕ) → plain c ≡ true → kind.of_char c ≡ Ok c
@@ -71,7 +71,7 @@ byte_fits = record {
   escape = byte_escape;
 }
 
--- the unit between single quotes is one of the escaper's
+-- the unit between single quotes is read as a unit
 one_unit : (kind : Kind ℕ) (plain : ℕ → Bool) (Escape : Form) (unit r : List ℕ) → Fits kind plain Escape
     → SingleUnit plain Escape unit r
     → (n : ℕ) × ((single kind unit).unit ≡ Ok n)
@@ -87,7 +87,7 @@ one_unit kind plain Escape unit r fits (inr then) =
 
 -- ---- the whole literal
 
--- a content that is one unit
+-- a content of one unit gives the literal's value
 single_is : (kind : Kind ℕ) (front text content : List ℕ) (unit : ℕ) → text ≡ front ++ (content ++ codes "'")
     → (single kind content).unit ≡ Ok unit
     → single_value kind front text ≡ Ok unit
@@ -136,14 +136,14 @@ byte_values_come_back b low =
 
 -- ---- which literals have a value
 
--- a literal that begins with another text
+-- a literal cannot have another prefix than its own
 other : (front g text rest : List ℕ) (A : Form) → differ front g ≡ true → text ≡ front ++ rest
     → Then (Exactly g) A text [] → ⊥
 other front g text rest A apart e h =
     apart_fronts front g (λ p r. Unit {0}) A apart text text [] []
     (record { front = front; back = rest; whole = e; first = refl; second = tt }) h refl
 
--- what begins so is between quotes
+-- a literal that begins with this character is between quotes
 begins_quoted : (c : ℕ) (text rest : List ℕ) → is_ascii_digit c ≡ false → (c == 40) ≡ false → (c == 45) ≡ false
     → IsLiteralText text → text ≡ c ∷ rest → QuotedLiteral text []
 unfolding IsLiteralToken literals.Literal
@@ -159,7 +159,7 @@ begins_quoted c text rest digit opener minus (inr negative, all) e =
     absurd (both_ways (first_passes (λ d. d == 45) text) (ap (first_passes (λ d. d == 45)) e ∙ minus)
     (ap (first_passes (λ d. d == 45)) negative.whole))
 
--- of the literals between quotes those that begin with `'` are characters
+-- of the literals between quotes, those that begin with `'` are characters
 begins_character : (text rest : List ℕ) → text ≡ 39 ∷ rest → QuotedLiteral text [] → Character text []
 unfolding Str
 begins_character text rest e h = elim h [
@@ -185,7 +185,7 @@ begins_character text rest e h = elim h [
   ]
 ]
 
--- and those that begin with `b'` bytes
+-- of the literals between quotes, those that begin with `b'` are bytes
 begins_byte : (text rest : List ℕ) → text ≡ 98 ∷ 39 ∷ rest → QuotedLiteral text [] → Byte text []
 unfolding Str
 begins_byte text rest e h = elim h [
@@ -211,12 +211,12 @@ begins_byte text rest e h = elim h [
   ]
 ]
 
--- there is a value exactly of such a literal without a suffix, and else it is another kind of literal
+-- whether exactly literals of this form without a suffix have a value, and all others give `InvalidLiteralKind`
 pub record IsExact (Quoted : Form) (text : List ℕ) (value : Result ℕ ConversionErrorKind) : Type 0 where
   pub ok : IsOk value ↔ IsUnsuffixed Quoted text
   pub kind : IfErr value (λ error. error ≡ InvalidLiteralKind)
 
--- that literal has one
+-- a literal of this form without a suffix has a value
 unsuffixed_value : (kind : Kind ℕ) (front text : List ℕ) (value : Result ℕ ConversionErrorKind)
     → HasSingle kind front text value
     → ends_with 39 text ≡ true → (unit : ℕ) × (value ≡ Ok unit)

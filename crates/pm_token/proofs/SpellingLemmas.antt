@@ -1,4 +1,4 @@
--- Lemmas on how identifiers are written.
+-- How identifiers are written.
 use Rattle.std.proofs.Common.{◌≡◌, ℕ, Bool, true, false, List, ◌++◌, codes, refl, sym, ap}
 use Rattle.std.specs.Str.{chars}
 use Rattle.std.proofs.lemmas.Bool.{both_ways, cond_both}
@@ -10,13 +10,13 @@ use Rattle.lexical.proofs.TextLemmas.{is_ascii}
 use Rattle.pm_token.specs.Leaf.{Name}
 use Rattle.pm_token.specs.Spelling.{name_text, spelled}
 
--- `spelled` is `chars`, in words that compute
+-- `spelled` equals `chars`
 pub spelled_is : (text : List ℕ) → spelled text ≡ chars text
 spelled_is text =
     cond_both (all_ascii text) text (chars text) (λ x. x ≡ chars text)
     (λ ascii. sym (chars-IsAscii text (is_ascii text ascii))) (λ other. refl)
 
--- an identifier that is written without `r#` is the plain one of that name
+-- if an identifier is written without `r#`, it is plain and has that name
 pub plain_as_written : (ident : Name) (text : List ℕ) → begins_with (codes "r#") text ≡ false → name_text ident ≡ text
     → (ident.name ≡ text) × (ident.raw ≡ false)
 plain_as_written ident text front is = by_raw ident.raw ident.name is

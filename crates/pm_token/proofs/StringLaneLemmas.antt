@@ -1,4 +1,4 @@
--- Words of 8 bytes: which of them stand for themselves in a string that is written.
+-- The test of 8 bytes at a time for characters that need no escape in a string.
 use Rattle.std.proofs.Common.{◌≡◌, ℕ, ◌+◌, ◌-◌, ◌/◌, ◌^◌, ◌<◌, ◌≤◌, zero, suc, Bool, true, false, cond}
 use Rattle.std.proofs.Common.{List, [], ◌∷◌, length, nat_eq, take}
 use Rattle.std.proofs.Common.{refl, sym, ap, ap₂, ◌∙◌, subst, arith, w64}
@@ -15,11 +15,11 @@ use Rattle.pm_token.specs.Escaped.{is_plain_ascii}
 use Rattle.lexical.proofs.LaneLemmas.{AreBytes, add_each, and_each, each_is, eights, first_stop, low, low_word}
 use Rattle.lexical.proofs.LaneLemmas.{not_each, or_each, read, repeated, same_each, xor_each}
 
--- what becomes of a byte: the highest bit is set unless it is the other
+-- a byte whose highest bit is set unless its low bits are those of the other byte
 abbrev apart : ℕ → ℕ → ℕ
 apart other b = bit_xor (low b) other + 127
 
--- and the highest bit is set unless it is of a control character
+-- a byte whose highest bit is set unless its low bits are those of a control character
 abbrev printed : ℕ → ℕ
 printed b = low b + 96
 
@@ -29,7 +29,7 @@ on b = bit_and (bit_and (bit_and (printed b) (apart 127 b)) (apart 92 b)) (apart
 abbrev stop : ℕ → ℕ
 stop b = bit_and (bit_or (255 - on b) b) 128
 
--- and so of a word
+-- a word of which each byte is tested as by `apart`
 abbrev pub apart_word : ℕ → ℕ → ℕ
 apart_word others word = bit_xor (low_word word) others + 0x7F7F_7F7F_7F7F_7F7F
 
@@ -50,14 +50,14 @@ stop_word word = bit_and (bit_or (2 ^ 64 - 1 - on_word word) word) 0x8080_8080_8
 abbrev plain_stop : ℕ → ℕ
 plain_stop b = cond (is_plain_ascii 34 b) 0 128
 
--- how many bytes at the front stand for themselves
+-- how many of the first bytes need no escape
 abbrev front_size : List ℕ → ℕ
 front_size bytes = length (while_front (is_plain_ascii 34) bytes)
 
 stops_are : agree_below (λ b. nat_eq (stop b) (plain_stop b)) (λ b. true) 256 ≡ true
 stops_are = refl
 
--- of 8 bytes
+-- lemmas on a word of 8 bytes
 module _ (bytes : List ℕ) (l : length bytes ≡ 8) (are : AreBytes bytes) (word : ℕ)
     (is : word ≡ from_le_bytes w64 bytes) where
   constant : (k n : ℕ) → n ≡ repeated k 8 → n ≡ word_of (λ b. k) bytes
@@ -109,7 +109,7 @@ module _ (bytes : List ℕ) (l : length bytes ≡ 8) (are : AreBytes bytes) (wor
       ∙ and_each (λ b. bit_or (255 - on b) b) (λ b. 128) refl refl bytes are
       ∙ same_each stop plain_stop stops_are bytes are
 
-  -- by what was read of them
+  -- the lowest set bit gives the number of bytes
   pub string_in_word : trailing_zeros w64 (stop_word word) / 8 ≡ length (while_front (is_plain_ascii 34) bytes)
   string_in_word =
       ap (λ w. count_trailing_zeros 64 w / 8) stops_is
@@ -118,7 +118,7 @@ module _ (bytes : List ℕ) (l : length bytes ≡ 8) (are : AreBytes bytes) (wor
       l
       (first_stop (is_plain_ascii 34) bytes)
 
-  -- where no bit is set
+  -- if no bit is set, no byte needs an escape
   pub string_past_word : stop_word word ≡ 0 → 8 ≡ length (while_front (is_plain_ascii 34) bytes)
   string_past_word none =
       ap (λ n. n / 8) (sym (trailing_of_zero 64)) ∙ ap (λ w. count_trailing_zeros 64 w / 8) (sym none) ∙ string_in_word
@@ -129,7 +129,7 @@ string_in_word_ends word some =
     let at = bit_at-trailing_zeros w64 (stop_word word) (omega (arith, some)) (omega (arith, le)) in
     omega (arith, at.0)
 
--- no sum is too large
+-- no addition overflows
 pub xor_low : (word others : ℕ) → others < 2 ^ 63 → bit_xor (low_word word) others < 2 ^ 63
 xor_low word others small =
     let le = and_le_r word 0x7F7F_7F7F_7F7F_7F7F in
@@ -138,7 +138,7 @@ xor_low word others small =
 pub low_small : (word : ℕ) → low_word word ≤ 0x7F7F_7F7F_7F7F_7F7F
 low_small word = and_le_r word 0x7F7F_7F7F_7F7F_7F7F
 
--- ---- a run that ends in a front of the bytes
+-- ---- the first bytes that need no escape
 
 short_or_not : (test : ℕ → Bool) (k b : ℕ) (bytes : List ℕ) (on : Bool)
     → (length (while_front test (take k bytes)) < k

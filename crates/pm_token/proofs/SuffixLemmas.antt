@@ -1,4 +1,4 @@
--- A literal that a quote ends has no suffix, and its content is the body of the grammar.
+-- If a quote ends a literal, the literal has no suffix, and its content is the body of the grammar.
 use Rattle.std.proofs.Common.{◌≡◌, ℕ, true, false, List, [], ◌∷◌, ◌++◌, arith, codes, append-nil, refl, sym, ap, ap₂}
 use Rattle.std.proofs.Common.{◌∙◌, subst₂, inl, inr, eqb-true}
 use Rattle.std.specs.List.{list_all}
@@ -11,19 +11,19 @@ use Rattle.lexical.specs.Text.{ends_with}
 use Rattle.lexical.proofs.ClassLemmas.{ident_continue_ascii, ident_start_ascii}
 use Rattle.lexical.proofs.TextLemmas.{ends_back}
 
--- the end of a text is the end of what it ends with
+-- joined texts end as the second of them does
 ends_append : (c : ℕ) (front : List ℕ) (d : ℕ) (back : List ℕ)
     → ends_with c (front ++ (d ∷ back)) ≡ ends_with c (d ∷ back)
 ends_append c [] d back = refl
 ends_append c (x ∷ []) d back = refl
 ends_append c (x ∷ (y ∷ front)) d back = ends_append c (y ∷ front) d back
 
--- no name has this character
+-- no identifier has this character
 record IsNoName (quote : ℕ) : Type 0 where
   no_start : is_ident_start quote ≡ false
   no_continue : is_ident_continue quote ≡ false
 
--- so none ends with it
+-- the rest of an identifier does not end with this character
 continues_plain : (quote : ℕ) → IsNoName quote → (text : List ℕ) → list_all is_ident_continue text ≡ true
     → ends_with quote text ≡ true → ⊥
 continues_plain quote out [] all ends = both_ways false refl ends
@@ -40,7 +40,7 @@ name_plain quote out c [] start all ends =
     both_ways (is_ident_start quote) out.no_start (ap is_ident_start (sym (eqb-true c quote ends)) ∙ start)
 name_plain quote out c (d ∷ text) start all ends = continues_plain quote out (d ∷ text) all ends
 
--- after a quote that ends the text no suffix stands
+-- if a quote ends the text, no suffix follows the closing quote
 no_suffix_behind : (quote : ℕ) → IsNoName quote → (body suffix r : List ℕ) → Suffix suffix r
     → ends_with quote (body ++ (quote ∷ suffix)) ≡ true
     → suffix ≡ []
@@ -67,19 +67,19 @@ single_out = record {
       ident_continue_ascii 39 (omega arith);
 }
 
--- nor after a single one
+-- if a single quote ends the text, no suffix follows the closing one
 pub no_single_suffix : (body suffix r : List ℕ) → Suffix suffix r → ends_with 39 (body ++ (39 ∷ suffix)) ≡ true
     → suffix ≡ []
 no_single_suffix = no_suffix_behind 39 single_out
 
--- what stands before the quote is the same in both
+-- the body of the grammar is the text before the quote at the end
 body_same : (body content suffix r : List ℕ) → Suffix suffix r
     → body ++ (34 ∷ suffix) ≡ content ++ codes "\"" → body ≡ content
 body_same body content suffix r is same =
     let none = no_suffix_behind 34 double_out body suffix r is (ap (ends_with 34) same ∙ ends_back 34 content) in
     append_cancel_right body content (codes "\"") (sym (ap (λ s. body ++ (34 ∷ s)) none) ∙ same)
 
--- the units of the content, which the quote follows
+-- the content is made of units of the grammar, up to the quote
 pub content_units : (front content : List ℕ) (Unit : Form)
     → Cooked front Unit (front ++ (content ++ codes "\"")) [] → Many Unit content (codes "\"")
 content_units front content Unit is =

@@ -1,4 +1,4 @@
--- Tokens that tests are made of.
+-- Tokens for the tests.
 use Rattle.std.proofs.Common.{false, [], ◌∷◌, refl}
 use Rattle.std.specs.Str.{chars}
 use Rattle.lexical.specs.Token.{Name}

@@ -1,4 +1,4 @@
--- A text that grows, by its characters.
+-- The characters of a text while it is written.
 use Rattle.std.proofs.Common.{◌≡◌, ℕ, ◌≤◌, ◌<◌, true, false, List, [], ◌∷◌, ◌++◌, if◌then◌else◌, Result, Ok, Err, OnOk}
 use Rattle.std.proofs.Common.{refl, sym, ap, ap₂, ◌∙◌, subst}
 use Rattle.std.proofs.Common.{append-nil, append_assoc, length, length-append, arith, ne_eqb, take, drop, leb-true}
@@ -18,19 +18,19 @@ use Rattle.lexical.proofs.FinderLemmas.{finds_run}
 use Rattle.lexical.proofs.Scan.{run_boundary, run_front, run_rest}
 use Rattle.pm_token.specs.Escaped.{is_plain_ascii, written_char, written, content}
 
--- the characters of one character's bytes
+-- the bytes of one character are that character
 chars-encode : (c : ℕ) → IsScalar c → chars (encode_utf8 c) ≡ c ∷ []
 chars-encode c is = chars_past_char (encode_utf8 c) [] c (IsUtf8-encode c is) (sym (append-nil (encode_utf8 c)))
     ∙ ap (λ cs. c ∷ cs) chars-nil
 
--- after `push`
+-- `push` adds a character
 pub chars_pushed : {E : Type 0} (r : Result (Unit {0}) E) (new old : List ℕ) (c : ℕ) → IsUtf8 old → IsScalar c
     → new ≡ (if is_ok r then old ++ encode_utf8 c else old) → OnOk r (chars new ≡ chars old ++ c ∷ [])
 chars_pushed (Ok v) new old c utf8 is e = ap chars e
     ∙ (chars-append old (encode_utf8 c) utf8 ∙ ap (λ cs. chars old ++ cs) (chars-encode c is))
 chars_pushed (Err v) new old c utf8 is e = tt
 
--- after `push_str`
+-- `push_str` adds the characters of a text
 pub chars_texted : {E : Type 0} (r : Result (Unit {0}) E) (new old text : List ℕ) → IsUtf8 old
     → new ≡ (if is_ok r then old ++ text else old) → OnOk r (chars new ≡ chars old ++ chars text)
 chars_texted (Ok v) new old text utf8 e = ap chars e ∙ chars-append old text utf8
@@ -51,13 +51,13 @@ pub content_end : (quote : ℕ) (old text : List ℕ) → length text ≡ 0
 content_end quote old [] e = ap (λ cs. old ++ content quote written_char cs) chars-nil ∙ append-nil old
 content_end quote old (b ∷ text) e = absurd (omega arith)
 
--- ---- characters that stand for themselves
+-- ---- characters that need no escape
 
--- none is past ASCII
+-- no such character is past ASCII
 pub plain_past : (quote c : ℕ) → 128 ≤ c → is_plain_ascii quote c ≡ false
 plain_past quote c high = and_right (nat_le 32 c) _ (and_left _ _ (le-ltb c 127 (omega arith)))
 
--- each is written as it is
+-- each such character is written as itself
 pub plain_written : (quote c : ℕ) (rest : List ℕ) → is_plain_ascii quote c ≡ true
     → written quote written_char c rest ≡ c ∷ []
 plain_written quote c rest is =
@@ -77,7 +77,7 @@ plain_written quote c rest is =
     ∙ cond-true _ _ _ (cond-true _ _ _ (lt-ltb c 128 (omega arith))
     ∙ and_from _ _ low.0 (ap not (ne_eqb c 127 (λ e. omega arith))))))))))
 
--- a character between single quotes
+-- the literal of such a character, between single quotes
 pub plain_between : (c : ℕ) → is_plain_ascii 39 c ≡ true
     → chars (39 ∷ c ∷ 39 ∷ []) ≡ 39 ∷ (written 39 written_char c [] ++ 39 ∷ [])
 plain_between c is =
@@ -99,7 +99,7 @@ content_plain quote (c ∷ front) rest all =
     let parts = and_parts _ _ all in
     ap₂ (λ x y. x ++ y) (plain_written quote c (front ++ rest) parts.0) (content_plain quote front rest parts.1)
 
--- what is written and what is still to be written stay the same
+-- the text so far and that of the remaining characters make up the result
 pub content_past : (quote : ℕ) (old new front text rest : List ℕ) → text ≡ front ++ rest → new ≡ old ++ front
     → list_all (is_plain_ascii quote) front ≡ true
     → new ++ content quote written_char rest ≡ old ++ content quote written_char text
@@ -108,17 +108,17 @@ content_past quote old new front text rest split wrote plain =
     ∙ (append_assoc old front (content quote written_char rest)
     ∙ ap (λ x. old ++ x) (sym (ap (content quote written_char) split ∙ content_plain quote front rest plain)))
 
--- what follows it is no longer than the text
+-- the rest of a text is no longer than the text
 pub past_shorter : (front text rest : List ℕ) → text ≡ front ++ rest → length rest ≤ length text
 past_shorter front text rest split = omega (arith, ap length split, length-append front rest)
 
--- so many bytes are of the front that stands for itself
+-- lemmas on the first n bytes, if they need no escape
 module _ (quote n : ℕ) (text : List ℕ) (utf8 : IsUtf8 text)
     (size : n ≡ length (while_front (is_plain_ascii quote) text)) where
   pub plain_boundary : IsCharBoundary text n
   plain_boundary = run_boundary (is_plain_ascii quote) false (plain_past quote) text utf8 n size
 
-  -- and they are written
+  -- the first n bytes are written
   pub plain_pushed : (old new back : List ℕ) → IsUtf8 old → new ≡ old ++ take n text → back ≡ drop n text
       → (front : List ℕ) × (chars text ≡ front ++ chars back) × (chars new ≡ chars old ++ front)
       × Run (is_plain_ascii quote) front (chars back)

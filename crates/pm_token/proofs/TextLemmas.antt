@@ -1,4 +1,4 @@
--- Texts: what they are joined of, and that the literal of one is one.
+-- Texts: joined ones, and the literals of texts.
 use Rattle.std.proofs.Common.{ℕ, true, ◌&&◌, ◌==◌, String, List, [], ◌∷◌, ◌++◌, codes, refl, sym, subst}
 use Rattle.std.specs.Prelude.{string_bytes}
 use Rattle.std.specs.Char.{IsScalar, digit_char}
@@ -31,7 +31,7 @@ text_one c is = and_from _ _ is refl
 pub text_string : {Z : Type 0} (s : String Z) → IsText (chars (string_bytes s))
 text_string s = scalars-chars (string_bytes s) (IsUtf8-string_bytes s)
 
--- ---- what is written for a text
+-- ---- what the constructors write is a text
 
 text_digits : (ds : List ℕ) → AreHex ds → IsText (digits_of ds)
 text_digits [] all = refl

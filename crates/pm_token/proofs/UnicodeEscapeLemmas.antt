@@ -1,4 +1,4 @@
--- What is read of the code of a character, in braces after `\u`.
+-- How the code of a character is read, in braces after `\u`.
 use Rattle.std.proofs.Common.{◌≡◌, ℕ, ◌*◌, ◌+◌, ◌<◌, Bool, true, false, not, ◌&&◌, ◌||◌, ◌==◌, nat_lt, nat_le, List, []}
 use Rattle.std.proofs.Common.{◌∷◌, ◌++◌, length, Ok, refl, sym, ap, ap₂, ◌∙◌, subst, arith, inl, inr, eqb-true}
 use Rattle.std.proofs.Common.{ltb-true, leb-true}
@@ -30,7 +30,7 @@ part_code : (c : ℕ) → is_code_part c ≡ true → is_code_character c ≡ tr
 part_code c h = (and_parts _ _ (agree_below_at (λ x. is_code_part x && is_code_character x) is_code_part 128 c refl
     (part_low c h) ∙ h)).1
 
--- a part is a hex digit, or nothing is made of it
+-- a part of the code is a hex digit or `_`, which is skipped
 part_hex : (c : ℕ) → is_code_part c ≡ true → (is_hex c ≡ is_ascii_hexdigit c) × ((c == 95) ≡ not (is_hex c))
 part_hex c h =
     let low = part_low c h in
@@ -133,7 +133,7 @@ unicode_is kind allowed c cs more hex all is =
     cond-false _ _ _ plain.0 ∙ (cond-false _ _ _ plain.1 ∙ (cond-true _ _ _ (hex_is c hex)
     ∙ coded_is kind allowed (c ∷ cs) more (and_from _ _ (ap (λ b. b || (c == 95)) hex) all) is))
 
--- the number that stands in braces
+-- the number in the braces
 code_in : (n : ℕ) (cs : List ℕ) → list_all is_code_part cs ≡ true
     → fold value_step n (filter is_ascii_hexdigit (cs ++ 125 ∷ [])) ≡ fold value_step n cs
 code_in n [] all = refl

@@ -1,4 +1,4 @@
--- The values of literals that were made.
+-- The values of literals that the constructors made.
 use Rattle.std.proofs.Common.{◌≡◌, ℕ, ◌*◌, ◌+◌, ◌/◌, ◌%◌, ◌<◌, Bool, true, false, ◌&&◌, ◌||◌, ◌==◌, nat_eq, nat_lt}
 use Rattle.std.proofs.Common.{nat_le, List, [], ◌∷◌, ◌++◌, codes, Some, Ok, refl, sym, ap, ap₂, ◌∙◌, arith, inl, inr}
 use Rattle.std.proofs.Common.{append-nil, eqb-true, ltb-true}
@@ -30,7 +30,7 @@ use Rattle.pm_token.proofs.ReadLemmas.{given_value, short_double, short_single, 
 string_plain : IsPlain string_kind
 string_plain = record { chars = λ d low. refl; zero = refl }
 
--- a character without a short escape
+-- a character without a short escape is read back
 pub char_as : (quote c : ℕ) → IsScalar c → (c == 9) ≡ false → (c == 13) ≡ false → (c == 10) ≡ false → (c == 92) ≡ false
     → (c == quote) ≡ false
     → WrittenAs string_kind quote c (written_char c) c
@@ -79,7 +79,7 @@ glyph_hex d low = agree_below_at (λ x. is_hex (digit_glyph true x)) (λ x. true
 glyph_value : (d : ℕ) → d < 16 → nat_eq (digit_value (digit_glyph true d)) d ≡ true
 glyph_value d low = agree_below_at (λ x. nat_eq (digit_value (digit_glyph true x)) x) (λ x. true) 16 d refl low
 
--- two hex digits after a backslash and `x`
+-- two hex digits after `\x` are read back
 pair_read : (high low : ℕ) (more : List ℕ) → high < 16 → low < 16
     → escape byte_kind (120 ∷ digit_glyph true high ∷ digit_glyph true low ∷ more)
     ≡ record { unit = Ok (16 * high + low); rest = more }
@@ -99,7 +99,7 @@ byte_escapes b low = record {
       pair_read (b / 16) (b % 16) more (omega arith) (omega arith) ∙ ap (λ n. record { unit = Ok n; rest = more }) sum;
 }
 
--- a byte without a short escape
+-- a byte without a short escape is read back
 byte_as : (quote b : ℕ) → b < 256 → (b == 9) ≡ false → (b == 13) ≡ false → (b == 10) ≡ false → (b == 92) ≡ false
     → (b == quote) ≡ false
     → WrittenAs byte_kind quote b (written_byte b) b

@@ -30,13 +30,13 @@ use Rattle.pm_token.specs.declared.errors.ParseError.{ParseError}
 use Rattle.pm_token.specs.declared.errors.ParseError.TheVariants.{Lex, MapFull, Memory}
 use Rattle.pm_token.proofs.TextLemmas.{text_split}
 
--- a text that is a whole literal may be the text of a literal
+-- a whole literal is a text that a `Literal` may have
 pub literal_text : (text : List ℕ) → IsText text → IsWholeLiteral text → IsLiteralText text
 unfolding IsLiteralToken
 literal_text text all (inl literal) = (inl (inl literal), all)
 literal_text text all (inr negative) = (inr negative, all)
 
--- every map holds the span of the fault of a text that isn't whole
+-- every map holds the span of the error of a text that isn't whole
 pub refused_held : (map : Files) (whole : Type 0) (result : Result Text ParseError)
     → IfErr result (IsRefusalOf whole) → IfErr result (λ error. IfLex error (Holds map))
 refused_held map whole (Ok literal) h = tt
@@ -44,7 +44,7 @@ refused_held map whole (Err (Lex fault)) h = subst (Holds map) (sym h.0) (holds_
 refused_held map whole (Err MapFull) h = tt
 refused_held map whole (Err (Memory error)) h = tt
 
--- the map that has the text as its last file holds what an attempt to read a literal answers
+-- the map with the text as its last file holds the span of the literal or of the error
 pub answer_held : (old new : Files) (source : List ℕ) (whole : Type 0) (span : Extent) (result : Result Text ParseError)
     → new ≡ with_file old source → span.lo ≡ next_lo old → span.hi ≡ span.lo + length source
     → IfOk result (λ literal. literal ≡ record { text = source; span = span }) → IfErr result (IsRefusalOf whole)
@@ -68,7 +68,7 @@ no_bytes : (rest : List ℕ) → length (encode_utf8_all rest) ≡ 0 → rest �
 no_bytes [] e = refl
 no_bytes (c ∷ rest) e = absurd (omega (arith, length-le-encodes (c ∷ rest)))
 
--- the literal at the front of a text is the whole text, or the text is none
+-- the literal at the start of a text is the whole text, or the text is no literal
 pub whole_literal : (text : List ℕ) (found : Option ℕ) → IsUtf8 text
     → IfSome found (IsAt Literal (chars text)) → IfNone found (HasNone Literal (chars text))
     → IsTrue (option_eq eqb found (Some (length text))) ↔ Literal (chars text) []
@@ -101,7 +101,7 @@ begins_minus : (cs : List ℕ) → first_passes (λ c. c == 45) cs ≡ true → 
 begins_minus [] h = absurd (both_ways _ refl h)
 begins_minus (c ∷ cs) h = (cs, ap (λ d. d ∷ cs) (eqb-true c 45 h))
 
--- what stands after the `-`, in bytes and in characters
+-- the text after the `-`, in bytes and in characters
 pub minus_stripped : (text : List ℕ) (r : Option (Bor (List ℕ))) → IsUtf8 text
     → MatchOption r ((rest : List ℕ) → text ≢ 45 ∷ rest) (λ x. text ≡ 45 ∷ x.now)
     → MatchOption r (first_passes (λ c. c == 45) (chars text) ≡ false) (λ x. chars text ≡ 45 ∷ chars x.now)
@@ -119,7 +119,7 @@ no_minus number is =
     let head : 45 ≡ at.0 = cc in
     both_ways (is_one_of literal_fronts 45) refl (ap (is_one_of literal_fronts) head ∙ at.3)
 
--- with a `-` a whole literal is a literal after it
+-- a whole literal with a `-` has a literal after it
 negative_of : (text number : List ℕ) → text ≡ 45 ∷ number → IsWholeLiteral text
     → Literal number [] × (first_passes is_ascii_digit number ≡ true)
 negative_of text number split (inl other) = absurd (no_minus number (subst (λ p. Literal p []) split other))
@@ -127,7 +127,7 @@ negative_of text number split (inr negative) =
     let same : negative.number ≡ number = ap (drop 1) (sym negative.whole ∙ split) in
     (subst (λ p. Literal p []) same negative.literal, ap (first_passes is_ascii_digit) (sym same) ∙ negative.digit)
 
--- where a digit follows the `-`
+-- a digit follows the `-`
 pub minus_digit : (text number : List ℕ) (literal : Bool) → text ≡ 45 ∷ number
     → first_passes is_ascii_digit number ≡ true → (IsTrue literal ↔ Literal number [])
     → IsTrue literal ↔ IsWholeLiteral text
@@ -136,7 +136,7 @@ minus_digit text number literal split digit is = (
   λ whole. is.1 (negative_of text number split whole).0,
 )
 
--- where none does
+-- no digit follows the `-`
 pub minus_other : (text number : List ℕ) (digit : Bool) → text ≡ 45 ∷ number
     → first_passes is_ascii_digit number ≡ false → digit ≡ false → IsTrue digit ↔ IsWholeLiteral text
 minus_other text number digit split other e = (
@@ -147,7 +147,7 @@ minus_other text number digit split other e = (
 
 -- ---- a negative literal in two parts
 
--- of the texts of literals those that begin with `-` are negative
+-- of the texts of literals, those that begin with `-` are negative
 negative_text : (text : List ℕ) → has_minus text ≡ true → IsLiteralText text → IsNegative text
 unfolding IsLiteralToken
 negative_text text minus (inl (inl literal), all) =
@@ -156,7 +156,7 @@ negative_text text minus (inl (inl literal), all) =
 negative_text text minus (inl (inr error), all) = absurd (both_ways (has_minus text) (ap has_minus error) minus)
 negative_text text minus (inr negative, all) = negative
 
--- what follows the `-` is built
+-- the text after the `-` is a valid token
 pub number_built : (text : List ℕ) → has_minus text ≡ true → IsLiteralText text
     → IsBuiltToken (tokens.Literal (drop 1 text))
 unfolding IsLiteralToken
@@ -167,14 +167,14 @@ number_built text minus is =
       subst IsText rest (text_split (codes "-") negative.number (subst IsText negative.whole is.1)).1,
     )
 
--- so it is the text of a literal
+-- the text after the `-` is that of a literal
 pub number_text : (text new : List ℕ) (found : Bool) → found ≡ true → found ≡ has_minus text
     → new ≡ (if found then drop 1 text else text) → IsLiteralText text → IsLiteralText new
 number_text text new found is_found minus stripped is =
     let built = number_built text (sym minus ∙ is_found) is in
     subst IsLiteralText (sym (stripped ∙ ap (λ b. if b then drop 1 text else text) is_found)) (inl built.0, built.1)
 
--- and other literals are built themselves
+-- a literal without `-` is a valid token
 pub plain_built : (text : List ℕ) → has_minus text ≡ false → IsLiteralText text → IsBuiltToken (tokens.Literal text)
 plain_built text plain (inl token, all) = (token, all)
 plain_built text plain (inr negative, all) = absurd (both_ways (has_minus text) plain (ap has_minus negative.whole))

@@ -1,4 +1,4 @@
--- What every token of the public types is promised to be.
+-- What is true of every token of the public types.
 use Rattle.std.specs.Prelude.{[], IsTrue}
 use Rattle.lexical.specs.Token.{Token, Name, Mark, Literal}
 use Rattle.lexical.specs.Identifier as identifiers
@@ -6,7 +6,7 @@ use Rattle.lexical.specs.Mark.{is_mark}
 use Rattle.lexical.specs.Literal.{IsLiteralToken}
 use Rattle.pm_token.specs.Text.{IsText}
 
--- `built`: a name that is allowed, raw or plain; one of the marks; or a `literal-token`. Names and literals are texts
+-- `built`: whether the token is an allowed name, one of the 22 marks, or a `literal-token`
 abbrev pub IsBuiltToken : Token → Type 0
 IsBuiltToken (Name raw name) = identifiers.Name name [] × IsTrue (identifiers.is_allowed raw name) × IsText name
 IsBuiltToken (Mark c joint) = IsTrue (is_mark c)

@@ -1,23 +1,23 @@
--- What stands between the quotes of a string of any kind, where no suffix follows.
+-- The content of a string literal without a suffix: the text between its quotes.
 use Rattle.std.specs.Prelude.{ℕ, Bool, ◌==◌, List, ◌++◌, codes, drop, length, reverse, Option, Some, None}
 use Rattle.std.specs.Prelude.{option_and_then, if◌then◌else◌}
 use Rattle.std.specs.Option.{option_map}
 use Rattle.lexical.specs.Text.{begins_with}
 use Rattle.literal_escaper.specs.Text.{while_front}
 
--- what follows this front of the text, if the text begins with it
+-- the text after this prefix, or `None` if the text does not begin with it
 unfoldable pub behind : List ℕ → List ℕ → Option (List ℕ)
 behind front text = if begins_with front text then Some (drop (length front) text) else None
 
--- what stands before this end of the text, if the text ends with it
+-- the text before this ending, or `None` if the text does not end with it
 unfoldable pub before : List ℕ → List ℕ → Option (List ℕ)
 before back text = option_map reverse (behind (reverse back) (reverse text))
 
--- what stands between a front and an end of the text
+-- the text between a prefix and an ending
 abbrev pub between : List ℕ → List ℕ → List ℕ → Option (List ℕ)
 between front back text = option_and_then (before back) (behind front text)
 
--- `cooked-content`: after this front, up to a quote that ends the text
+-- `cooked-content`: the text after this prefix and before a quote at the end
 abbrev pub cooked_content : List ℕ → List ℕ → Option (List ℕ)
 cooked_content front text = between front (codes "\"") text
 
@@ -28,10 +28,10 @@ is_hash c = c == 35
 abbrev pub hashes : List ℕ → List ℕ
 hashes text = while_front is_hash text
 
--- after all the hash signs and a quote, up to a quote and as many signs, which end the text
+-- the text between quotes that have equally many hash signs outside of them
 unfoldable pub hashed_content : List ℕ → Option (List ℕ)
 hashed_content text = between (hashes text ++ codes "\"") (codes "\"" ++ hashes text) text
 
--- `raw-content`: that of what follows this front
+-- `raw-content`: the text after this prefix, without its quotes and hash signs
 abbrev pub raw_content : List ℕ → List ℕ → Option (List ℕ)
 raw_content front text = option_and_then hashed_content (behind front text)

@@ -1,10 +1,10 @@
--- What the literals of integers are: an `integer-text` is std's `decimal` or `signed_decimal`, and then a suffix.
+-- The texts of integer literals: an `integer-text` is std's `decimal` or `signed_decimal`, and then a suffix.
 use Rattle.std.specs.Prelude.{ℕ, List, [], codes}
 use Rattle.pm_token.specs.declared.literals.integers.Suffix.{Suffix}
 use Rattle.pm_token.specs.declared.literals.integers.Suffix.TheVariants.{Nothing, U8, U16, U32, U64, U128, Usize, I8}
 use Rattle.pm_token.specs.declared.literals.integers.Suffix.TheVariants.{I16, I32, I64, I128, Isize}
 
--- `integer-suffix`: what stands after the digits
+-- `integer-suffix`: the text after the digits
 abbrev pub suffix_text : Suffix → List ℕ
 suffix_text Nothing = []
 suffix_text U8 = codes "u8"

@@ -1,4 +1,4 @@
--- How a token keeps its text.
+-- How tokens keep their texts.
 use Rattle.std.specs.Prelude.{◌≤◌, ℕ, List, Bool, true, false, length, string_bytes}
 use Rattle.std.specs.Rc.{rc_str_bytes}
 use Rattle.std.specs.Str.{encode_utf8_all}
@@ -14,7 +14,7 @@ text_bytes (Short text) = text
 text_bytes (Long long) = rc_str_bytes long.text.text
 text_bytes (Negative text) = string_bytes text.value
 
--- a text that stands in place: a copy of it takes no memory
+-- whether the text is kept in place, which takes at most 22 bytes; a copy of it allocates nothing
 abbrev pub IsShort : List ℕ → Type 0
 IsShort text = length (encode_utf8_all text) ≤ ROOM
 
@@ -30,7 +30,7 @@ name_bytes (names.Long name) = rc_str_bytes name.text
 name_bytes (names.RawShort name) = name
 name_bytes (names.RawLong name) = rc_str_bytes name.text
 
--- whether it is raw
+-- whether the name is raw
 abbrev pub is_raw : NameText → Bool
 is_raw (names.Short name) = false
 is_raw (names.Long name) = false

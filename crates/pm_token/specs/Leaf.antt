@@ -1,4 +1,4 @@
--- What the leaf tokens are seen as.
+-- What a contract says of an identifier, a mark or a literal.
 use Rattle.std.specs.Prelude.{ℕ, Bool, true, false, List}
 use Rattle.lexical.specs.Token as tokens
 use Rattle.pm_span.specs.Extent.{Extent}
@@ -27,14 +27,14 @@ pub record Text : Type 0 where
   pub text : List ℕ
   pub span : Extent
 
--- the token that an identifier is
+-- the token of an identifier
 abbrev pub name_token : Name → tokens.Token
 name_token ident = tokens.Name ident.raw ident.name
 
--- the token that a mark is
+-- the token of a mark
 abbrev pub mark_token : Mark → tokens.Token
 mark_token punct = tokens.Mark punct.mark (is_joint punct.spacing)
 
--- the token that a literal is
+-- the token of a literal
 abbrev pub text_token : Text → tokens.Token
 text_token literal = tokens.Literal literal.text

@@ -1,4 +1,4 @@
--- The part of a span that two bounds name. A bound counts characters from the span's first position.
+-- The part of a span between two bounds. A bound counts characters from the span's first position.
 use Rattle.std.specs.Prelude.{ℕ, ◌+◌, ◌&&◌, nat_le, if◌then◌else◌, Option, Some, None}
 use Rattle.std.specs.declared.ops.Bound.{Bound}
 use Rattle.std.specs.declared.ops.Bound.TheVariants.{Included, Excluded, Unbounded}
@@ -16,7 +16,7 @@ end_of span (Included chars) = span.lo + chars + 1
 end_of span (Excluded chars) = span.lo + chars
 end_of span Unbounded = span.hi
 
--- `subspan`: the part, if it ends neither before it begins nor past the end of the span
+-- `subspan`: the part, or `None` if it would end before it begins or past the end of the span
 abbrev pub subspan : Extent → Bound ℕ → Bound ℕ → Option Extent
 subspan span start end =
     let lo = start_of span start in

@@ -15,19 +15,19 @@ use Rattle.pm_token.specs.declared.literals.conversion.ConversionErrorKind.TheVa
 use Rattle.pm_token.specs.declared.literals.conversion.ConversionErrorKind.TheVariants.{InvalidLiteralKind}
 use Rattle.pm_token.specs.Content.{cooked_content, raw_content}
 
--- the units of a content with escapes, or its last fault
+-- the units of a content with escapes, or its last error
 abbrev pub units : {U : Type 0} → Kind U → List ℕ → Result (List U) EscapeError
 units kind content = value_of (items kind content)
 
--- `literal-value`: the units of a content with escapes, or its last fault; or else a raw content
+-- `literal-value`: the value of a content with escapes or of a raw content, or else the error
 abbrev pub value_from : {V : Type 0} → Option (Result V EscapeError) → Option V → Result V ConversionErrorKind
 value_from (Some (Ok value)) raw = Ok value
 value_from (Some (Err fault)) raw = Err (FailedToUnescape fault)
 value_from None (Some value) = Ok value
 value_from None None = Err InvalidLiteralKind
 
--- a call answers the value, as `seen` sees its answer; a fault only where that is the value; no value exactly where
--- there is none; and else that memory ran out
+-- whether a call returns this value, which `seen` takes from its result, or runs out of memory. It never runs out of
+-- memory instead of returning `InvalidLiteralKind`
 pub record Answers {T V : Type 0} (seen : T → V) (value : Result V ConversionErrorKind)
     (result : Result T ConversionErrorKind) : Type 0 where
   pub ok : IfOk result (λ answer. value ≡ Ok (seen answer))
@@ -42,12 +42,12 @@ text_of string = chars (string_bytes string)
 abbrev pub bytes_of : {A : Type 0} → Vec ℕ A → List ℕ
 bytes_of vector = vector.items
 
--- `string-value`: the characters that a string stands for, or what is wrong
+-- `string-value`: the characters of a string literal's value, or the error
 abbrev pub str_value : List ℕ → Result (List ℕ) ConversionErrorKind
 str_value text =
     value_from (option_map (units string_kind) (cooked_content (codes "\"") text)) (raw_content (codes "r") text)
 
--- `byte-string-value`: the bytes that a byte string stands for, or what is wrong
+-- `byte-string-value`: the bytes of a byte string literal's value, or the error
 abbrev pub byte_str_value : List ℕ → Result (List ℕ) ConversionErrorKind
 byte_str_value text =
     value_from (option_map (units byte_kind) (cooked_content (codes "b\"") text))
@@ -58,16 +58,16 @@ abbrev pub unit_bytes : MixedUnit → List ℕ
 unit_bytes (Char c) = encode_utf8 c
 unit_bytes (HighByte byte) = byte ∷ []
 
--- the bytes of a C string, and a zero byte that ends it
+-- the bytes, and a zero byte after them
 abbrev pub ended : List ℕ → List ℕ
 ended bytes = bytes ++ 0 ∷ []
 
--- the bytes of the units of a C string, or what is wrong with them
+-- the bytes of a C string's units and a zero byte, or the error
 abbrev pub c_bytes : Result (List MixedUnit) EscapeError → Result (List ℕ) EscapeError
 c_bytes (Ok units) = Ok (ended (flat_map unit_bytes units))
 c_bytes (Err fault) = Err fault
 
--- `c-string-value`: the bytes that a C string stands for, the last of them zero, or what is wrong
+-- `c-string-value`: the bytes of a C string literal's value, the last of them zero, or the error
 abbrev pub cstr_value : List ℕ → Result (List ℕ) ConversionErrorKind
 cstr_value text =
     value_from (option_map (λ content. c_bytes (units c_kind content)) (cooked_content (codes "c\"") text))

@@ -1,4 +1,4 @@
--- What holds of the values of literals that were made.
+-- Laws of the values of literals.
 use Rattle.std.specs.Prelude.{Bool, not, ◌==◌, ◌≡◌, ◌<◌, ℕ, List, [], ◌++◌, codes, IsTrue, Result, Ok}
 use Rattle.std.specs.Char.{IsScalar}
 use Rattle.std.specs.List.{AllByRecursion, list_all}
@@ -32,19 +32,19 @@ abbrev pub CStringsComeBack : Type 0
 CStringsComeBack = (bytes text : List ℕ) → AllByRecursion (λ b. b < 256) bytes → IsTrue (has_no_zero bytes)
     → IsCStringText bytes text → cstr_value text ≡ Ok (ended bytes)
 
--- what stands between the quotes of the literal of a character is one unit, the character
+-- the text between the quotes of a character's literal is one unit, which is the character
 abbrev pub CharactersComeBack : Type 0
 CharactersComeBack = (c : ℕ) → IsScalar c
     → (content : List ℕ)
     × (character_text c ≡ codes "'" ++ (content ++ codes "'")) × ((single string_kind content).unit ≡ Ok c)
 
--- what stands between the quotes of the literal of a byte is one unit, the byte
+-- the text between the quotes of a byte's literal is one unit, which is the byte
 abbrev pub BytesComeBack : Type 0
 BytesComeBack = (b : ℕ) → b < 256
     → (content : List ℕ) × (byte_text b ≡ codes "b'" ++ (content ++ codes "'"))
     × ((single byte_kind content).unit ≡ Ok b)
 
--- what stands between the quotes of a literal is one unit, whatever suffix follows; where none does, it is the value
+-- whether the text between the quotes is one unit, which is the literal's value if no suffix follows
 pub record HasSingle (kind : Kind ℕ) (front text : List ℕ) (value : Result ℕ ConversionErrorKind) : Type 0 where
   pub content : List ℕ
   pub suffix : List ℕ
@@ -54,11 +54,11 @@ pub record HasSingle (kind : Kind ℕ) (front text : List ℕ) (value : Result �
   pub unit_is : (single kind content).unit ≡ Ok unit
   pub value_is : suffix ≡ [] → value ≡ Ok unit
 
--- what stands between the quotes of a character literal is one unit, and without a suffix its value
+-- the text between the quotes of a character literal is one unit, which is its value if no suffix follows
 abbrev pub CharactersHaveUnits : Type 0
 CharactersHaveUnits = (text : List ℕ) → Character text [] → HasSingle string_kind (codes "'") text (char_value text)
 
--- what stands between the quotes of a byte literal is one unit, and without a suffix its value
+-- the text between the quotes of a byte literal is one unit, which is its value if no suffix follows
 abbrev pub BytesHaveUnits : Type 0
 BytesHaveUnits = (text : List ℕ) → Byte text [] → HasSingle byte_kind (codes "b'") text (byte_value text)
 
@@ -70,7 +70,7 @@ CharacterValuesComeBack = (c : ℕ) → IsScalar c → char_value (character_tex
 abbrev pub ByteValuesComeBack : Type 0
 ByteValuesComeBack = (b : ℕ) → b < 256 → byte_value (byte_text b) ≡ Ok b
 
--- a raw literal without a suffix: what it begins with, hash signs, and its body between quotes
+-- the text of a raw literal without a suffix: its prefix, hash signs, and its body between quotes
 abbrev pub raw_text : List ℕ → List ℕ → List ℕ → List ℕ
 raw_text front signs body = front ++ ((signs ++ codes "\"") ++ (body ++ (codes "\"" ++ signs)))
 
@@ -89,34 +89,34 @@ abbrev pub RawCStringsHaveBodies : Type 0
 RawCStringsHaveBodies = (signs body : List ℕ) → IsTrue (list_all is_hash signs)
     → cstr_value (raw_text (codes "cr") signs body) ≡ Ok (ended (encode_utf8_all body))
 
--- no CR stands in the text
+-- whether the text has no CR
 abbrev pub has_no_return : List ℕ → Bool
 has_no_return text = list_all (λ c. not (c == carriage_return)) text
 
--- a literal with escapes and without a suffix
+-- the text of a literal with escapes and without a suffix
 abbrev pub cooked_text : List ℕ → List ℕ → List ℕ
 cooked_text front content = front ++ (content ++ codes "\"")
 
--- what the units of a content, by this form of the grammar, give together is the value
+-- whether the content is made of units of this form, and the value is what they give together
 pub record IsJoined (Unit : Form) (joined : List (List ℕ) → List ℕ) (content : List ℕ)
     (value : Result (List ℕ) ConversionErrorKind) : Type 0 where
-  -- the content is made of units, which a quote follows
+  -- the content is made of units, up to a quote
   pub units : Many Unit content (codes "\"")
-  -- and however it is divided into units, these give the value
+  -- however the content is divided into units, they give the value
   pub value_is : (body : Many Unit content (codes "\"")) → value ≡ Ok (joined body.units)
 
--- the value of a string without CR is its units joined
+-- the value of a string without CR is what its units give together
 abbrev pub StringsHaveValues : Type 0
 StringsHaveValues = (content : List ℕ) → Str (cooked_text (codes "\"") content) [] → IsTrue (has_no_return content)
     → IsJoined StringUnit string_joined content (str_value (cooked_text (codes "\"") content))
 
--- the value of a byte string without CR is its units joined
+-- the value of a byte string without CR is what its units give together
 abbrev pub ByteStringsHaveValues : Type 0
 ByteStringsHaveValues =
     (content : List ℕ) → ByteStr (cooked_text (codes "b\"") content) [] → IsTrue (has_no_return content)
     → IsJoined ByteUnit string_joined content (byte_str_value (cooked_text (codes "b\"") content))
 
--- the value of a C string without CR is its units joined, and a zero byte
+-- the value of a C string without CR is what its units give together, and a zero byte
 abbrev pub CStringsHaveValues : Type 0
 CStringsHaveValues = (content : List ℕ) → CStr (cooked_text (codes "c\"") content) [] → IsTrue (has_no_return content)
     → IsJoined CUnit (λ units. ended (c_joined units)) content (cstr_value (cooked_text (codes "c\"") content))

@@ -1,6 +1,6 @@
 //! The delimiters of groups.
 
-/// How a group of trees is delimited.
+/// The delimiters around a group of trees.
 #[derive(Clone, Copy, Debug, PartialEq, Eq)]
 pub enum Delimiter {
     /// `( .. )`
@@ -9,6 +9,6 @@ pub enum Delimiter {
     Brace,
     /// `[ .. ]`
     Bracket,
-    /// Nothing is written: the group only holds its trees together.
+    /// No delimiters are written: the group only keeps its trees together.
     None,
 }

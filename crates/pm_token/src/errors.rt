@@ -1,4 +1,4 @@
-//! Why a text is refused.
+//! The errors of texts that can't be parsed.
 ghost use Rattle.std.specs.Prelude.{◌≡◌};
 ghost use Rattle.pm_token.specs.declared.errors.ParseError.TheVariants.{Memory};
 
@@ -8,7 +8,7 @@ use std::error::Error;
 use std::fmt;
 use std::marker::Model;
 
-/// A text that couldn't be read: its fault, by its span.
+/// A text that could not be read, with the span of its syntax error.
 #[derive(Debug, Drop)]
 pub struct LexError {
     span: Span,
@@ -29,10 +29,11 @@ impl LexError {
         LexError { span }
     }
 
-    /// Where the fault stands, in characters. That of a token stream has an empty span, by the rule
-    /// `fault`: before the character that can't be read, before the closer that doesn't close the
-    /// innermost open group, or before the last opener that no closer matches. That of a literal has
-    /// the span 0..0, which is in no text.
+    /// Returns the span of the syntax error, in characters (`fault`).
+    ///
+    /// For a token stream the span is empty. It is before the character that can't be read, or before the closer
+    /// that does not close the innermost open group. If a group is open at the end, the span is before the last
+    /// opener without a closer. For a literal the span is 0..0, which is in no text that was read.
     pub fn span(&self) -> Span
         ensures { result ≡ self.now }
     {
@@ -49,7 +50,7 @@ impl PartialEq for LexError {
 
     ghost laws = { Prim.search (comparing, rules) };
 
-    /// Whether both faults have the same span.
+    /// Returns whether both errors have the same span.
     fn eq(&self, other: &LexError) -> bool {
         let LexError { span } = self;
         span.eq(&other.span)
@@ -68,22 +69,22 @@ impl fmt::Display for LexError {
 
 impl Error for LexError {}
 
-/// Why a text was not parsed.
+/// The reason why a text was not parsed.
 #[derive(Debug, Drop, PartialEq)]
 pub enum ParseError {
-    /// The text has a fault, and is a file of the map. The fault of a stream has its span there;
-    /// that of a literal is 0..0.
+    /// The text has a syntax error, and is a file of the map now. The error of a stream has its span in that
+    /// file; the error of a literal has the span 0..0.
     Lex(LexError),
-    /// The text would end past the map's limit (`fits`). The map is as before.
+    /// The text would end past the map's limit (`fits`). The map does not change.
     MapFull,
-    /// Memory ran out. The map is as before.
+    /// Memory ran out. The map does not change.
     Memory(AllocError),
 }
 
 impl ParseError {
     ghost use Rattle.pm_token.specs.Message.{fault_span};
 
-    /// Where the fault of the text stands, as [`LexError::span`] has it; `None` if the text has no fault.
+    /// Returns the span of a syntax error, as [`LexError::span`] does, or `None` for the other errors.
     pub fn span(&self) -> Option<Span>
         ensures { result ≡ fault_span self.now }
     {

@@ -1,4 +1,4 @@
-//! How literals between quotes are written.
+//! Writes the text of literals that have quotes.
 ghost use Rattle.std.specs.Prelude.{◌≡◌, ◌∷◌, ◌++◌, ℕ, List, [], codes, length, IfOk, OnOk};
 ghost use Rattle.std.specs.Prelude.{string_bytes};
 ghost use Rattle.std.specs.Str.{IsUtf8, chars, encode_utf8_all};
@@ -21,7 +21,7 @@ use std::alloc::{AllocError, Global};
 use std::marker::Model;
 use ucd_category::GeneralCategory;
 
-/// A text while it is written, seen as its characters.
+/// A text that is being written. Contracts speak of its characters.
 #[derive(Drop)]
 pub struct TextBuilder {
     text: String,
@@ -37,7 +37,7 @@ impl Model for TextBuilder {
 }
 
 impl TextBuilder {
-    /// Nothing yet.
+    /// Makes an empty builder.
     pub(crate) fn new(alloc: Global) -> TextBuilder
         ensures { result ≡ [] }
     {
@@ -46,7 +46,7 @@ impl TextBuilder {
         }
     }
 
-    /// Nothing yet, with room for so many bytes. Fails where memory runs out.
+    /// Makes an empty builder with room for this number of bytes. Out of memory is the only error.
     pub fn with_room(alloc: Global, bytes: usize) -> Result<TextBuilder, AllocError>
         ensures { IfOk result (λ builder. builder ≡ []) }
     {
@@ -55,7 +55,7 @@ impl TextBuilder {
         })
     }
 
-    /// What is written, as the text of a token. Fails where memory runs out.
+    /// Returns what was written as the text of a token. Out of memory is the only error.
     pub(crate) fn finish(self, alloc: Global) -> Result<Symbol, AllocError>
         ensures ok { IfOk result (λ symbol. symbol ≡ self) }
         ensures text { IfOk result IsText }
@@ -63,21 +63,21 @@ impl TextBuilder {
         Symbol::from_string(alloc, self.text)
     }
 
-    /// The text. It takes no memory.
+    /// Returns what was written. This allocates nothing.
     pub fn into_string(self) -> String
         ensures { string_bytes result ≡ encode_utf8_all self }
     {
         self.text
     }
 
-    /// Writes the text. Fails where memory runs out.
+    /// Writes the text. Out of memory is the only error.
     pub fn push_text(&mut self, text: &str) -> Result<(), AllocError>
         ensures ok { OnOk result (self.new ≡ self.old ++ chars text.now) }
     {
         self.text.push_str(text)
     }
 
-    /// Writes the string literal of the text. Fails where memory runs out.
+    /// Writes the string literal of the text. Out of memory is the only error.
     pub fn push_string(&mut self, text: &str) -> Result<(), AllocError>
         ensures ok { OnOk result (self.new ≡ self.old ++ string_text (chars text.now)) }
     {
@@ -86,7 +86,7 @@ impl TextBuilder {
         self.push('"')
     }
 
-    /// Writes the character.
+    /// Writes the character. Out of memory is the only error.
     pub fn push(&mut self, c: char) -> Result<(), AllocError>
         ensures ok { OnOk result (self.new ≡ self.old ++ c ∷ []) }
     {
@@ -110,7 +110,7 @@ impl TextBuilder {
         self.push('0')
     }
 
-    /// Writes the character by its number, as `\u{1f}`.
+    /// Writes the character as its number, such as `\u{1f}`.
     fn push_unicode(&mut self, c: char) -> Result<(), AllocError>
         ensures ok { OnOk result (self.new ≡ self.old ++ escape_unicode c) }
     {
@@ -120,7 +120,7 @@ impl TextBuilder {
         Ok(())
     }
 
-    /// Writes a character of a string that has no short escape.
+    /// Writes a character that has no short escape, for a string.
     fn push_char(&mut self, c: char) -> Result<(), AllocError>
         ensures ok { OnOk result (self.new ≡ self.old ++ written_char c) }
     {
@@ -131,7 +131,7 @@ impl TextBuilder {
         }
     }
 
-    /// Writes the character between these quotes, where the rest of the content follows.
+    /// Writes the character for a literal in these quotes, whose content goes on with `rest`.
     pub(crate) fn push_escaped(
         &mut self,
         quote: char,
@@ -152,8 +152,8 @@ impl TextBuilder {
         }
     }
 
-    /// Writes the front of the text that stands for itself between these quotes, as far as it is ASCII, and answers
-    /// what follows it.
+    /// Writes the ASCII characters that the text begins with, as far as they need no escape between these
+    /// quotes. It returns the rest of the text.
     #[inline(always)]
     fn push_plain<'a>(&mut self, quote: char, text: &'a str) -> Result<&'a str, AllocError>
         ensures ok { IfOk result (λ rest. (front : List ℕ) × (chars text.now ≡ front ++ chars rest.now)
@@ -166,7 +166,7 @@ impl TextBuilder {
         Ok(rest)
     }
 
-    /// Writes the characters of the text between these quotes.
+    /// Writes the characters of the text for a literal in these quotes. Out of memory is the only error.
     pub fn push_content(&mut self, quote: char, text: &str) -> Result<(), AllocError>
         ensures ok { OnOk result (self.new ≡ self.old ++ content quote written_char (chars text.now)) }
     {
@@ -179,9 +179,9 @@ impl TextBuilder {
     }
 }
 
-/// How many bytes at the front are ASCII characters that stand for themselves between these quotes.
+/// Returns how many of the first bytes are ASCII characters that need no escape between these quotes.
 ///
-/// Words of 8 bytes pay from two words on.
+/// Words of 8 bytes are faster from two words on.
 fn count_plain(bytes: &[u8], quote: char) -> usize
     ensures { result ≡ length (while_front (is_plain_ascii quote) bytes.now) }
 {
@@ -192,7 +192,7 @@ fn count_plain(bytes: &[u8], quote: char) -> usize
     }
 }
 
-/// How many bytes at the front stand for themselves between these quotes, by one byte after the other.
+/// Does what `count_plain` does, one byte at a time.
 fn count_by_bytes(bytes: &[u8], quote: char) -> usize
     ensures { result ≡ length (while_front (is_plain_ascii quote) bytes.now) }
 {
@@ -206,7 +206,7 @@ fn count_by_bytes(bytes: &[u8], quote: char) -> usize
     count
 }
 
-/// Whether the byte is an ASCII character that prints and is neither this quote nor a backslash.
+/// Returns whether the byte is a printable ASCII character and neither this quote nor a backslash.
 #[inline(always)]
 pub(crate) fn stands_for_itself(byte: u8, quote: char) -> bool
     ensures { result ≡ is_plain_ascii quote byte }
@@ -214,7 +214,7 @@ pub(crate) fn stands_for_itself(byte: u8, quote: char) -> bool
     byte >= b' ' && byte < 0x7F && byte != b'\\' && char::from(byte) != quote
 }
 
-/// Whether the text begins with one of the digits 0 to 7.
+/// Returns whether the text begins with one of the digits 0 to 7.
 pub fn begins_octal(text: &str) -> bool
     ensures { result ≡ first_passes is_octal_digit (chars text.now) }
 {
@@ -224,7 +224,7 @@ pub fn begins_octal(text: &str) -> bool
     }
 }
 
-/// Whether the character stands for itself in a string literal, by the rule `bare`.
+/// Returns whether the character needs no escape in a string literal, quotes and backslashes aside (`bare`).
 pub fn is_bare(c: char) -> bool
     ensures { result ≡ bare c }
 {
@@ -234,7 +234,7 @@ pub fn is_bare(c: char) -> bool
     !hides(GeneralCategory::for_char(c))
 }
 
-/// Whether characters of the category show on their neighbours or not at all, by the rule `hidden`.
+/// Returns whether characters of this category are invisible, or show only on their neighbours (`hidden`).
 fn hides(category: GeneralCategory) -> bool
     ensures { result ≡ is_hidden category }
 {

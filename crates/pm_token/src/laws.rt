@@ -1,6 +1,5 @@
-//! What is proved of literals and their values together, and of what is compared. The functions compute
-//! nothing: their contracts are the laws, those of literals by `specs/KindLaws.antt` and
-//! `specs/ValueLaws.antt`.
+//! Laws of literals and their values, and of equality. These functions compute nothing: what is proved is in
+//! their contracts. `specs/KindLaws.antt` and `specs/ValueLaws.antt` define the laws of literals.
 ghost use Rattle.std.specs.Prelude.{◌≡◌, ◌↔◌, IsTrue};
 ghost use Rattle.pm_span.specs.Extent.{Extent};
 ghost use Rattle.pm_token.specs.KindLaws.{
@@ -34,27 +33,27 @@ use crate::identifiers::IdentError;
 use crate::literals::ConversionErrorKind;
 use crate::marks::Spacing;
 
-/// Two delimiters, two spacings, and two reasons why a literal has no value, are equal exactly if they
-/// are the same: of one kind, and for a fault of the content with the same fault.
+/// Two delimiters, two spacings, or two reasons why a literal has no value are equal exactly if they are the
+/// same variant. Two reasons `FailedToUnescape` must also have the same fault.
 ///
-/// Of the faults of `"\z"` and `"\x1"`, both `FailedToUnescape`, neither equals the other.
+/// The faults of `"\z"` and `"\x1"` both give `FailedToUnescape`, but they are not equal.
 pub fn equal_delimiters_spacings_and_errors()
     ensures delimiters { (a b : Delimiter) → IsTrue (⟦<Delimiter as PartialEq>⟧.eq a b) ↔ (a ≡ b) }
     ensures spacings { (a b : Spacing) → IsTrue (⟦<Spacing as PartialEq>⟧.eq a b) ↔ (a ≡ b) }
     ensures errors { (a b : ConversionErrorKind) → IsTrue (⟦<ConversionErrorKind as PartialEq>⟧.eq a b) ↔ (a ≡ b) }
 {}
 
-/// Two errors of a text, or of a name, are equal exactly if they are the same: of one kind, and for a fault of
-/// a text with the same span.
+/// Two errors of a text, or of a name, are equal exactly if they are the same variant. Two syntax errors must
+/// also have the same span.
 pub fn equal_errors()
     ensures lexing { (a b : Extent) → IsTrue (⟦<LexError as PartialEq>⟧.eq a b) ↔ (a ≡ b) }
     ensures parsing { (a b : ParseError) → IsTrue (⟦<ParseError as PartialEq>⟧.eq a b) ↔ (a ≡ b) }
     ensures names { (a b : IdentError) → IsTrue (⟦<IdentError as PartialEq>⟧.eq a b) ↔ (a ≡ b) }
 {}
 
-/// A literal that was made is one of its kind, with nothing after it: what `Literal::string` writes is a
-/// string, what `byte_string` and `c_string` write a byte string and a C string, and what `character` and
-/// `byte_character` write a character and a byte.
+/// Each constructor makes a literal of its own kind, with nothing after it. `Literal::string` makes a string,
+/// `byte_string` a byte string, and `c_string` a C string. `character` makes a character, and `byte_character`
+/// a byte.
 pub fn made_literals()
     ensures strings { StringsAreStrings }
     ensures byte_strings { ByteStringsAreByteStrings }
@@ -63,9 +62,9 @@ pub fn made_literals()
     ensures bytes { BytesAreBytes }
 {}
 
-/// The value of a literal that was made is what it was made of: that of `Literal::string` the text, that
-/// of `byte_string` the bytes, that of `c_string` the bytes and a zero byte. What stands between the
-/// quotes of a `character` unescapes to the character, and of a `byte_character` to the byte.
+/// The value of a made literal is what it was made of. The value of `Literal::string` is the text, that of
+/// `byte_string` is the bytes, and that of `c_string` is the bytes and a zero byte. The text between the quotes
+/// of a `character` unescapes to the character, and for a `byte_character` to the byte.
 pub fn values_come_back()
     ensures strings { StringsComeBack }
     ensures byte_strings { ByteStringsComeBack }
@@ -74,9 +73,9 @@ pub fn values_come_back()
     ensures bytes { BytesComeBack }
 {}
 
-/// What stands between the quotes of a character or a byte is one unit, whatever suffix follows: it
-/// unescapes. Without a suffix this unit is the literal's value, as `char_value` and `byte_value` answer
-/// it. So the value of `Literal::character` is the character, and of `byte_character` the byte.
+/// The text between the quotes of a character or byte literal is one unit that unescapes, whatever suffix
+/// follows. Without a suffix this unit is the value that `char_value` or `byte_value` returns. So the value of
+/// `Literal::character` is the character, and that of `byte_character` is the byte.
 pub fn single_values()
     ensures characters { CharactersHaveUnits }
     ensures bytes { BytesHaveUnits }
@@ -84,19 +83,19 @@ pub fn single_values()
     ensures made_bytes { ByteValuesComeBack }
 {}
 
-/// A raw literal without a suffix always has its body as its value: a string's is the body, a byte
-/// string's its bytes, and a C string's these and a zero byte.
+/// Every raw literal without a suffix has a value. A string's is its body, a byte string's is the bytes of the
+/// body, and a C string's is these bytes and a zero byte.
 pub fn raw_values()
     ensures strings { RawStringsHaveBodies }
     ensures byte_strings { RawByteStringsHaveBodies }
     ensures c_strings { RawCStringsHaveBodies }
 {}
 
-/// The value of a literal with escapes, without a suffix and without CR is what the units of its content
-/// give, one after another, by the units of the grammar and however they divide the content. A character
-/// by itself gives that character, and an escape what it stands for. A backslash and LF give nothing, nor
-/// do the spaces, tabs and LFs that follow them. In a C string a character gives its UTF-8, `\x` and two
-/// digits give one byte, and a zero byte ends the value. With CR LF there may be no value.
+/// The value of a literal with escapes is what the units of its content give, in order. This holds for a
+/// literal without a suffix and without CR, however the grammar divides its content into units. A character by
+/// itself gives that character, and an escape gives what it means. A backslash with LF gives nothing, nor do
+/// the spaces, tabs and LFs that follow. In a C string a character gives its UTF-8, `\x` with two digits gives
+/// one byte, and a zero byte ends the value. A literal with CR LF may have no value.
 ///
 /// A string of `a\`, LF, two spaces and `b` has the value `ab`, and `c"é\xe9"` has C3 A9 E9 00.
 pub fn cooked_values()

@@ -19,7 +19,7 @@ use std::alloc::{AllocError, Global};
 use std::fmt;
 use std::marker::Model;
 
-/// A literal: a string, a character, a number, by its text.
+/// A literal: a string, a character, a byte or a number, kept as its text.
 #[derive(Drop)]
 pub struct Literal {
     text: Symbol,
@@ -40,7 +40,7 @@ impl Model for Literal {
 impl Literal {
     ghost use Rattle.pm_token.specs.LiteralText.{IsLiteralText};
 
-    /// The literal of this text, where it stands. Fails where memory runs out.
+    /// Makes the literal of this text, with this span. Out of memory is the only error.
     #[inline(always)]
     pub(crate) fn from_parts(alloc: Global, text: &str, span: Span) -> Result<Literal, AllocError>
         requires { IsLiteralText (chars text.now) }
@@ -52,7 +52,7 @@ impl Literal {
         })
     }
 
-    /// The literal as it is written, with its quotes, its suffix and the `-` that may stand before it.
+    /// Returns the literal as it is written, with its quotes, its suffix and a `-` before a negative number.
     #[inline(always)]
     pub fn text(&self) -> &str
         ensures { chars result.now ≡ self.now.text }
@@ -60,19 +60,19 @@ impl Literal {
         self.text.as_str()
     }
 
-    /// Where it stands. Proofs learn by it what the text of every literal is: a `literal-token` or,
-    /// outside of streams, a `negative-literal`.
+    /// Returns the literal's span. Its contract also gives what is true of every literal's text: it is a
+    /// `literal-token` or, outside of streams, a `negative-literal`.
     pub fn span(&self) -> Span
         ensures value { result ≡ self.now.span }
         ensures built { IsLiteralText self.now.text }
         ensures ordered { self.now.span.lo ≤ self.now.span.hi }
     {
-        // It computes nothing: proofs learn that the span is in order.
+        // This computes nothing. It shows to the proof that the span does not end before it begins.
         bounds(self.span);
         self.span
     }
 
-    /// Sets where it stands, and changes nothing else.
+    /// Sets the literal's span, and changes nothing else.
     pub fn set_span(&mut self, span: Span)
         ensures { self.new ≡ record self.old { span = span } }
     {
@@ -80,8 +80,8 @@ impl Literal {
     }
 }
 
-/// The same literal, with the same span. A text of more than 22 bytes is shared, or copied where it begins with `-`.
-/// The copy fails where the text has more owners than can be counted, or memory runs out.
+/// Copies the literal with its span. A text of more than 22 bytes is shared, but copied if it begins with `-`.
+/// The copy fails if a shared text has more owners than can be counted, or if memory runs out.
 impl Clone for Literal {
     ghost use Rattle.pm_token.specs.Kept.{IsShort};
 

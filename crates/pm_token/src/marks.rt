@@ -13,17 +13,17 @@ use std::alloc::AllocError;
 use std::fmt;
 use std::marker::Model;
 
-/// Whether a mark goes together with what follows right after it, as far as the text tells.
+/// Whether a punctuation mark is joint with what directly follows it.
 #[derive(Clone, Copy, Debug, PartialEq, Eq)]
 pub enum Spacing {
-    /// It doesn't. The marks that a doc comment gives are Alone too.
+    /// The mark is not joint. The marks made from a doc comment are also `Alone`.
     Alone,
-    /// One of the 22 mark characters follows, and no comment begins there (`joint`); or the mark is a
-    /// `'` with its identifier (`lone-quote`). At `+=` the `+` is Joint, and at `'a` the `'`.
+    /// One of the 22 mark characters directly follows, and no comment begins there (`joint`). Or the mark is
+    /// the `'` before its identifier (`lone-quote`). In `+=` the `+` is `Joint`, and in `'a` the `'`.
     Joint,
 }
 
-/// A punctuation mark, which is one character, by the rule `marks`.
+/// A punctuation mark, which is one character (`marks`).
 #[derive(Drop)]
 pub struct Punct {
     mark: char,
@@ -44,19 +44,19 @@ impl Model for Punct {
 }
 
 impl Punct {
-    /// Whether the character is one of the 22 punctuation marks (`marks`).
+    /// Returns whether the character is one of the 22 punctuation marks (`marks`).
     ///
-    /// `+` and `'` are, and `_`, `(` and `"` are not.
+    /// `+` and `'` are punctuation marks; `_`, `(` and `"` are not.
     pub fn is_punct_char(c: char) -> bool
         ensures { result ≡ is_mark c }
     {
         lexical::is_mark(c)
     }
 
-    /// The punctuation mark of this character, with the span 0..0. It takes no memory.
+    /// Makes the punctuation mark of this character, with the span 0..0. This allocates nothing.
     ///
-    /// The character is one of the 22 `marks`: [`Punct::is_punct_char`] is the test. Of `'+'` it prints
-    /// `+`, whatever its spacing.
+    /// The character must be one of the 22 `marks`; [`Punct::is_punct_char`] tests this. The mark of `'+'`
+    /// prints as `+`, whatever its spacing.
     #[inline(always)]
     pub fn new(mark: char, spacing: Spacing) -> Punct
         requires { IsTrue (is_mark mark) }
@@ -77,7 +77,7 @@ impl Punct {
         }
     }
 
-    /// The mark's character.
+    /// Returns the mark's character.
     #[inline(always)]
     pub fn as_char(&self) -> char
         ensures { result ≡ self.now.mark }
@@ -85,7 +85,7 @@ impl Punct {
         self.mark
     }
 
-    /// Whether it goes together with what follows right after it.
+    /// Returns whether the mark is joint with what directly follows it.
     #[inline(always)]
     pub fn spacing(&self) -> Spacing
         ensures { result ≡ self.now.spacing }
@@ -93,18 +93,18 @@ impl Punct {
         self.spacing
     }
 
-    /// Where it stands. Proofs learn by it what every mark is (`built`).
+    /// Returns the mark's span. Its contract also gives what is true of every mark (`built`).
     pub fn span(&self) -> Span
         ensures value { result ≡ self.now.span }
         ensures built { IsBuiltToken (mark_token self.now) }
         ensures ordered { self.now.span.lo ≤ self.now.span.hi }
     {
-        // It computes nothing: proofs learn that the span is in order.
+        // This computes nothing. It shows to the proof that the span does not end before it begins.
         bounds(self.span);
         self.span
     }
 
-    /// Sets where it stands, and changes nothing else.
+    /// Sets the mark's span, and changes nothing else.
     pub fn set_span(&mut self, span: Span)
         ensures { self.new ≡ record self.old { span = span } }
     {
@@ -112,7 +112,7 @@ impl Punct {
     }
 }
 
-/// The same mark, with the same span. It takes no memory.
+/// Copies the mark with its span. This allocates nothing.
 impl Clone for Punct {
     ghost use Rattle.std.specs.Prelude.{⊤};
 
@@ -142,8 +142,8 @@ impl fmt::Display for Punct {
     }
 }
 
-/// The text of a mark.
-// A text of one byte is written by one store, where a character would be encoded first.
+/// Returns the text of a mark.
+// A text of one byte is written by one store; a character would have to be encoded first.
 #[inline(always)]
 fn text_of(mark: char) -> &'static str
     requires { IsTrue (is_mark mark) }

@@ -1,4 +1,4 @@
-//! What the crates above make tokens of, and users don't.
+//! Calls for the crates that make tokens. Users of the library do not need them.
 ghost use Rattle.std.specs.Prelude.{◌≡◌, IfOk, IsTrue, MatchOption, false, true};
 ghost use Rattle.std.specs.Str.{chars};
 ghost use Rattle.lexical.specs.Mark.{is_mark};
@@ -17,8 +17,8 @@ use pm_span::parts::bounds;
 use std::alloc::{AllocError, Global};
 use std::fmt;
 
-/// The identifier of this name, which has no `r#` even if it is raw. Fails where memory runs out.
-// Inlined, as it is what most pieces of a text become.
+/// Makes the identifier of this name, which has no `r#` even if it is raw. Out of memory is the only error.
+// Inlined, because most tokens of a text are identifiers.
 #[inline(always)]
 pub fn ident(alloc: Global, name: &str, raw: bool, span: Span) -> Result<Ident, AllocError>
     requires { IsBuiltToken (tokens.Name raw (chars name.now)) }
@@ -27,7 +27,7 @@ pub fn ident(alloc: Global, name: &str, raw: bool, span: Span) -> Result<Ident, 
     Ident::from_parts(alloc, name, raw, span)
 }
 
-/// The name of the identifier, without `r#` even if it is raw. It is lent, and nothing is copied.
+/// Borrows the name of the identifier, without `r#` even if it is raw. Nothing is copied.
 #[inline(always)]
 pub fn name_of(ident: &Ident) -> &str
     ensures { chars result.now ≡ ident.now.name }
@@ -35,7 +35,7 @@ pub fn name_of(ident: &Ident) -> &str
     ident.name()
 }
 
-/// Whether the identifier is raw.
+/// Returns whether the identifier is raw.
 #[inline(always)]
 pub fn is_raw(ident: &Ident) -> bool
     ensures { result ≡ ident.now.raw }
@@ -43,16 +43,16 @@ pub fn is_raw(ident: &Ident) -> bool
     ident.is_raw()
 }
 
-/// Drops the identifier, as `drop` does, but part by part and inlined.
+/// Drops the identifier, as `drop` does, but field by field and inlined.
 ///
-/// `drop` takes the address of the whole identifier, so that one that was just moved out of a list is first written to
-/// the stack. Here a short name, which owns no memory, costs nothing.
+/// `drop` takes the address of the whole identifier. So an identifier that was just moved out of a list would
+/// first be written to the stack. Here a short name, which owns no memory, costs nothing.
 #[inline(always)]
 pub fn discard(ident: Ident) {
     ident.discard();
 }
 
-/// The mark of this character.
+/// Makes the mark of this character.
 pub fn punct(mark: char, spacing: Spacing, span: Span) -> Punct
     requires { IsTrue (is_mark mark) }
     ensures { result ≡ record { mark = mark; spacing = spacing; span = span } }
@@ -60,7 +60,7 @@ pub fn punct(mark: char, spacing: Spacing, span: Span) -> Punct
     Punct::from_parts(mark, spacing, span)
 }
 
-/// The literal of this text, by the rule `literal-token`. Fails where memory runs out.
+/// Makes the literal of this text (`literal-token`). Out of memory is the only error.
 pub fn literal(alloc: Global, text: &str, span: Span) -> Result<Literal, AllocError>
     requires { IsBuiltToken (tokens.Literal (chars text.now)) }
     ensures ok { IfOk result (λ literal. literal ≡ record { text = chars text.now; span = span }) }
@@ -68,8 +68,8 @@ pub fn literal(alloc: Global, text: &str, span: Span) -> Result<Literal, AllocEr
     Literal::from_parts(alloc, text, span)
 }
 
-/// The `-` of a negative literal, Alone, and the rest, both with the literal's span. Of any other
-/// literal there is no mark, and the rest is the literal. It takes no memory.
+/// Splits a negative literal into its `-`, which is `Alone`, and its number. Both have the literal's span. Any
+/// other literal is returned whole, without a mark. This allocates nothing.
 pub fn split_minus(literal: Literal) -> (Option<Punct>, Literal)
     ensures { MatchOption result.0 ((has_minus literal.text ≡ false) × (result.1 ≡ literal))
         (λ minus. (has_minus literal.text ≡ true)
@@ -78,7 +78,7 @@ pub fn split_minus(literal: Literal) -> (Option<Punct>, Literal)
     literal.split_minus()
 }
 
-/// The string literal of the text. Fails where memory runs out.
+/// Makes the string literal of the text. Out of memory is the only error.
 pub fn string_literal(alloc: Global, text: &str, span: Span) -> Result<Literal, AllocError>
     ensures ok { IfOk result (λ literal.
         literal ≡ record { text = string_text (chars text.now); span = span }) }
@@ -86,7 +86,7 @@ pub fn string_literal(alloc: Global, text: &str, span: Span) -> Result<Literal, 
     Literal::string_at(alloc, text, span)
 }
 
-/// The fault that stands at this span.
+/// Makes the syntax error with this span.
 pub fn fault(span: Span) -> LexError
     ensures { result ≡ span }
 {

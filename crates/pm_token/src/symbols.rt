@@ -1,4 +1,4 @@
-//! The text of a token, kept once.
+//! The texts of tokens.
 ghost use Rattle.std.specs.Prelude.{◌≡◌, ◌<◌, ◌++◌, ℕ, List, drop, length, IfOk, IfSome, IsOk, Some};
 ghost use Rattle.std.specs.Prelude.{codes, string_bytes, if◌then◌else◌};
 ghost use Rattle.std.specs.Fmt.{decimal};
@@ -19,8 +19,8 @@ use std::alloc::{AllocError, Global};
 use std::fmt;
 use std::marker::Model;
 
-/// A short text, in place, or a long one, behind a pointer. One that begins with `-` has a block of its own, so that
-/// the `-` can be taken away without memory.
+/// A text: a short one in place, or a long one in memory that copies share. A long text that begins with `-` is
+/// not shared, so that the `-` can be removed without an allocation.
 #[derive(Drop)]
 enum Text {
     Short(Short),
@@ -29,7 +29,7 @@ enum Text {
 }
 
 impl Text {
-    /// A copy of a long text. Fails where memory runs out.
+    /// Copies a long text. Out of memory is the only error.
     fn long(alloc: Global, text: &str) -> Result<Text, AllocError>
         requires { ROOM < length text.now }
         ensures ok { IfOk result (λ kept. text_bytes kept ≡ text.now) }
@@ -40,7 +40,7 @@ impl Text {
         Ok(Text::Long(Unsigned::new(Shared::new(alloc, text)?)))
     }
 
-    /// The long text itself. Fails where memory runs out.
+    /// Takes a long text without a copy. Out of memory is the only error.
     fn long_from_string(alloc: Global, text: String) -> Result<Text, AllocError>
         requires { ROOM < length (string_bytes text) }
         ensures ok { IfOk result (λ kept. text_bytes kept ≡ string_bytes text) }
@@ -51,7 +51,7 @@ impl Text {
         Ok(Text::Long(Unsigned::new(Shared::from_string(text)?)))
     }
 
-    /// A copy of the text. Fails where memory runs out.
+    /// Copies the text. Out of memory is the only error.
     #[inline(always)]
     fn new(alloc: Global, text: &str) -> Result<Text, AllocError>
         ensures ok { IfOk result (λ kept. text_bytes kept ≡ text.now) }
@@ -64,8 +64,8 @@ impl Text {
         }
     }
 
-    /// The text itself if it is long, and a copy if it is short. Fails where memory runs out, which a
-    /// short text doesn't take.
+    /// Takes the text without a copy if it is long, and copies it if it is short. Out of memory is the only
+    /// error; a short text needs no memory.
     fn from_string(alloc: Global, text: String) -> Result<Text, AllocError>
         ensures ok { IfOk result (λ kept. text_bytes kept ≡ string_bytes text) }
         ensures short { IsShort (chars (string_bytes text)) → IsOk result }
@@ -78,7 +78,7 @@ impl Text {
     }
 }
 
-/// The same text, which a long one shares. It fails as the copy of a literal does.
+/// Copies the text; a long one is shared, unless it begins with `-`. The errors are those of a literal's copy.
 impl Clone for Text {
     ghost is_clone = { λ text copy. text_bytes copy ≡ text_bytes text };
 
@@ -94,7 +94,7 @@ impl Clone for Text {
     }
 }
 
-/// Whether the text begins with `-`.
+/// Returns whether the text begins with `-`.
 #[tactic(auto, using(std::proofs::lemmas::Str::chars_past_char))]
 fn is_negative(text: &str) -> bool
     ensures { result ≡ has_minus (chars text.now) }
@@ -105,7 +105,7 @@ fn is_negative(text: &str) -> bool
     }
 }
 
-/// Takes away the `-` that the text begins with, and answers whether there was one.
+/// Removes the `-` that the text begins with, and returns whether there was one.
 #[tactic(auto, using(std::proofs::lemmas::Str::chars_past_char))]
 fn strip_minus(text: &mut String) -> bool
     ensures found { result ≡ has_minus (chars (string_bytes text.old)) }
@@ -121,7 +121,7 @@ fn strip_minus(text: &mut String) -> bool
     }
 }
 
-/// The text that a token owns: a literal, in characters.
+/// The text of a literal. Contracts speak of its characters.
 #[derive(Drop)]
 pub struct Symbol {
     text: Text,
@@ -134,7 +134,7 @@ impl Model for Symbol {
 }
 
 impl Symbol {
-    /// Keeps a copy of the text. Fails where memory runs out.
+    /// Copies the text. Out of memory is the only error.
     #[inline(always)]
     pub fn new(alloc: Global, text: &str) -> Result<Symbol, AllocError>
         ensures ok { IfOk result (λ symbol. symbol ≡ chars text.now) }
@@ -144,7 +144,7 @@ impl Symbol {
         })
     }
 
-    /// Keeps the text. Fails where memory runs out.
+    /// Takes the text. Out of memory is the only error.
     pub fn from_string(alloc: Global, text: String) -> Result<Symbol, AllocError>
         ensures ok { IfOk result (λ symbol. symbol ≡ chars (string_bytes text)) }
         ensures text { IfOk result IsText }
@@ -154,7 +154,7 @@ impl Symbol {
         })
     }
 
-    /// Both texts, one after the other, if together they are short. It takes no memory.
+    /// Returns both texts joined, if the result is short. This allocates nothing.
     #[inline(always)]
     pub fn joined(front: &str, back: &str) -> Option<Symbol>
         ensures value { IfSome result (λ symbol. symbol ≡ chars (front.now ++ back.now)) }
@@ -168,8 +168,8 @@ impl Symbol {
         })
     }
 
-    /// The number in decimal digits, behind a `-` where it is negative, and what follows it, if together they are
-    /// short. It takes no memory.
+    /// Returns a number in decimal digits, after a `-` if it is negative, joined with `suffix`, if the result
+    /// is short. This allocates nothing.
     #[inline(always)]
     pub(crate) fn number(negative: bool, value: u64, suffix: &str) -> Option<Symbol>
         ensures value { IfSome result (λ symbol. symbol
@@ -181,7 +181,7 @@ impl Symbol {
         })
     }
 
-    /// Both texts, one after the other. Fails where memory runs out, which texts that are short together don't take.
+    /// Returns both texts joined. Out of memory is the only error; a short result needs no memory.
     #[inline(always)]
     pub fn concat(alloc: Global, front: &str, back: &str) -> Result<Symbol, AllocError>
         ensures ok { IfOk result (λ symbol. symbol ≡ chars (front.now ++ back.now)) }
@@ -193,7 +193,7 @@ impl Symbol {
         }
     }
 
-    /// The same of texts that are long together.
+    /// Does what `concat` does, if the result is long.
     fn long_concat(alloc: Global, front: &str, back: &str) -> Result<Symbol, AllocError>
         ensures ok { IfOk result (λ symbol. symbol ≡ chars (front.now ++ back.now)) }
         ensures text { IfOk result IsText }
@@ -204,20 +204,20 @@ impl Symbol {
         Symbol::from_string(alloc, text)
     }
 
-    /// Takes away the `-` that the text begins with, and answers whether there was one.
+    /// Removes the `-` that the text begins with, and returns whether there was one.
     pub fn strip_minus(&mut self) -> bool
         ensures found { result ≡ has_minus self.old }
         ensures rest { self.new ≡ (if result then drop 1 self.old else self.old) }
     {
         match &mut self.text {
             Text::Short(text) => text.strip_minus(),
-            // It has none.
+            // A shared text never begins with `-`.
             Text::Long(text) => is_negative(text.as_str()),
             Text::Negative(text) => strip_minus(text),
         }
     }
 
-    /// The text.
+    /// Returns the text.
     #[inline(always)]
     pub fn as_str(&self) -> &str
         ensures { chars result.now ≡ self.now }
@@ -230,7 +230,7 @@ impl Symbol {
     }
 }
 
-/// The same text, which a long one shares. It fails as the copy of a literal does.
+/// Copies the text; a long one is shared, unless it begins with `-`. The errors are those of a literal's copy.
 impl Clone for Symbol {
     ghost is_clone = { λ symbol copy. copy ≡ symbol };
 

@@ -1,4 +1,4 @@
--- How many comments a walk over the pieces of a text has passed.
+-- The number of comments that a walk over the pieces of a text has passed.
 use Rattle.std.proofs.Common.{◌≡◌, ◌+◌, ◌∙◌, ℕ, true, false, cond, List, [], ◌∷◌, ◌++◌, Some, None}
 use Rattle.std.proofs.Common.{ap, append-nil, arith, refl, subst, sym}
 use Rattle.std.specs.List.{list_all}
@@ -18,7 +18,7 @@ use Rattle.pretty.specs.Comments.{comments, is_comment}
 comments-cons : (x : Piece) (xs : List Piece) → comments (x ∷ xs) ≡ cond (is_comment x) 1 0 + comments xs
 comments-cons x xs = sum_by-cons (λ y. cond (is_comment y) 1 0) x xs
 
--- a white character is no comment
+-- a white character is not a comment
 no_comment : (c : ℕ) → is_white c ≡ true → is_comment (Gap, c ∷ []) ≡ false
 no_comment c white =
     rw (ne_eqb 47 c (λ e. both_ways (is_white 47) refl (subst (λ x. is_white x ≡ true) (sym e) white))) refl
@@ -35,7 +35,7 @@ comments_gaps (c ∷ white) ys each =
       comments_gaps white ys parts.1,
     )
 
--- so many comments were passed, and the walk has the others left
+-- `count` comments were passed, and the walk has the others left
 pub record Passed (text : List ℕ) (walk : PieceWalk) (count : ℕ) : Type 0 where
   pub left : (all : List Piece) → IsCover all text
       → (ys : List Piece) × Covers walk ys × (comments all ≡ count + comments ys)

@@ -15,7 +15,7 @@ use Rattle.pretty.specs.Answer.{IsPretty, Writes, WritesUnless}
 use Rattle.pretty.specs.Comments.{comments}
 use Rattle.pretty.specs.Script.{code_of, script_line}
 
--- a layout that reads back still does with comments
+-- a layout that reads back still does if comments replace attributes
 pub pretty_is : (stream : Forest) (laid text : List ℕ) → IsLayout stream laid → ReadsBack stream laid
     → IsCommented laid text → IsPretty stream text
 pretty_is stream laid text layout back commented = record {
@@ -28,16 +28,16 @@ pretty_is stream laid text layout back commented = record {
       record { parsed = then.parsed; parses = then.parses; same = first.same ∙ then.same };
 }
 
--- pieces cover a text that reads back
+-- a text that reads back has a cover
 pub has_cover : (stream : Forest) (text : List ℕ) → ReadsBack stream text → HasNoCover text → ⊥
 has_cover stream text back none = let first = back 0 in none first.parses.pieces first.parses.covers
 
--- what stays the same keeps its bytes
+-- an output that stays the same keeps its bytes
 pub keeps_self : (known : Option (List ℕ)) → Keeps known known
 keeps_self None = tt
 keeps_self (Some bytes) = refl
 
--- the comments of the code are counted by the pieces that it is parsed by
+-- the counted comments are those of the pieces by which the code is parsed
 pub writes_code : (deny : Bool) (text code : List ℕ) (count : ℕ) (stream : Forest) (old new : Option (List ℕ))
     → code ≡ code_of text → ParsesTo first code stream
     → ((all : List Piece) → IsCover all code → count ≡ comments all)

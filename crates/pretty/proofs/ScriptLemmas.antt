@@ -1,4 +1,4 @@
--- The line with which a script begins.
+-- The first line of a script.
 use Rattle.std.proofs.Common.{◌≡◌, ◌∙◌, ℕ, Bool, false, not, List, [], ◌∷◌, ◌++◌, append_assoc, codes, refl, sym, ap}
 use Rattle.std.proofs.Common.{None, Some, true, ◌==◌, length}
 use Rattle.std.specs.Prelude.{String, string_bytes}
@@ -17,7 +17,7 @@ abbrev rest_of : Answer → List ℕ
 rest_of None = []
 rest_of (Some x) = x.1
 
--- what a search over such characters leaves
+-- what a search for the end of a run of characters leaves
 pub run_rest : (passes : ℕ → Bool) (text front rest : List ℕ) → find (Run passes) text ≡ Some (front, rest)
     → while_rest passes text ≡ rest
 unfolding find
@@ -30,13 +30,13 @@ script_is text rest after whole left = rw (whole, left) refl
 pub script_none : (text : List ℕ) → begins_with (codes "#!") text ≡ false → is_script text ≡ false
 script_none text none = rw none refl
 
--- the characters before it and what it leaves are all
+-- the characters of a run and what follows them are the whole text
 pub run_whole : (passes : ℕ → Bool) (text rest : List ℕ) → while_rest passes text ≡ rest
     → text ≡ while_front passes text ++ rest
 run_whole passes text rest left =
     sym (while_whole passes text) ∙ ap (λ r. while_front passes text ++ r) left
 
--- a line that isn't empty comes first, and its LF
+-- a line that isn't empty comes first, and then its LF
 pub line_first : (line text : List ℕ) (c : ℕ) (more : List ℕ) → line ≡ c ∷ more
     → (line ++ codes "\n") ++ text ≡ with_line line text
 line_first line text c more is = rw is (append_assoc (c ∷ more) (codes "\n") text)
@@ -54,7 +54,7 @@ some_chars text utf8 some = by_cases (chars text) refl
         absurd (both_ways _ some (ap (λ t. length t == 0) nil))
     by_cases (c ∷ more) e = (c, more, e)
 
--- what was written after a line that isn't empty, and its LF
+-- the text that is written after a line that isn't empty and its LF
 pub line_written : {Z : Type 0} (s : String Z) (line text a b d e : List ℕ) → IsUtf8 line
     → (length line == 0) ≡ false → a ≡ [] → b ≡ a ++ chars line → d ≡ b ++ (10 ∷ []) → e ≡ d ++ text
     → string_bytes s ≡ encode_utf8_all e → chars (string_bytes s) ≡ with_line (chars line) text

@@ -13,25 +13,25 @@ use Rattle.relayout.specs.Comments.{IsCommented}
 use Rattle.pretty.specs.Comments.{comments}
 use Rattle.pretty.specs.Script.{code_of, script_line, with_line}
 
--- the text is a layout of the stream with doc comments in the place of attributes, and reads back to the stream
+-- the text is a layout of the stream in which doc comments replace attributes, and reads back to the stream
 pub record IsPretty (stream : Forest) (text : List ℕ) : Type 0 where
   pub laid : List ℕ
   pub layout : IsLayout stream laid
   pub commented : IsCommented laid text
   pub back : ReadsBack stream text
 
--- such a text is written between old and new, after the line with which the script begins
+-- a pretty text of the stream is appended to the output, after the first line of the script
 abbrev pub WritesPretty : List ℕ → Forest → Option (List ℕ) → Option (List ℕ) → Type 0
 WritesPretty line stream old new =
     (text : List ℕ) × IsPretty stream text × Appends old new (encode_utf8_all (with_line line text))
 
--- or nothing is written
+-- nothing is written if comments are denied; otherwise a pretty text of the stream
 abbrev pub WritesUnless : Bool → List ℕ → Forest → Option (List ℕ) → Option (List ℕ) → Type 0
 WritesUnless true line stream old new = Keeps old new
 WritesUnless false line stream old new = WritesPretty line stream old new
 
--- the text of the stream that the code parses to is written, after the line with which the script begins; if comments
--- are denied and the code has some, nothing is
+-- the pretty text of the stream to which the code parses is written, after the first line of the script; nothing is
+-- written if comments are denied and the code has some
 pub record Writes (deny : Bool) (text : List ℕ) (count : ℕ) (old new : Option (List ℕ)) : Type 0 where
   pub pieces : List Piece
   pub covers : IsCover pieces (code_of text)

@@ -1,4 +1,4 @@
-//! What the program writes for a text.
+//! Writes the tokens of a text so that people read them well.
 ghost use Rattle.std.specs.Prelude.{◌≡◌, IfErr, IfOk, List, OnOk, ℕ, string_bytes};
 ghost use Rattle.std.specs.Str.{chars};
 ghost use Rattle.messages.specs.Parsed.{MayFail};
@@ -17,13 +17,14 @@ use relayout::{RelayoutError, with_doc_comments};
 use std::alloc::Global;
 use std::io::Write;
 
-/// Writes the tokens of the text, in a layout that reads back to them, with doc comments in the place of the attributes
-/// that they are read as. The line `#!..` with which a script begins stands before them.
+/// Writes the tokens of the text, in a layout that reads back to them. Doc comments replace the attributes that they
+/// are read as. The line `#!..` at the start of a script comes first.
 ///
-/// Answers how many plain comments the text has, which are left out. With `deny` nothing is written if it has some.
+/// Returns how many plain comments the text has, which are left out. If it has some and `deny` is true, nothing is
+/// written.
 ///
-/// Fails with `Fault`, which has line and column, `MapFull` and `Memory` before anything is written, and with `Write`;
-/// then a beginning of the text may stand.
+/// Returns `Fault`, which has line and column, `MapFull` or `Memory` before anything is written. Returns `Write` if a
+/// write fails: a prefix of the text may have been written then.
 pub fn print_text<W: Write>(
     alloc: Global,
     text: &str,
@@ -51,7 +52,7 @@ pub fn print_text<W: Write>(
     }
 }
 
-/// Writes a stream that is well spaced, after such a line.
+/// Writes a well-spaced stream after the first line of a script, if there is one.
 fn print_stream<W: Write>(
     alloc: Global,
     line: &str,
@@ -70,7 +71,7 @@ fn print_stream<W: Write>(
     Ok(())
 }
 
-/// The pretty text of a stream that is well spaced. Only memory can fail.
+/// Returns the pretty text of a well-spaced stream. The only error is that memory runs out.
 fn pretty_text(alloc: Global, stream: &TokenStream) -> Result<String, Failure>
     requires { IsWellSpaced stream.now }
     ensures ok { IfOk result (λ text. IsPretty stream.now (chars (string_bytes text))) }

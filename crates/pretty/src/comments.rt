@@ -1,4 +1,4 @@
-//! The plain comments of a text, which no token keeps.
+//! Counts the plain comments of a text, which no token keeps.
 ghost use Rattle.std.specs.Prelude.{◌≡◌, ◌<◌, ◌&&◌, List, OnOk, nat_lt};
 ghost use Rattle.std.specs.Io.KnownBytes.{Appends};
 ghost use Rattle.std.specs.Str.{chars};
@@ -13,13 +13,13 @@ use lexical::{PieceKind, PlacedPiece, pieces};
 use std::io;
 use std::io::Write;
 
-/// How many comments a text has that are no doc comments.
+/// Returns how many comments of a text are not doc comments.
 ///
-/// Of `/// a`, LF, `fn f() {} // b` and `/* c */` there are two.
+/// Example: `/// a`, LF, `fn f() {} // b` and `/* c */` have two.
 pub fn count_comments(text: &str) -> usize
     ensures { (all : List Piece) → IsCover all (chars text.now) → result ≡ comments all }
 {
-    // A comment has a byte at least, so that no count of them wraps.
+    // Each comment has at least one byte, so the count cannot overflow.
     let _bytes = text.len();
     let mut count: usize = 0;
     let mut walk = pieces(text);
@@ -31,7 +31,7 @@ pub fn count_comments(text: &str) -> usize
     count
 }
 
-/// Whether the piece is a comment that is no doc comment.
+/// Whether the piece is a comment, but not a doc comment.
 fn is_comment(next: PlacedPiece<'_>) -> bool
     ensures { result ≡ is_comment (
       kind_of next.entry.piece.kind (chars next.entry.text.now),
@@ -44,7 +44,7 @@ fn is_comment(next: PlacedPiece<'_>) -> bool
     }
 }
 
-/// Says on `errors` that so many comments are left out of what was written.
+/// Writes to `errors` that `count` comments were left out.
 pub fn say_left_out<E: Write>(count: usize, errors: &mut E) -> io::Result<()>
     ensures { OnOk result (Appends (E.contents errors.old) (E.contents errors.new) (note count)) }
 {
@@ -60,7 +60,7 @@ pub fn say_left_out<E: Write>(count: usize, errors: &mut E) -> io::Result<()>
     )
 }
 
-/// Says on `errors` that nothing was written of the file at this path, as so many comments are not to be left out.
+/// Writes to `errors` that nothing was written for the file at this path, since `count` comments would be lost.
 pub fn say_denied<E: Write>(path: &str, count: usize, errors: &mut E) -> io::Result<()>
     ensures { OnOk result (Appends (E.contents errors.old) (E.contents errors.new) (denial path.now count)) }
 {

@@ -1,16 +1,16 @@
 //! Prints the tokens of a source text so that people read them well.
 //!
-//! `pretty [--deny-comments] [FILE]` reads the file, or standard input where it is `-` or there is none. What it writes
-//! has the tokens of the text, and reads back to them; doc attributes are written as doc comments where that can be. A
+//! `pretty [--deny-comments] [FILE]` reads the file, or standard input if the file is `-` or not named. The output has
+//! the tokens of the text, and reads back to them. Doc attributes become doc comments where a comment can hold them. A
 //! first line `#!..` stays as it is, unless it begins an attribute.
 //!
 //! Plain comments are left out, and a line on standard error says how many. With `--deny-comments` nothing is written
-//! of a text that has some.
+//! for a text that has some.
 //!
-//! The status is 0 where the text was read and all was written, 1 where the text has a fault or, with
-//! `--deny-comments`, comments, and 2 where the words ask for nothing, a read or a write failed, the input isn't UTF-8
-//! or too long, or memory ran out. A line on standard error says why, but nothing where nobody reads the output any
-//! more.
+//! The status is 0 if the text was read and everything was written. It is 1 if the text has a syntax error or, with
+//! `--deny-comments`, plain comments. It is 2 if the command line is wrong, if a read or a write failed, if the input
+//! isn't UTF-8 or is too long, or if memory ran out. Then a line on standard error says why, unless the output has no
+//! reader any more.
 #![tactic(auto)]
 
 mod answer;
@@ -33,13 +33,13 @@ fn main(rt: HostRuntime) -> ExitCode {
     }
 }
 
-/// What the words after the program's name ask for.
+/// Returns the options of the command line.
 fn asked(rt: &HostRuntime) -> Result<Options, Failure> {
     let words = words(rt.alloc(), env::args(rt), USAGE)?;
     options_of(rt.alloc(), words.as_slice())
 }
 
-/// Prints the tokens of the file, says what is left out, and answers the status.
+/// Prints the tokens of the file, writes which comments are left out, and returns the exit status.
 fn pretty_file(rt: &HostRuntime, options: &Options) -> ExitCode {
     let path = options.path.as_str();
     match print_file(rt, options) {
@@ -56,7 +56,7 @@ fn pretty_file(rt: &HostRuntime, options: &Options) -> ExitCode {
     }
 }
 
-/// Prints the tokens of the file, and answers how many comments it has.
+/// Prints the tokens of the file, and returns how many plain comments it has.
 fn print_file(rt: &HostRuntime, options: &Options) -> Result<usize, Failure> {
     let text = read_text(rt, options.path.as_str())?;
     let mut writer = BufWriter::new(rt.alloc(), rt.stdout())?;

@@ -1,4 +1,4 @@
-//! The line with which a script begins.
+//! The first line of a script.
 ghost use Rattle.std.specs.Prelude.{◌≡◌, ◌++◌, IfOk, IfSome, IsTrue, MatchOption, false, string_bytes};
 ghost use Rattle.std.specs.Str.{IsUtf8, chars};
 ghost use Rattle.lexical.specs.Ascii.{all_ascii};
@@ -9,10 +9,10 @@ use lexical::parts::{Class, Cursor, before, begins, skip, skip_to};
 use pm_token::parts::TextBuilder;
 use std::alloc::{AllocError, Global};
 
-/// The line `#!..` with which a script begins, without its LF, and what follows it. The line is empty where the text
-/// does not begin with `#!`, and where that begins an attribute: where `[` follows, perhaps after white space.
+/// Splits off the first line `#!..` of a script, without its LF. The line is empty if the text does not begin with
+/// `#!`, or if that begins an attribute: if `[` follows, perhaps after white space.
 ///
-/// What follows begins with the line's LF, so that each character of it is in the line that it has in the text.
+/// The rest begins with the line's LF, so that each of its characters is on the same line as in the text.
 pub fn split_script(text: &str) -> (&str, &str)
     ensures line { chars result.0.now ≡ script_line (chars text.now) }
     ensures code { chars result.1.now ≡ code_of (chars text.now) }
@@ -26,7 +26,7 @@ pub fn split_script(text: &str) -> (&str, &str)
     (before(text, code), code)
 }
 
-/// Whether the text begins with such a line.
+/// Whether the text begins with the first line of a script.
 fn is_script(text: &str) -> bool
     ensures { result ≡ is_script (chars text.now) }
 {
@@ -36,7 +36,7 @@ fn is_script(text: &str) -> bool
     }
 }
 
-/// What follows this ASCII front of the text.
+/// Returns what follows `front`, if the text begins with it.
 fn strip<'a>(text: &'a str, front: &str) -> Option<&'a str>
     requires { IsTrue (all_ascii front.now) }
     ensures split { MatchOption result (begins_with front.now (chars text.now) ≡ false)
@@ -46,7 +46,7 @@ fn strip<'a>(text: &'a str, front: &str) -> Option<&'a str>
     text.strip_prefix(front)
 }
 
-/// The text with such a line and its LF before it, if there is one.
+/// Returns the text after the line and an LF, or the text alone if the line is empty.
 pub fn with_line(alloc: Global, line: &str, text: String) -> Result<String, AllocError>
     ensures { IfOk result (λ out. chars (string_bytes out) ≡ with_line (chars line.now) (chars (string_bytes text))) }
 {

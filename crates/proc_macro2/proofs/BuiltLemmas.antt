@@ -1,4 +1,4 @@
--- What a text parses to is built, and a built stream prints a text.
+-- A text parses to a built stream, and a built stream prints a text.
 use Rattle.std.proofs.Common.{◌≡◌, ◌==◌, ℕ, ◌+◌, ◌≤◌, Bool, true, false, List, [], ◌∷◌, ◌++◌, length, refl, sym, subst}
 use Rattle.std.proofs.Common.{arith, inl, inr}
 use Rattle.std.specs.Char.{IsScalar}
@@ -31,7 +31,7 @@ doc_text : (inner : Bool) (text p r : List ℕ) → Doc inner text p r → IsTex
 doc_text inner text p r h all =
     (text_split text (closing p r) (text_split h.front (text ++ closing p r) (subst IsText h.whole all)).1).0
 
--- each token is built, each span ends at or after its begin, and no group begins or ends before n
+-- whether each token is built, each span ends at or after its start, and no group begins or ends before n
 abbrev Rising : ℕ → List Event → Type 0
 Rising n [] = Unit {0}
 Rising n (One token lo hi ∷ es) = IsBuiltToken token × (lo ≤ hi) × Rising n es
@@ -62,7 +62,7 @@ doc_rises n lo hi true text es l le all more =
     (refl, le, sign)
 doc_rises n lo hi false text es l le all more = (refl, le, doc_group_rises n lo hi text es l le all more)
 
--- what a piece gives before other events
+-- the events of a piece, before other events
 events_rise : (n at : ℕ) (b : Bool) (k : Kind) (p r : List ℕ) (es : List Event) → n ≤ at → IsText p → IsPiece b k p r
     → ((m : ℕ) → m ≤ at + length p → Rising m es) → Rising n (events_onto at k p es)
 events_rise n at b FrontMark p r es l all h more = more n (omega arith)
@@ -96,7 +96,7 @@ parsed_built base source t all h =
     (flat_built base t [] (subst (Rising base) (sym h.expands)
     (expansion_rises base base true h.pieces [] (omega arith) (subst IsText h.covers.whole all) h.covers.stand))).0
 
--- ---- what is printed of a built stream
+-- ---- the printed text of a built stream
 
 -- the marks are ASCII
 mark_text : (c : ℕ) → is_mark c ≡ true → IsText (c ∷ [])

@@ -1,4 +1,4 @@
--- Pieces before a line's end that is put in after them.
+-- A line feed is put in after some pieces.
 use Rattle.std.proofs.Common.{◌≡◌, ℕ, ◌⊎◌, Bool, true, false, not, ◌==◌, List, [], ◌∷◌, ◌++◌, codes, refl, sym, ap, ◌∙◌}
 use Rattle.std.proofs.Common.{subst, inl, inr, append_assoc}
 use Rattle.std.proofs.lemmas.Bool.{both_ways}
@@ -23,11 +23,11 @@ use Rattle.lexical.proofs.PieceFacts.{piece_not_empty}
 use Rattle.grammar_laws.proofs.NameLemmas.{name_before}
 use Rattle.proc_macro2.proofs.PieceStarts.{joint_by}
 
--- nothing follows the pieces, or a line may be broken after them
+-- whether nothing follows the pieces, or a line may be broken after them
 abbrev pub MayBreak : List Piece → List ℕ → Type 0
 MayBreak us v = (v ≡ []) ⊎ (ends_quiet us ≡ true)
 
--- a text that begins with none of the fronts begins with none of them where a line's end is put in
+-- a text that begins with none of these also begins with none of them if a line feed is put in
 any_line : (fronts : List (List ℕ)) (p : List ℕ) (us : List Piece) (v w : List ℕ)
     → list_all (list_all (λ c. not (c == 10))) fronts ≡ true
     → begins_any fronts (p ++ onto us v) ≡ false → begins_any fronts (p ++ onto us (10 ∷ w)) ≡ false
@@ -38,7 +38,7 @@ any_line fronts p us v w none h =
     ∙ any_cut (λ c. not (c == 10)) fronts (p ++ onto us []) v (10 ∷ w) none refl
     (ap (begins_any fronts) (sym (far v)) ∙ h)
 
--- the first character of a piece stays
+-- the first character of a piece does not change
 first_stays : (f : ℕ → Bool) (x : Piece) (us : List Piece) (v w : List ℕ) → IsPiece false x.0 x.1 (onto us v)
     → first_passes f (onto (x ∷ us) v) ≡ first_passes f (onto (x ∷ us) w)
 first_stays f x us v w h =
@@ -66,7 +66,7 @@ cut_last b (Leaf (Literal text)) p v w h q = (h.0, literal_before_stop text v (1
 
 -- ---- a piece before others
 
--- the identifier after `'` is the piece there, and nothing that bars the `'` follows it
+-- the identifier after `'` is still the piece there, and what follows still allows the `'`
 follows_cut : (x : Piece) (us : List Piece) (v w : List ℕ) → FollowsQuote (onto (x ∷ us) v)
     → StandBefore false (x ∷ us) v
     → StandBefore false (x ∷ us) (10 ∷ w) → FollowsQuote (onto (x ∷ us) (10 ∷ w))
@@ -100,7 +100,7 @@ follows_cut (k, p) us v w f old new = by_kind (quote_next false k p (onto us v) 
         let fronts = literal_quoted text (onto us v) was.1 (subst (λ x. FollowsQuote (x ++ onto us v)) was.0 f) in
         subst (λ x. FollowsQuote (x ++ onto us (10 ∷ w))) (sym was.0) (prefixed_follows text (onto us (10 ∷ w)) fronts)
 
--- a name, where the first character of what follows stays
+-- a name stays one if the first character after it does not change
 name_same : (p r s : List ℕ) → ((f : ℕ → Bool) → first_passes f r ≡ first_passes f s) → IsName p r → IsName p s
 name_same p r s same h = name_before p r s (sym (same is_ident_continue) ∙ h.second.stops) h
 
@@ -143,7 +143,7 @@ cut_piece b (Leaf (Name raw name)) p x us v w q h old new = (h.0, identifier_cut
 cut_piece b (Leaf (Mark c joint)) p x us v w q h old new = (h.0, mark_cut c joint x us v w old new h.1)
 cut_piece b (Leaf (Literal text)) p x us v w q h old new = (h.0, literal_cut text (x ∷ us) v (10 ∷ w) refl q h.1 old)
 
--- ---- all of them
+-- ---- all pieces
 
 pub stand_cut : (b : Bool) (us : List Piece) (v w : List ℕ) → MayBreak us v → StandBefore b us v
     → StandBefore b us (10 ∷ w)

@@ -17,7 +17,7 @@ bare (One token lo hi ∷ es) = One token 0 0 ∷ bare es
 bare (Opens d lo ∷ es) = Opens d 0 ∷ bare es
 bare (Closes d hi ∷ es) = Closes d 0 ∷ bare es
 
--- what the pieces say, without spans
+-- the events of the pieces, without spans
 abbrev pub said_onto : Kind → List Event → List Event
 said_onto FrontMark es = es
 said_onto Gap es = es
@@ -117,14 +117,14 @@ none_like (One u lo hi ∷ es) h = absurd (cc)
 none_like (Opens c lo ∷ es) h = absurd (cc)
 none_like (Closes c hi ∷ es) h = absurd (cc)
 
--- pieces that say what a stream says are those of a stream that is the same
+-- if pieces have the events of a stream, up to spans, they are the pieces of a stream that is the same
 pub same_from_said : (base : ℕ) (s : Forest) (ps : List Piece) → said ps ≡ bare (flattening s)
     → (t : Forest) × (flattening t ≡ expansion base ps) × Same s t
 same_from_said base s ps h =
     let x = placed s (expansion base ps) [] (bare-expansion base ps ∙ h) in
     (x.0, ap (flat_onto x.0) (sym (none_like x.1 x.3)) ∙ sym x.2, sym x.4)
 
--- what a parsed stream says
+-- the events of a parsed stream, without spans, are those of its pieces
 pub said_parsed : (base : ℕ) (source : List ℕ) (s : Forest) (h : ParsesTo base source s)
     → said h.pieces ≡ bare (flattening s)
 said_parsed base source s h = sym (bare-expansion base h.pieces) ∙ ap bare (sym h.expands)

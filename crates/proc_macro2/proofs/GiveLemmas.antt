@@ -19,7 +19,7 @@ use Rattle.proc_macro2.proofs.RunLemmas.{each_map, each_stands}
 
 -- ---- one file
 
--- the file that has a position, among files that begin at k
+-- the file that has a position, if the files begin at k
 same_file : (k : ℕ) (us vs xs ys : List (List ℕ)) (s t : List ℕ) (position : ℕ) → us ++ (s ∷ xs) ≡ vs ++ (t ∷ ys)
     → k + positions us ≤ position → position ≤ k + positions us + length s
     → k + positions vs ≤ position → position ≤ k + positions vs + length t
@@ -40,7 +40,7 @@ same_file k (x ∷ us) (y ∷ vs) xs ys s t position e a b c d =
     (omega (arith, m)) (omega (arith, m)) (omega (arith, n, ap length head)) (omega (arith, n, ap length head)) in
     (more.0, omega (arith, m, n, ap length head, more.1))
 
--- no two files have a position
+-- at most one file has a position
 one_file : (map : Files) (s t : List ℕ) (lo begin position : ℕ) → IsFile map s lo → IsFile map t begin
     → lo ≤ position → position ≤ lo + length s → begin ≤ position → position ≤ begin + length t
     → (s ≡ t) × (lo ≡ begin)

@@ -1,4 +1,4 @@
--- Texts with a line's end between them.
+-- Texts with a line feed between them.
 use Rattle.std.proofs.Common.{◌≡◌, ℕ, Bool, true, false, List, [], ◌∷◌, ◌++◌, refl, sym, ap, ap₂, ◌∙◌, subst, inl, inr}
 use Rattle.std.proofs.lemmas.Bool.{both_ways}
 use Rattle.lexical.specs.Text.{begins_with}
@@ -32,7 +32,7 @@ stand_back b [] vs r e h = absurd (both_ways false refl e)
 stand_back b (x ∷ []) vs r e h = h.1
 stand_back b (x ∷ (y ∷ us)) vs r e h = stand_back false (y ∷ us) vs r e h.1
 
--- pieces that begin with no front mark stand at any position
+-- pieces that don't begin with U+FEFF may be anywhere in a text
 stand_later : (ps : List Piece) (r : List ℕ) → begins_with (0xFEFF ∷ []) (onto ps r) ≡ false → StandBefore true ps r
     → StandBefore false ps r
 stand_later [] r e h = tt
@@ -44,7 +44,7 @@ stand_later ((Open c, p) ∷ ps) r e h = h
 stand_later ((Close c, p) ∷ ps) r e h = h
 stand_later ((Leaf t, p) ∷ ps) r e h = h
 
--- pieces, a line's end, and pieces
+-- some pieces, a line feed, and other pieces
 line_between : (at : ℕ) (s : Forest) (us vs : List Piece) (v : List ℕ) → MayBreak us v → StandBefore true us v
     → StandBefore false vs []
     → said us ++ said vs ≡ bare (flattening s) → Gives at (onto us (10 ∷ onto vs [])) s

@@ -1,4 +1,4 @@
--- How pieces begin: before which of them a mark is Joint, and which of them may stand after `'`.
+-- How pieces begin: which of them make a mark before them Joint, and which may follow `'`.
 use Rattle.std.proofs.Common.{◌≡◌, ◌≢◌, ℕ, ◌<◌, nat_lt, Bool, true, false, not, ◌&&◌, ◌||◌, ◌==◌, List, [], ◌∷◌, ◌++◌}
 use Rattle.std.proofs.Common.{IsTrue, codes, refl, sym, ap, ◌∙◌, subst, inl, inr, arith, eqb-true, eq-eqb, ltb-true}
 use Rattle.std.proofs.Common.{append-nil}
@@ -26,7 +26,7 @@ use Rattle.pm_token.specs.Built.{IsBuiltToken}
 
 -- ---- characters
 
--- what holds of the characters of an ASCII list
+-- a property of all characters in an ASCII list
 in_list : (ds : List ℕ) (g : ℕ → Bool) → list_all (λ d. nat_lt d 128 && not (g d)) ds ≡ true → (c : ℕ)
     → list_any (λ d. d == c) ds ≡ true
     → (c < 128) × (g c ≡ false)
@@ -62,27 +62,27 @@ closer_no_mark c h = any_of (λ d. is_mark d ≡ false) (codes ")]}") c (refl, (
 
 -- ---- comments
 
--- a first character with a property
+-- the first character of a piece decides whether a property is true of the text
 begins_as : (f : ℕ → Bool) (b : Bool) {p q : List ℕ} {c : ℕ} (r : List ℕ) → p ≡ c ∷ q → f c ≡ b
     → first_passes f (p ++ r) ≡ b
 begins_as f b r e h = ap (λ x. first_passes f (x ++ r)) e ∙ h
 
--- neither front begins where `/` doesn't
+-- no comment begins where `/` doesn't
 no_slash : (c : ℕ) (r : List ℕ) → (47 == c) ≡ false → begins_any comment_fronts (c ∷ r) ≡ false
 no_slash c r other = or_from _ _ (and_left (47 == c) _ other) (or_from _ _ (and_left (47 == c) _ other) refl)
 
--- what begins with no mark begins no comment
+-- a text that begins with no mark begins with no comment
 pub no_mark_plain : (r : List ℕ) → first_passes is_mark r ≡ false → begins_any comment_fronts r ≡ false
 no_mark_plain [] h = refl
 no_mark_plain (c ∷ r) h =
     no_slash c r (false_from_ne_true (47 == c)
     (λ same. both_ways (is_mark c) h (ap is_mark (sym (eqb-true 47 c same)))))
 
--- one character is no comment
+-- one character begins no comment
 pub mark_ends : (c : ℕ) → begins_any comment_fronts (c ∷ []) ≡ false
 mark_ends c = or_from _ _ (and_right (47 == c) false refl) (or_from _ _ (and_right (47 == c) false refl) refl)
 
--- a mark before `'` begins none
+-- a mark before `'` begins no comment
 pub tick_comment : (c : ℕ) (p r : List ℕ) → first_passes (λ x. x == 39) p ≡ true
     → begins_any comment_fronts (c ∷ (p ++ r)) ≡ false
 tick_comment c [] r h = absurd (both_ways false refl h)
@@ -91,7 +91,7 @@ tick_comment c (d ∷ p) r h = subst (λ x. begins_any comment_fronts (c ∷ x �
 
 -- ---- the pieces
 
--- the pieces before which a mark is Joint
+-- the pieces that make a mark before them Joint
 abbrev pub joins : Kind → Bool
 joins FrontMark = false
 joins Gap = false
@@ -102,7 +102,7 @@ joins (Leaf (Name raw name)) = false
 joins (Leaf (Mark c joint)) = true
 joins (Leaf (Literal text)) = first_passes (λ c. c == 39) text
 
--- those before which the mark `'` may stand
+-- the pieces that may follow the mark `'`
 abbrev pub quotes : Kind → Bool
 quotes FrontMark = false
 quotes Gap = false
@@ -113,7 +113,7 @@ quotes (Leaf (Name raw name)) = true
 quotes (Leaf (Mark c joint)) = false
 quotes (Leaf (Literal text)) = begins_any quotable_fronts text
 
--- those that may begin with the front of a comment
+-- the pieces that may begin like a comment
 abbrev pub is_gap : Kind → Bool
 is_gap FrontMark = false
 is_gap Gap = true
@@ -122,17 +122,17 @@ is_gap (Open c) = false
 is_gap (Close c) = false
 is_gap (Leaf token) = false
 
--- a plain name begins with a start
+-- a plain name begins with a character that may begin an identifier
 plain_first : (name r : List ℕ) → Stands (Name false name) r
     → (c : ℕ) × (q : List ℕ) × (name ≡ c ∷ q) × (is_ident_start c ≡ true)
 plain_first name r h = let n = h.0.0 in (n.first.0, n.back, n.whole ∙ ap (λ x. x ++ n.back) n.first.1, n.first.2)
 
--- where a mark stands no comment begins
+-- where a mark is, no comment begins
 mark_plain : (c : ℕ) (joint : Bool) (r : List ℕ) → Stands (Mark c joint) r → begins_any comment_fronts (c ∷ r) ≡ false
 mark_plain c joint r (inl mark) = mark.0.1
 mark_plain c joint r (inr quote) = let is : c ≡ 39 = cc in ap (λ x. begins_any comment_fronts (x ∷ r)) is
 
--- what begins with a piece that is no gap begins no comment
+-- a text that begins with a piece other than a gap begins with no comment
 pub no_comment : (b : Bool) (k : Kind) (p r : List ℕ) → is_gap k ≡ false → IsPiece b k p r
     → begins_any comment_fronts (p ++ r) ≡ false
 no_comment b FrontMark p r g h = ap (λ x. begins_any comment_fronts (x ++ r)) h.1
@@ -179,7 +179,7 @@ literal_joint p r h =
           ∙ sym (ap (first_passes (λ x. x == 39)) first.whole ∙ other)
     ]
 
--- whether a mark is Joint before a piece
+-- the next piece decides whether a mark is Joint
 pub joint_by : (b : Bool) (k : Kind) (p r : List ℕ) → IsPiece b k p r → joint_before (p ++ r) ≡ joins k
 joint_by b FrontMark p r h = alone_before (p ++ r) (begins_as is_mark false r h.1 refl)
 joint_by b Gap p r (inl h) = alone_before (p ++ r) (begins_as is_mark false r h.1 (white_no_mark h.0 h.2))
@@ -198,7 +198,7 @@ joint_by b (Leaf (Mark c joint)) p r h =
     (no_comment b (Leaf (Mark c joint)) p r refl h)
 joint_by b (Leaf (Literal text)) p r h = ap (λ x. joint_before (x ++ r)) h.0 ∙ literal_joint text r h.1
 
--- what stands after `'`
+-- the piece after `'` is one of those that may follow it
 pub quoted_by : (b : Bool) (k : Kind) (p r : List ℕ) → IsPiece b k p r → FollowsQuote (p ++ r) → quotes k ≡ true
 quoted_by b k p r h f = elim (quote_next b k p r h f) [
   | inl name ↦ ap quotes name.2
@@ -207,9 +207,9 @@ quoted_by b k p r h f = elim (quote_next b k p r h f) [
       ap quotes literal.1 ∙ literal_quoted literal.0 r stands.1 (subst (λ x. FollowsQuote (x ++ r)) stands.0 f)
 ]
 
--- ---- what is built stands before a space, a line's end, a closer and the end
+-- ---- built tokens may be before a space, a line feed, a closer and the end
 
--- the quotes and the hash sign, which no name has
+-- the characters that no name has: quotes and the hash sign
 abbrev no_sign : ℕ → Bool
 no_sign c = not (c == 34) && (not (c == 35) && not (c == 39))
 
@@ -258,7 +258,7 @@ pub name_stands : (raw : Bool) (name s : List ℕ) → IsBuiltToken (Name raw na
     → Stands (Name raw name) s
 name_stands raw name s h e = identifier_before_stop raw name [] s e (built_identifier raw name h)
 
--- the mark c is no `'`
+-- a mark other than `'` is in this class
 pub plain_mark : (c : ℕ) → is_mark c ≡ true → c ≢ 39 → IsTrue (is_mark c && not (c == 39))
 plain_mark c m other = and_from (is_mark c) (not (c == 39)) m (not_from_false (c == 39) (ne_eqb c 39 other))
 
@@ -266,7 +266,7 @@ pub alone_stands : (c : ℕ) (s : List ℕ) → is_mark c ≡ true → c ≢ 39 
 alone_stands c s m other e = inl
     (mark_before_stop c [] s e ((c, refl, plain_mark c m other), mark_ends c), sym (stop_alone s e))
 
--- a Joint mark before a piece
+-- a Joint mark before a piece that it joins
 pub joint_stands : (c : ℕ) (b : Bool) (k : Kind) (p r : List ℕ) → is_mark c ≡ true → c ≢ 39 → IsPiece b k p r
     → joins k ≡ true
     → begins_any comment_fronts (c ∷ (p ++ r)) ≡ false → Stands (Mark c true) (p ++ r)
@@ -281,7 +281,7 @@ literal_stands text s h e = literal_before_stop text [] s e (whole_any text h)
 
 -- ---- openers
 
--- a text that doesn't begin with a front doesn't begin with a longer one
+-- a text that doesn't begin with a prefix doesn't begin with a longer one
 begins_longer : (front more text : List ℕ) → begins_with front text ≡ false → begins_with (front ++ more) text ≡ false
 begins_longer [] more text h = absurd (both_ways true h refl)
 begins_longer (c ∷ front) more [] h = refl
@@ -290,7 +290,7 @@ begins_longer (c ∷ front) more (d ∷ text) h = elim (and_cases (c == d) (begi
   | inr there ↦ and_right (c == d) (begins_with (front ++ more) text) (begins_longer front more text there)
 ]
 
--- the literal that begins with `(` doesn't begin before what begins no comment
+-- the literal that begins with `(` can't begin if no comment begins after the `(`
 pub no_error : (r : List ℕ) → begins_any comment_fronts r ≡ false → begins_any (error_literal ∷ []) (40 ∷ r) ≡ false
 no_error r plain =
     let parts = or_parts (begins_with (codes "//") r) (begins_any (codes "/*" ∷ []) r) plain in

@@ -1,4 +1,4 @@
--- The printed text of a well spaced stream, as a cover.
+-- The pieces of the printed text of a well spaced stream.
 use Rattle.std.proofs.Common.{◌≡◌, ◌≢◌, ℕ, Bool, true, false, ◌&&◌, ◌==◌, List, [], ◌∷◌, ◌++◌, refl, sym, ap, ◌∙◌}
 use Rattle.std.proofs.Common.{subst, inl, inr, append_assoc}
 use Rattle.std.proofs.lemmas.Bool.{both_ways, cond-true, cond-false, and_parts, eqb-true, eqb-false, cases_Bool}
@@ -50,7 +50,7 @@ abbrev pub gap_then : Bool → List Piece → List Piece
 gap_then true ps = (Gap, 32 ∷ []) ∷ ps
 gap_then false ps = ps
 
--- the pieces of trees that are printed after a tree, and then ps
+-- the pieces of trees that are printed after another tree, and then ps
 abbrev pub pieces_onto : Bool → Forest → List Piece → List Piece
 pieces_onto gap nil ps = ps
 pieces_onto gap (leaf t lo hi f) ps = gap_then gap (token_piece t ∷ pieces_onto (parts t) f ps)
@@ -62,7 +62,7 @@ onto_gap : (gap : Bool) (ps : List Piece) (r : List ℕ) → onto (gap_then gap 
 onto_gap true ps r = refl
 onto_gap false ps r = refl
 
--- their text
+-- the text of these pieces
 pub onto_printed : (gap : Bool) (f : Forest) (ps : List Piece) (r : List ℕ)
     → onto (pieces_onto gap f ps) r ≡ printed_after gap f ++ onto ps r
 onto_printed gap nil ps r = refl
@@ -79,14 +79,14 @@ onto_printed gap (group d lo hi f k) ps r =
     (onto_printed true k ps r)
     ∙ simp append_assoc)))
 
--- ---- each piece stands
+-- ---- each piece is valid before what follows
 
 stand_gap : (gap b : Bool) (ps : List Piece) (r : List ℕ) → ((c : Bool) → StandBefore c ps r)
     → StandBefore b (gap_then gap ps) r
 stand_gap true b ps r h = (inl (32, refl, refl), h false)
 stand_gap false b ps r h = h b
 
--- a delimiter that is shown stands
+-- a delimiter that is written is a valid piece
 pub stand_open : (d : Delimiter) (b : Bool) (r : List ℕ) → is_shown d ≡ true
     → (d ≡ Parenthesis → begins_any comment_fronts r ≡ false)
     → IsPiece b (Open (opener_of d)) (opening d) r
@@ -102,7 +102,7 @@ stand_close Brace b r h = (125, refl, refl)
 stand_close Bracket b r h = (93, refl, refl)
 stand_close None b r h = absurd (both_ways false refl h)
 
--- what is printed after a tree that parts from the next
+-- the text after a tree that needs a gap ends the tree's last token
 stops_after : (f : Forest) (ps : List Piece) (r : List ℕ) → stops (onto ps r) ≡ true
     → stops (onto (pieces_onto true f ps) r) ≡ true
 stops_after nil ps r h = h
@@ -136,7 +136,7 @@ plain_behind Brace f ps r h is = absurd (cc)
 plain_behind Bracket f ps r h is = absurd (cc)
 plain_behind None f ps r h is = absurd (cc)
 
--- ---- each token stands before what is printed after it
+-- ---- each token is valid before what is printed after it
 
 pub tick_stands : (r : List ℕ) → FollowsQuote r → Stands (Mark 39 true) r
 tick_stands r f = inr ((refl, f), refl)
@@ -178,7 +178,7 @@ joined c (leaf (Literal text) lo hi f) ps r m other e h =
     (tick_comment c text (onto (pieces_onto true f ps) r) e)
 joined c (group d lo hi f k) ps r m other e h = absurd (both_ways false refl e)
 
--- the Joint mark c stands before the tokens that fit it
+-- the Joint mark c is valid before the tokens that fit it
 joint_fits : (c : ℕ) (f : Forest) (ps : List Piece) (r : List ℕ) → is_mark c ≡ true
     → fits (Mark c true) (next_token f) ≡ true
     → stops (onto ps r) ≡ true → StandBefore false (pieces_onto false f ps) r
@@ -199,7 +199,7 @@ token_stands (Mark c false) f ps r built fit s h =
 token_stands (Mark c true) f ps r built fit s h = joint_fits c f ps r built fit s h
 token_stands (Literal text) f ps r built fit s h = literal_stands text _ built (stops_after f ps r s)
 
--- ---- all of them
+-- ---- all pieces
 
 pub stand_printed : (gap b : Bool) (f : Forest) (ps : List Piece) (r : List ℕ) → IsBuilt f → well_spaced f ≡ true
     → stops (onto ps r) ≡ true → ((c : Bool) → StandBefore c ps r) → StandBefore b (pieces_onto gap f ps) r
@@ -223,7 +223,7 @@ stand_printed gap b (group d lo hi f k) ps r built w s h =
     stand_gap gap b (open_piece d ∷ pieces_onto (is_brace d) f last) r
     (λ c. (stand_open d c (onto (pieces_onto (is_brace d) f last) r) both.0 (plain_behind d f rest r inside), inside))
 
--- ---- what they say
+-- ---- the events of the pieces
 
 said_gap : (gap : Bool) (ps : List Piece) → said (gap_then gap ps) ≡ said ps
 said_gap true ps = refl
@@ -242,7 +242,7 @@ said_close Brace ps h = refl
 said_close Bracket ps h = refl
 said_close None ps h = absurd (both_ways false refl h)
 
--- the printed text says what the trees say
+-- the printed text has the events of the trees
 pub said_printed : (gap : Bool) (f : Forest) (ps : List Piece) (es : List Event) → well_spaced f ≡ true
     → said ps ≡ bare es
     → said (pieces_onto gap f ps) ≡ bare (flat_onto f es)

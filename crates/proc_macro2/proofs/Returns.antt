@@ -26,7 +26,7 @@ use Rattle.proc_macro2.proofs.EventSpans.{bare, bare-expansion, said, said_onto,
 use Rattle.proc_macro2.proofs.PieceStarts.{joins, quotes, joint_by, quoted_by}
 use Rattle.proc_macro2.proofs.PrintedCover.{pieces_onto, onto_printed, stand_printed, said_printed}
 
--- ---- what is printed of a well spaced stream
+-- ---- the printed text of a well spaced stream
 
 pub comes_back : (base : ℕ) (s : Forest) → IsBuilt s → IsWellSpaced s → Gives base (printed s) s
 comes_back base s built w =
@@ -85,7 +85,7 @@ spaced-flat (group d lo hi f k) es h =
     ∙ (ap (λ b. well_spaced f && b) (spaced-flat k es h) ∙ and_assoc (well_spaced f) (well_spaced k) (spaced es)))
     ∙ and_assoc (is_shown d) (well_spaced f && well_spaced k) (spaced es)
 
--- the token after a Joint mark, and after `'`
+-- a piece that a mark joins begins with a token that may follow the mark
 joint_next : (c : ℕ) (k : Kind) (p r : List ℕ) (es : List Event) → IsPiece false k p r → joins k ≡ true
     → begins_any comment_fronts (c ∷ (p ++ r)) ≡ false → follows_joint c (next_event (said_onto k es)) ≡ true
 joint_next c FrontMark p r es h j plain = absurd (both_ways false refl j)
@@ -124,7 +124,7 @@ fits_next (Mark c true) (x ∷ ps) (inr h) s =
     let is : c ≡ 39 = cc in
     cond-true (c == 39) _ _ (eq-eqb c 39 is) ∙ quote_next x.0 (said ps) (quoted_by false x.0 x.1 (onto ps []) s.0 h.0.1)
 
--- the delimiter of a character is shown
+-- the delimiter of a character is written
 shown_of : (c : ℕ) → is_shown (delimiter_of c) ≡ true
 shown_of c = shown ((c == 40) || (c == 41)) ((c == 123) || (c == 125))
   where
@@ -187,6 +187,6 @@ one_text s t bs bt ws wt e =
     let parses = subst (λ text. ParsesTo 0 text x.parsed) e x.parses in
     x.same ∙ (ap erased (one_parse 0 (printed t) x.parsed y.parsed parses y.parses) ∙ sym y.same)
 
--- what a source gives is well spaced
+-- a stream that a source gives is well spaced
 pub given_spaced : (base : ℕ) (source : List ℕ) (s : Forest) → Gives base source s → IsWellSpaced s
 given_spaced base source s h = same_spaced s h.parsed h.same (parsed_spaced base source h.parsed h.parses)

@@ -1,4 +1,4 @@
--- Each tree of a parsed stream stands on a run of pieces.
+-- Each tree of a parsed stream has a run of pieces.
 use Rattle.std.proofs.Common.{◌≡◌, ◌⊎◌, ℕ, ◌+◌, ◌<◌, Bool, true, false, List, [], ◌∷◌, ◌++◌, length, refl, sym, ap, ap₂}
 use Rattle.std.proofs.Common.{◌∙◌, subst, inl, inr, arith, append_assoc, append-nil, add_assoc, add-zero, suc, zero}
 use Rattle.std.proofs.Common.{Contains, codes, length-append}
@@ -28,7 +28,7 @@ use Rattle.proc_macro2.specs.GivesBack.{piece_of, IsRunOf, IsRunOfDoc, StandsOn}
 
 -- ---- the events of a stream, cut at its end
 
--- nothing comes, or a closer
+-- no event is left, or a closer is next
 abbrev Ends : List Event → Type 0
 Ends [] = Unit {0}
 Ends (One token lo hi ∷ es) = ⊥
@@ -40,14 +40,14 @@ joined-nil nil = refl
 joined-nil (leaf t lo hi f) = ap (leaf t lo hi) (joined-nil f)
 joined-nil (group d lo hi f g) = ap (group d lo hi f) (joined-nil g)
 
--- no tree is left before a closer
+-- if a closer is next, no tree is left before it
 none_before : (k : Forest) (d e : Delimiter) (m n : ℕ) (xs ys : List Event)
     → flat_onto k (Closes d m ∷ xs) ≡ Closes e n ∷ ys → (k ≡ nil) × (d ≡ e) × (m ≡ n) × (xs ≡ ys)
 none_before nil d e m n xs ys h = (refl, cc, cc, cc)
 none_before (leaf t lo hi k) d e m n xs ys h = absurd (cc)
 none_before (group c lo hi k l) d e m n xs ys h = absurd (cc)
 
--- a stream whose events begin with those of another begins with that one
+-- if the events of a stream begin with those of another, the stream begins with that one
 flat_cut : (g f : Forest) (es ks : List Event) → Ends es → flat_onto f es ≡ flat_onto g ks
     → (k : Forest) × (f ≡ joined g k) × (flat_onto k es ≡ ks)
 flat_cut nil f es ks p e = (f, refl, e)
@@ -174,9 +174,9 @@ doc_stands at inner text p ps =
     })))
     (doc_extents at (at + length p) inner text) own
 
--- ---- what the pieces are written as
+-- ---- how the pieces are written
 
--- an opener and a closer are those of their delimiter, and a token's piece is its text
+-- whether an opener or a closer is written as its delimiter, and a token as its text
 abbrev IsSpelt : Piece → Type 0
 IsSpelt (FrontMark, p) = Unit {0}
 IsSpelt (Gap, p) = Unit {0}
@@ -216,7 +216,7 @@ AtCloser ((Open c, p) ∷ ps) = ⊥
 AtCloser ((Close c, p) ∷ ps) = Unit {0}
 AtCloser ((Leaf token, p) ∷ ps) = ⊥
 
--- a front of the pieces gives the stream, each of whose trees stands on a run of it, and the rest gives the events
+-- whether a prefix of the pieces gives the stream, whose trees have runs in it, and the rest gives the other events
 record Cut (at : ℕ) (ps : List Piece) (f : Forest) (es : List Event) : Type 0 where
   front : List Piece
   rest : List Piece
@@ -226,7 +226,7 @@ record Cut (at : ℕ) (ps : List Piece) (f : Forest) (es : List Event) : Type 0 
   left : es ≡ expansion (at + width front) rest
   stops : AtCloser rest
 
--- one more piece at the front
+-- one more piece at the start
 cut_more : (at : ℕ) (x : Piece) (ps : List Piece) (f g : Forest) (es : List Event) (h : Cut (at + length x.1) ps g es)
     → flattening f ≡ events_onto at x.0 x.1 (flattening g) → Each (StandsOn at (x ∷ h.front)) (in_order f)
     → Cut at (x ∷ ps) f es
@@ -264,7 +264,7 @@ cut_doc at inner text p ps f es h =
     (each_onto (StandsOn at (x ∷ h.front)) doc (in_order f) (doc_stands at inner text p h.front)
     (later at x h.front f h.each)))
 
--- the pieces go on where those before them end
+-- the pieces begin where those before them end
 stands_after : (at : ℕ) (us ps : List Piece) (tree : TokenTree) → StandsOn (at + width us) ps tree
     → StandsOn at (us ++ ps) tree
 stands_after at [] ps tree h = subst (λ n. StandsOn n ps tree) (add-zero at) h
@@ -273,7 +273,7 @@ stands_after at (u ∷ us) ps tree h =
     stands_later at u (us ++ ps) tree
     (stands_after (at + length u.1) us ps tree (subst (λ n. StandsOn n ps tree) place h))
 
--- a group's pieces
+-- the pieces of a group
 abbrev enclosed : Piece → List Piece → Piece → List Piece → List Piece
 enclosed opener middle closer after = opener ∷ (middle ++ (closer ∷ after))
 
@@ -351,9 +351,9 @@ cut_group at c e p q ps more f g xs es same opens closes inner follows outer =
       stops = outer.stops;
     }
 
--- ---- all of them
+-- ---- all pieces
 
--- the closer that the events go on with is the next piece
+-- if a closer is the next event, it is the next piece
 closer_next : (rest : List Piece) (at : ℕ) (d : Delimiter) (hi : ℕ) (es : List Event) → AtCloser rest
     → Closes d hi ∷ es ≡ expansion at rest
     → (e : ℕ) × (q : List ℕ) × (more : List Piece) × (rest ≡ (Close e, q) ∷ more) × (d ≡ delimiter_of e)
@@ -436,7 +436,7 @@ none_left at ((Open c, p) ∷ ps) s h = absurd s
 none_left at ((Close c, p) ∷ ps) s h = absurd (cc)
 none_left at ((Leaf token, p) ∷ ps) s h = absurd s
 
--- each tree of a parsed stream stands on a run of the cover
+-- each tree of a parsed stream has a run of the cover
 pub each_stands : (base : ℕ) (source : List ℕ) (stream : Forest) (parsed : ParsesTo base source stream)
     → Each (StandsOn base parsed.pieces) (in_order stream)
 each_stands base source stream parsed =

@@ -1,4 +1,4 @@
--- Trees that may be put into a stream stand in it whole.
+-- Trees of a stream go into another stream whole.
 use Rattle.std.proofs.Common.{◌≡◌, ◌==◌, ℕ, false, List, [], ◌∷◌, inl, inr, refl, sym, ap, ◌∙◌, eqb-true}
 use Rattle.std.proofs.Common.{if◌then◌else◌}
 use Rattle.std.proofs.lemmas.Bool.{both_ways, false_from_ne_true}

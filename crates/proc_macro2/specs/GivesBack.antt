@@ -1,4 +1,4 @@
--- How the spans of a parsed stream give back its source. A tree stands on a run of the pieces that cover the source.
+-- How the spans of a parsed stream give back its source. Each tree has a run of the pieces that cover the source.
 use Rattle.std.specs.Prelude.{ℕ, Bool, ◌+◌, ◌<◌, ◌≡◌, ◌⊎◌, ◌↔◌, List, [], ◌∷◌, ◌++◌, All, Contains, length}
 use Rattle.std.specs.Prelude.{slice_index_or}
 use Rattle.lexical.specs.Token.{Token, token_text}
@@ -18,11 +18,11 @@ use Rattle.pm_stream.specs.declared.stream.Group.{Group as Grouped}
 use Rattle.pm_stream.specs.declared.stream.TokenTree.{TokenTree}
 use Rattle.pm_stream.specs.declared.stream.TokenTree.TheVariants.{Group, Ident, Punct, Literal}
 
--- a token's piece, which is written as the token is
+-- the piece of a token, with the token's text
 abbrev pub piece_of : Token → Piece
 piece_of token = (Leaf token, token_text token)
 
--- the run goes from an opener through its closer, and what stands between them gives the group's stream
+-- whether the run goes from an opener to its closer, and the pieces between them give the group's stream
 pub record IsRunOfGroup (run : List Piece) (group : Grouped) : Type 0 where
   pub opener : ℕ
   pub closer : ℕ
@@ -31,14 +31,14 @@ pub record IsRunOfGroup (run : List Piece) (group : Grouped) : Type 0 where
       run ≡ (Open opener, opening group.delimiter) ∷ (middle ++ ((Close closer, closing group.delimiter) ∷ []))
   pub gives : flattening group.stream ≡ expansion (group.span.lo + length (opening group.delimiter)) middle
 
--- the run is what the tree is written as: the piece of a token, or all pieces of a group
+-- whether the run is how the tree is written: the piece of a token, or all pieces of a group
 abbrev pub IsRunOf : List Piece → TokenTree → Type 0
 IsRunOf run (Group g) = IsRunOfGroup run g
 IsRunOf run (Ident i) = run ≡ piece_of (name_token i) ∷ []
 IsRunOf run (Punct p) = run ≡ piece_of (mark_token p) ∷ []
 IsRunOf run (Literal l) = run ≡ piece_of (text_token l) ∷ []
 
--- the run is one doc comment, and the tree is one of those that it gives, each of which has its span
+-- whether the run is one doc comment, and the tree is one of those that it gives, with the comment's span
 pub record IsRunOfDoc (run : List Piece) (tree : TokenTree) : Type 0 where
   pub inner : Bool
   pub text : List ℕ
@@ -48,7 +48,7 @@ pub record IsRunOfDoc (run : List Piece) (tree : TokenTree) : Type 0 where
   pub gives : flattening trees ≡ doc_onto (extent_of tree).lo (extent_of tree).hi inner text []
   pub among : Contains (in_order trees) tree
 
--- the tree has a run of the pieces, which begin at base, and its span goes from the run's first position to its last
+-- whether the tree has a run among the pieces, which begin at base, and its span covers exactly this run
 pub record StandsOn (base : ℕ) (pieces : List Piece) (tree : TokenTree) : Type 0 where
   pub before : List Piece
   pub run : List Piece
@@ -58,7 +58,7 @@ pub record StandsOn (base : ℕ) (pieces : List Piece) (tree : TokenTree) : Type
   pub ends : (extent_of tree).hi ≡ (extent_of tree).lo + width run
   pub is_run : IsRunOf run tree ⊎ IsRunOfDoc run tree
 
--- `gives-back`: the text of the tree's span in the map is that of its run
+-- `gives-back`: whether the text of the tree's span in the map is the text of its run
 pub record GivesBack (map : Files) (base : ℕ) (pieces : List Piece) (tree : TokenTree) : Type 0 where
   pub on : StandsOn base pieces tree
   pub text : (text : List ℕ) → IsTextOf map (extent_of tree) text ↔ (text ≡ onto on.run [])
@@ -68,7 +68,7 @@ abbrev pub SpansGiveBack : Type 0
 SpansGiveBack = (old map : Files) (source : List ℕ) (stream : Forest) (parsed : ParsesTo (next_lo old) source stream)
     → Extends (with_file old source) map → All (GivesBack map (next_lo old) parsed.pieces) (in_order stream)
 
--- in the map after the parse, so does each tree of a list that makes the stream
+-- in the map after the parse, each tree of a list that makes the parsed stream gives back its text
 abbrev pub ListedGiveBack : Type 0
 ListedGiveBack = (old map : Files) (source : List ℕ) (stream : Forest) (parsed : ParsesTo (next_lo old) source stream)
     → map ≡ with_file old source → (trees : List TokenTree) → forest trees ≡ stream

@@ -1,5 +1,6 @@
--- The laws of covers, parsed streams and printed texts. A source is the list of its characters. Where a law says that
--- it is a text, these are Unicode scalars, as those of every `&str` are; the other laws hold of all lists of numbers.
+-- The laws of covers, parsed streams and printed texts. A source is the list of its characters. If a law says that
+-- it is a text, its characters are Unicode scalars, as in every `&str`. The other laws are true of all lists of
+-- numbers.
 use Rattle.std.specs.Prelude.{ℕ, ◌≡◌, ◌⊎◌, ◌↔◌, List, [], ◌∷◌, ◌++◌, IsTrue, IsFalse, codes}
 use Rattle.lexical.specs.Text.{begins_with}
 use Rattle.lexical.specs.Piece.{Piece}
@@ -35,13 +36,13 @@ abbrev pub NeverBoth : Type 0
 NeverBoth = (base : ℕ) (source : List ℕ) (stream : Forest) (position : ℕ)
     → ParsesTo base source stream → FaultAt base source position → ⊥
 
--- a source has at most one position that is its fault
+-- a source has at most one fault
 abbrev pub OneFault : Type 0
 OneFault = (base : ℕ) (source : List ℕ) (j k : ℕ) → FaultAt base source j → FaultAt base source k → j ≡ k
 
 -- ---- printed streams
 
--- the text parses to the stream, up to spans
+-- whether the text parses to the stream, up to spans
 pub record Gives (base : ℕ) (text : List ℕ) (stream : Forest) : Type 0 where
   pub parsed : Forest
   pub parses : ParsesTo base text parsed
@@ -55,7 +56,7 @@ ComesBack = (base : ℕ) (stream : Forest) → IsBuilt stream → Gives base (pr
 abbrev pub ParsedIsWellSpaced : Type 0
 ParsedIsWellSpaced = (base : ℕ) (source : List ℕ) (stream : Forest) → ParsesTo base source stream → IsWellSpaced stream
 
--- every stream that a source parses to up to spans is well spaced
+-- every stream that a source parses to, up to spans, is well spaced
 abbrev pub GivenIsWellSpaced : Type 0
 GivenIsWellSpaced = (base : ℕ) (source : List ℕ) (stream : Forest) → Gives base source stream → IsWellSpaced stream
 
@@ -64,7 +65,7 @@ abbrev pub ParsedIsBuilt : Type 0
 ParsedIsBuilt = (base : ℕ) (source : List ℕ) (stream : Forest)
     → IsText source → ParsesTo base source stream → IsBuilt stream
 
--- what is printed of a built stream is a text
+-- the printed text of a built stream is a text
 abbrev pub PrintedIsText : Type 0
 PrintedIsText = (stream : Forest) → IsBuilt stream → IsText (printed stream)
 
@@ -73,28 +74,28 @@ abbrev pub WellSpacedIsParsed : Type 0
 WellSpacedIsParsed = (stream : Forest) → IsBuilt stream
     → ((base : ℕ) × (source : List ℕ) × IsText source × Gives base source stream) ↔ IsWellSpaced stream
 
--- well spaced streams are the same exactly if they print the same text
+-- two built streams that are well spaced are the same up to spans exactly if they print the same text
 abbrev pub OneText : Type 0
 OneText = (s t : Forest) → IsBuilt s → IsBuilt t → IsWellSpaced s → IsWellSpaced t → Same s t ↔ (printed s ≡ printed t)
 
 -- ---- joined texts
 
--- two texts with a line's end between them parse to the two streams joined, up to spans,
--- unless the second begins with U+FEFF
+-- two texts with a line feed between them parse to the two streams joined, up to spans, unless the second begins
+-- with U+FEFF
 abbrev pub JoinedTexts : Type 0
 JoinedTexts = (base first second : ℕ) (a b : List ℕ) (s t : Forest) → ParsesTo first a s → ParsesTo second b t
     → IsFalse (begins_with (0xFEFF ∷ []) b) → Gives base (a ++ (codes "\n" ++ b)) (joined s t)
 
 -- ---- broken lines
 
--- where a source parses and its cover is some pieces, of which the last is neither a mark nor a number, and then
--- others, a line's end that is put in between them leaves the stream as it was, up to spans
+-- if a source parses, a line feed may be put in after any piece of its cover that is neither a mark nor a number; the
+-- stream stays the same, up to spans
 abbrev pub BrokenLine : Type 0
 BrokenLine = (base first : ℕ) (source : List ℕ) (stream : Forest) (us vs : List Piece) → ParsesTo first source stream
     → IsCover (us ++ vs) source → IsTrue (ends_quiet us) → Gives base (onto us (codes "\n" ++ onto vs [])) stream
 
--- ---- trees that are put in
+-- ---- trees that are put into a stream
 
--- a tree that may be put into a stream stands there whole
+-- a tree of a stream goes into another stream whole
 abbrev pub TreesStandWhole : Type 0
 TreesStandWhole = (tree : TokenTree) → GoesInside tree → split tree ≡ alone tree

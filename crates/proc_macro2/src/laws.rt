@@ -1,15 +1,15 @@
-//! What is proved of texts, streams and printed texts together. The functions compute nothing: their
-//! contracts are the laws, which `specs/Laws.antt` states.
+//! Laws of texts, streams and printed texts. These functions compute nothing: what is proved is in their contracts.
+//! `specs/Laws.antt` defines the laws.
 //!
-//! The calls answer in the words of the laws, so each law says the same of them:
+//! The contracts of some calls have the words of the laws, so each law is also true of these calls:
 //!
-//! | The law's word | The call that answers by it |
+//! | A word of the laws | The call that has it |
 //! |---|---|
 //! | a source parses to a stream (`parses-to`), or has a fault (`fault`) | `TokenStream::from_str` |
 //! | the printed text (`printed`) | the stream's `Display` |
 //! | well spaced (`well-spaced`) | `TokenStream::is_well_spaced` |
 //! | the same up to spans (`same`) | `TokenStream::same_tokens` |
-//! | built (`built`) | what `TokenStream::trees`, `is_well_spaced` and `Group::stream_ref` say of every stream |
+//! | built (`built`), which every stream is | `TokenStream::trees`, `is_well_spaced` and `Group::stream_ref` |
 
 ghost use Rattle.proc_macro2.specs.GivesBack.{SpansGiveBack, ListedGiveBack};
 ghost use Rattle.proc_macro2.specs.Laws.{
@@ -38,8 +38,8 @@ pub use pm_token::laws::{
     single_values, values_come_back,
 };
 
-/// A source has at most one cover by pieces, and parses to at most one stream. It parses or has a fault,
-/// never both and never neither, and its fault has one position.
+/// A source has at most one cover by pieces, and parses to at most one stream. It either parses or has a fault,
+/// never both, and its fault has one position.
 pub fn one_cover()
     ensures cover { OneCover }
     ensures stream { OneStream }
@@ -48,17 +48,17 @@ pub fn one_cover()
     ensures fault { OneFault }
 {}
 
-/// A built stream comes back from its printed text, the same up to spans, exactly if it is well spaced.
-/// Every stream that a text parses to is well spaced and built, and what a built stream prints is a text.
-/// So the built streams that are well spaced are, up to spans, exactly those that some text parses to. Two
-/// of them are the same up to spans exactly if they print the same text, so that this is the one text of
-/// these tokens.
+/// A built stream comes back from its printed text, up to spans, exactly if it is well spaced. Every stream that a
+/// text parses to is well spaced and built, and a built stream prints a text. So the built streams that are well
+/// spaced are, up to spans, exactly those that some text parses to. Two of them are the same up to spans exactly if
+/// they print the same text.
 ///
-/// So `is_well_spaced` is the whole test for a faithful print: where it answers yes, the printed text parses,
-/// and `same_tokens` of the stream and what is parsed answers yes. Where it answers no, the text has a fault
-/// or gives other tokens.
+/// So `is_well_spaced` is a complete test for a faithful print. If it returns true, the printed text parses, and
+/// `same_tokens` returns true for both streams. If it returns false, the printed text has a fault or gives other
+/// tokens.
 ///
-/// `+` Joint before the identifier `a` doesn't come back: it prints `+a`, which parses to `+` Alone and `a`.
+/// A `Joint` `+` before the identifier `a` does not come back: it prints `+a`, which parses to an `Alone` `+` and
+/// `a`.
 pub fn printed_comes_back()
     ensures back { ComesBack }
     ensures parsed { ParsedIsWellSpaced }
@@ -69,26 +69,26 @@ pub fn printed_comes_back()
     ensures text { OneText }
 {}
 
-/// Two texts that parse, with an LF between them, parse to the streams of the two joined, up to spans,
-/// unless the second begins with U+FEFF.
+/// Two texts that parse, with an LF between them, parse to the two streams joined, up to spans, unless the second
+/// begins with U+FEFF.
 ///
 /// `x // c` and `y` give `x y`.
 pub fn joined_texts()
     ensures { JoinedTexts }
 {}
 
-/// Where a source parses, a line may be broken after any piece but a mark and a number: the stream is
-/// the same up to spans.
+/// If a source parses, a line may be broken after any piece but a mark or a number. The stream stays the same up to
+/// spans.
 ///
-/// `a+=b` broken behind the `a` is `a += b`; broken behind the `+` it would be `a + = b`.
+/// In `a+=b` a break after `a` gives `a += b`, while a break after `+` would give `a + = b`.
 pub fn broken_line()
     ensures { BrokenLine }
 {}
 
-/// Each tree of a parsed stream stands on a run of the pieces that cover the source: a token on its
-/// piece, a group on the pieces from its opener through its closer, and each tree that a doc comment
-/// gives on the comment. Its span goes from the first position of the run to the last, and the text of
-/// the span is that of the run (`gives-back`), in every map that extends the one after the parse.
+/// Each tree of a parsed stream has a run of the pieces that cover the source. A token's run is its piece, and a
+/// group's run is the pieces from its opener to its closer. A tree that a doc comment gives has the comment as its
+/// run. The tree's span goes from the first position of the run to the last. The text of the span is that of the
+/// run (`gives-back`), in every map that extends the one after the parse.
 ///
 /// In `a (b) // c` the text of the group's span is `(b)`.
 pub fn spans_give_back()
@@ -96,11 +96,11 @@ pub fn spans_give_back()
     ensures listed { ListedGiveBack }
 {}
 
-/// A tree that a stream has, or that may be put into one again, stands whole where it is put in (`split`): only a
-/// negative literal that stands by itself becomes two trees.
+/// A tree that a stream has goes into another stream whole (`split`). Only a negative literal that was made by
+/// itself becomes two trees.
 ///
-/// `TokenStream::trees` and `into_iter` promise of each of their trees that it may be put in again. The literal
-/// `-3i32` that `Literal::i32_suffixed` makes is no such tree.
+/// The contracts of `TokenStream::trees` and `into_iter` say that each of their trees goes in whole. The literal
+/// `-3i32` that `Literal::i32_suffixed` makes does not.
 pub fn trees_stand_whole()
     ensures { TreesStandWhole }
 {}

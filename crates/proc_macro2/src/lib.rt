@@ -1,7 +1,7 @@
-//! Rust source text as token trees: reading it, walking it, printing it.
+//! Rust source text as token trees, which a program can read, walk through, build and print.
 //!
-//! A rule is named by its label in backquotes, such as `well-spaced`. `docs/GRAMMAR.md` has all of them, each
-//! with its definition.
+//! A word in backquotes that names no item, such as `well-spaced`, is the label of a rule. `docs/GRAMMAR.md`
+//! defines all rules.
 #![tactic(auto)]
 
 pub mod laws;
@@ -17,12 +17,12 @@ pub use pm_token::{
     Spacing,
 };
 
-/// The span of a group, together with those of its delimiters.
+/// The span of a group with those of its delimiters.
 pub mod extra {
     pub use pm_stream::extra::DelimSpan;
 }
 
-/// What the contents of literals stand for, item by item.
+/// The characters and bytes that the contents of literals mean, and the errors in them.
 pub mod rustc_literal_escaper {
     pub use literal_escaper::{
         CheckForErrors, CheckRawByteStr, CheckRawCStr, CheckRawStr, EscapeError, MixedUnit, Mode,
@@ -32,7 +32,8 @@ pub mod rustc_literal_escaper {
     };
 }
 
-/// The stream of trees, with the iterator over its trees, the walk over all of them and the steps of a traversal.
+/// Streams of token trees, the iterator over a stream's trees, and walks over all trees with those inside of
+/// groups.
 pub mod token_stream {
     pub use pm_stream::token_stream::{IntoIter, TokenStream};
     pub use pm_stream::{Step, Steps, Walk, may_be_joint};

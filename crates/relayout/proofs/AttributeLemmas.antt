@@ -1,4 +1,4 @@
--- Where an attribute begins that a doc comment gives, and where none does.
+-- Whether a text begins with a doc attribute that a comment can replace.
 use Rattle.std.proofs.Common.{◌≡◌, ℕ, Bool, true, false, List, [], ◌∷◌, ◌++◌, codes, refl}
 use Rattle.std.proofs.Common.{sym, ap, ap₂, ◌∙◌, subst, inl, inr, ◌==◌, drop}
 use Rattle.std.specs.Prelude.{Result, Ok, Err, Option, Some, None, IfOk, MatchOption}
@@ -21,24 +21,24 @@ use Rattle.relayout.specs.Comments.{HasNoAttribute}
 
 -- ---- string literals
 
--- what begins with a quote is no error's literal
+-- a literal that begins with a quote is a correct one
 quoted_literal : (p r : List ℕ) → first_passes (λ c. c == 34) p ≡ true → AnyLiteral p r → IsLiteral p r
 quoted_literal p r quote (inl literal) = literal
 quoted_literal p r quote (inr error) =
     absurd (both_ways false refl (sym (ap (first_passes (λ c. c == 34)) error) ∙ quote))
 
--- what is written for a text is a literal before a closer
+-- the literal that is written for a text is a literal before `]`
 pub string_stands : (text r : List ℕ) → IsText text → IsLiteral (string_text text) (93 ∷ r)
 string_stands text r all =
     quoted_literal (string_text text) (93 ∷ r) refl
     (literal_stands (string_text text) (93 ∷ r) (doc_built text all) refl)
 
--- at most one literal stands there
+-- at most one literal begins a text
 one_literal : (p q r s : List ℕ) → IsLiteral p r → IsLiteral q s → p ++ r ≡ q ++ s → p ≡ q
 one_literal p q r s h j e =
     (one_piece false (Leaf (Literal p)) (Leaf (Literal q)) p q r s (refl, inl h) (refl, inl j) e).1
 
--- where something else follows it than the end of an attribute
+-- no literal before `]` and LF begins the text, if something else follows the literal that does
 pub literal_ends : (text p r : List ℕ) → IsLiteral p r → text ≡ p ++ r → begins_with (codes "]\n") r ≡ false
     → (q s : List ℕ) → IsLiteral q (codes "]\n" ++ s) → text ≡ q ++ (codes "]\n" ++ s) → ⊥
 literal_ends text p r h split none q s j other =
@@ -46,7 +46,7 @@ literal_ends text p r h split none q s j other =
     (sym split ∙ other) in
     both_ways _ none (ap (begins_with (codes "]\n")) same.2)
 
--- where that follows it
+-- the text begins with a literal before `]` and LF, if these two follow the literal
 pub literal_split : (text p r own after rest : List ℕ) → IsLiteral p r → text ≡ p ++ r → own ≡ p → after ≡ r
     → after ≡ codes "]\n" ++ rest
     → IsLiteral own (codes "]\n" ++ rest) × (text ≡ own ++ (codes "]\n" ++ rest))
@@ -56,19 +56,19 @@ literal_split text p r own after rest h split is at ends =
       split ∙ ap₂ (λ q s. q ++ s) (sym is) left,
     )
 
--- such a literal is a whole one
+-- the literal that is written for a text is a whole literal
 pub string_whole : (text : List ℕ) → IsText text → IsWholeLiteral (string_text text)
 string_whole text all =
     inl (quoted_literal (string_text text) [] refl (literal_stands (string_text text) [] (doc_built text all) refl))
 
--- it is of one text
+-- two texts with the same literal are equal
 one_text : (t u : List ℕ) → IsText t → IsText u → string_text t ≡ string_text u → t ≡ u
 one_text t u all more same =
     let e : ◌≡◌ {A = Result (List ℕ) ConversionErrorKind} (Ok t) (Ok u) =
     sym (strings_come_back t all) ∙ (ap str_value same ∙ strings_come_back u more) in
     cc
 
--- the literal of which a text is answered
+-- the text that is found for a literal has that literal
 pub text_found : {A E : Type 0} (literal v : List ℕ) (P Q : A → Type 0) (r : Result (Option A) E)
     → str_value literal ≡ Ok v → ((x : A) → P x → Q x)
     → IfOk r (λ found. MatchOption found (literal ≡ string_text v → ⊥) P)
@@ -81,7 +81,7 @@ text_found literal v P Q (Ok None) value more none = λ text all same.
 text_found literal v P Q (Ok (Some x)) value more h = more x h
 text_found literal v P Q (Err e) value more h = tt
 
--- and one of which none is
+-- a literal without a string value is written for no text
 pub no_value : (literal : List ℕ) (error : ConversionErrorKind) → str_value literal ≡ Err error → (text : List ℕ)
     → IsText text → literal ≡ string_text text → ⊥
 no_value literal error value text all same =
@@ -91,7 +91,7 @@ no_value literal error value text all same =
 
 -- ---- attributes
 
--- what begins with one front of an attribute doesn't begin with the other
+-- the two kinds of attributes begin with different prefixes
 after_front : (inner other : Bool) (x y : List ℕ) → attribute_front inner ++ x ≡ attribute_front other ++ y
     → (inner ≡ other) × (x ≡ y)
 after_front true true x y e = (refl, ap (drop 10) e)
@@ -99,7 +99,7 @@ after_front true false x y e = absurd (both_ways false refl (ap (begins_with (co
 after_front false true x y e = absurd (both_ways false refl (sym (ap (begins_with (codes "#[")) e)))
 after_front false false x y e = (refl, ap (drop 8) e)
 
--- neither begins the text
+-- a text that begins with neither prefix begins with no attribute, inner or outer
 pub neither_front : (whole : List ℕ) → begins_with (codes "#[doc = ") whole ≡ false
     → begins_with (codes "# ![doc = ") whole ≡ false → (inner : Bool)
     → begins_with (attribute_front inner) whole ≡ false
@@ -119,7 +119,7 @@ no_literal whole after other front none inner text rest all is =
     none (string_text text) rest (string_stands text (10 ∷ rest) all)
     (after_front other inner after _ (sym front ∙ is.is)).1
 
--- where another literal follows the front
+-- no attribute that a comment can replace begins there, if no text has the literal after the prefix
 pub no_text : (whole after literal more : List ℕ) (other : Bool) → whole ≡ attribute_front other ++ after
     → IsLiteral literal (codes "]\n" ++ more) → after ≡ literal ++ (codes "]\n" ++ more)
     → ((text : List ℕ) → IsText text → literal ≡ string_text text → ⊥) → HasNoAttribute whole
@@ -128,7 +128,7 @@ no_text whole after literal more other front stands split none inner text rest a
     (one_literal literal (string_text text) _ _ stands (string_stands text (10 ∷ rest) all)
     (sym split ∙ (after_front other inner after _ (sym front ∙ is.is)).1))
 
--- where it is of a text that no comment gives
+-- no attribute that a comment can replace begins there, if no comment can hold the literal's text
 pub no_line : (whole after literal more found : List ℕ) (other : Bool) → whole ≡ attribute_front other ++ after
     → IsLiteral literal (codes "]\n" ++ more) → after ≡ literal ++ (codes "]\n" ++ more)
     → literal ≡ string_text found → IsText found → is_doc_line other found ≡ false → HasNoAttribute whole

@@ -1,4 +1,4 @@
--- Chosen white space, as pieces that cover what is written.
+-- The chosen white space, as pieces that cover what is written.
 use Rattle.std.proofs.Common.{◌≡◌, ℕ, zero, suc, Bool, true, false, not, ◌&&◌, ◌||◌, ◌==◌, List, [], ◌∷◌, ◌++◌}
 use Rattle.std.proofs.Common.{codes}
 use Rattle.std.proofs.Common.{refl, sym, ap, ap₂, ◌∙◌, subst, inl, inr, append_assoc, append-nil}
@@ -30,7 +30,7 @@ abbrev pub last_white : List ℕ → List Piece → List ℕ
 last_white white [] = white
 last_white white (x ∷ ps) = if is_white_gap x then last_white (white ++ x.1) ps else last_white [] ps
 
--- a white character's piece
+-- a piece of a white character is a gap that is white
 pub gap_is : (first : Bool) (x : Piece) (r : List ℕ) → IsPiece first x.0 x.1 r → is_white_gap x ≡ true
     → (c : ℕ) × (x ≡ (Gap, c ∷ [])) × (is_white c ≡ true)
 gap_is first (FrontMark, p) r h e = absurd (both_ways false refl e)
@@ -48,7 +48,7 @@ white_more : (white : List ℕ) (c : ℕ) (ps : List Piece)
 white_more [] c ps = refl
 white_more (d ∷ white) c ps = ap (λ x. (Gap, d ∷ []) ∷ x) (white_more white c ps)
 
--- they are those pieces
+-- pieces that are split into white space and others join to the same pieces again
 pub spaced_is : (first : Bool) (white : List ℕ) (ps : List Piece) → StandBefore first ps []
     → pieces_of (spaced white ps) (last_white white ps) ≡ white_pieces white ps
 spaced_is first white [] stand = refl
@@ -64,7 +64,7 @@ spaced_is first white (x ∷ ps) stand = elim (cases_Bool (is_white_gap x)) [
       ∙ ap (λ qs. white_pieces white (x ∷ qs)) (spaced_is false [] ps stand.1)
 ]
 
--- ---- with the white space that is chosen
+-- ---- pieces with the chosen white space
 
 abbrev pub chosen : List White → Bool → List Spaced → List Spaced
 chosen choices line [] = []
@@ -78,7 +78,7 @@ chosen_last choices line (x ∷ xs) last = chosen_last (choices_left choices x.0
 abbrev pub chosen_pieces : List White → Bool → List Spaced → List ℕ → List Piece
 chosen_pieces choices line xs last = pieces_of (chosen choices line xs) (chosen_last choices line xs last)
 
--- what is written is their text
+-- what is written is the text of the pieces with the chosen white space
 pub written_is : (choices : List White) (line : Bool) (white : List ℕ) (ps : List Piece)
     → written choices line white ps ≡ onto (chosen_pieces choices line (spaced white ps) (last_white white ps)) []
 written_is choices line white [] = sym (onto_white (placed (next_choice choices) line white) [] [] ∙ append-nil _)
@@ -97,7 +97,7 @@ written_is choices line white (x ∷ ps) = elim (cases_Bool (is_white_gap x)) [
       (cond-false _ _ _ solid))))
 ]
 
--- ---- it may stand there
+-- ---- the chosen white space is allowed
 
 may_from : (line : Bool) (c : ℕ) (w : List ℕ) (d : ℕ) (v : List ℕ) → list_all is_white (c ∷ w) ≡ true
     → list_all is_white (d ∷ v) ≡ true → (line ≡ true → d ≡ 10) → may_become line (c ∷ w) (d ∷ v) ≡ true
@@ -127,7 +127,7 @@ ends_white returned (c ∷ white) =
     all_append is_white (line_end returned c) (line_ends (c == 13) white) (end_white returned c)
     (ends_white (c == 13) white)
 
--- a line end is there, and is LF where the white space begins with that
+-- white space with an LF has a line end, which is LF alone if the white space begins with LF
 ends_some : (returned : Bool) (white : List ℕ) → ends_line white ≡ true
     → (d : ℕ) × (more : List ℕ) × (line_ends returned white ≡ d ∷ more)
 ends_some returned [] some = absurd (both_ways false refl some)
@@ -213,7 +213,7 @@ feed_front : (white r : List ℕ) → first_passes (λ c. not (c == 10)) (white 
 feed_front [] r e = refl
 feed_front (c ∷ white) r e = e
 
--- ---- all of it
+-- ---- all pieces
 
 pub chosen_becomes : (first : Bool) (choices : List White) (line : Bool) (white : List ℕ) (ps : List Piece)
     → StandBefore first ps [] → list_all is_white white ≡ true
@@ -247,7 +247,7 @@ chosen_becomes first choices line white (x ∷ ps) stand all feed = elim (cases_
       )
 ]
 
--- ---- what isn't white stays
+-- ---- the pieces that are not white stay
 
 pub white_is_gap : (c : ℕ) → is_white c ≡ true → is_white_gap (Gap, c ∷ []) ≡ true
 white_is_gap c white =
@@ -265,7 +265,7 @@ solid_white (c ∷ white) ps all =
     let both = and_parts (is_white c) (list_all is_white white) all in
     cond-true _ _ _ (white_is_gap c both.0) ∙ solid_white white ps both.1
 
--- both are white
+-- white space becomes white space
 both_white : (line : Bool) (old new : List ℕ) → may_become line old new ≡ true
     → (list_all is_white old ≡ true) × (list_all is_white new ≡ true)
 both_white line old new e = elim (change line old new e) [
@@ -292,7 +292,7 @@ becomes_solid line (x ∷ xs) old (y ∷ ys) new h =
     ∙ (solid_one x.1 (pieces_of xs old) (pieces_of ys new) (becomes_solid (is_line x.1) xs old ys new h.2)
     ∙ (ap (λ p. solid_pieces (p ∷ pieces_of ys new)) h.0 ∙ sym (solid_white y.0 (y.1 ∷ pieces_of ys new) both.1)))
 
--- what is written of pieces that cover a source has a cover, the same but for white characters
+-- what is written for pieces that cover a source is covered by the same pieces except for white characters
 pub relaid_cover : (source : List ℕ) (choices : List White) (us : List Piece) → IsCover us source
     → (vs : List Piece) × IsCover vs (written choices false [] us) × (solid_pieces vs ≡ solid_pieces us)
 relaid_cover source choices us covers =

@@ -1,4 +1,4 @@
--- Doc comments in the place of attributes: the pieces cover the text, and say the same.
+-- Doc comments instead of attributes: their pieces cover the new text, and mean the same tokens.
 use Rattle.std.proofs.Common.{◌≡◌, ◌⊎◌, ℕ, Bool, true, false, not, ◌&&◌, ◌||◌, ◌==◌, List, [], ◌∷◌, ◌++◌, codes, refl}
 use Rattle.std.proofs.Common.{sym, ap, ap₂, ◌∙◌, subst, inl, inr, append_assoc, append-nil, eqb-true}
 use Rattle.std.specs.List.{list_all}
@@ -23,7 +23,7 @@ use Rattle.relayout.proofs.StandLemmas.{Calm, Feeds, piece_near}
 
 -- ---- a doc comment of one line
 
--- a character that a line of a comment may have
+-- a character that a one-line doc comment may contain
 abbrev in_line : ℕ → Bool
 in_line c = not ((c == 10) || (c == 13))
 
@@ -57,7 +57,7 @@ line_stands sign text r other all = record {
   second = record { each = ap₂ (λ a b. not a && b) other (no_feed text all); stops = refl };
 }
 
--- its last character is part of its text
+-- the last character before the LF is part of the comment's text
 no_closing : (sign : ℕ) (text r : List ℕ) → (sign == 13) ≡ false → list_all in_line text ≡ true
     → closing (47 ∷ 47 ∷ sign ∷ text) (10 ∷ r) ≡ []
 no_closing sign text r other all = rw (no_end sign text other all) refl
@@ -92,7 +92,7 @@ doc_stands false text r may =
 
 -- ---- what follows a piece, with the attributes and with the comments
 
--- both texts begin with the same, and then with the same white character or end
+-- both texts begin with the same pieces, and then with the same white character, or they end
 record Near (r t : List ℕ) : Type 0 where
   both : List ℕ
   old : List ℕ
@@ -181,7 +181,7 @@ stand_all first free (Attribute false text ∷ ps) may stand =
       (inl (10, refl, refl), stand_all false true ps both.1 stand.1.1.1.1.1.1.1.1.1),
     )
 
--- what they say
+-- the pieces with comments mean the same tokens
 said_parts : (ps : List Part) → said (new_pieces ps) ≡ said (old_pieces ps)
 said_parts [] = refl
 said_parts (White c ∷ ps) = said_parts ps

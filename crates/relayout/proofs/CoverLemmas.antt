@@ -16,7 +16,7 @@ pub onto_white : (white : List ℕ) (ps : List Piece) (r : List ℕ) → onto (w
 onto_white [] ps r = refl
 onto_white (c ∷ white) ps r = ap (λ x. c ∷ x) (onto_white white ps r)
 
--- what white space may become
+-- white space may become other white space
 abbrev pub IsChange : Bool → List ℕ → List ℕ → Type 0
 IsChange line old new = ((old ≡ []) × (new ≡ []))
     ⊎ ((d : ℕ) × (before : List ℕ) × (c : ℕ) × (after : List ℕ) × (old ≡ d ∷ before) × (new ≡ c ∷ after)
@@ -39,7 +39,7 @@ change line (d ∷ old) (c ∷ new) e =
 
 -- ---- what follows a piece, before and after
 
--- both texts begin with the same, and then with a white character or end
+-- both texts begin with the same piece, and then with a white character, or they end
 record Near (line : Bool) (r t : List ℕ) : Type 0 where
   both : List ℕ
   old : List ℕ
@@ -73,7 +73,7 @@ near_end line old new (inr (d, before, c, after, was, is, white_d, olds, white_c
   feeds = λ e l. inr (onto (white_pieces after []) [], ap (λ x. x ∷ onto (white_pieces after []) []) (feed l));
 }
 
--- a piece and more, after other white space
+-- two texts are near if they begin with white space that may change and then with the same piece
 near_piece : (line : Bool) (first : Bool) (old new : List ℕ) (x : Piece) (us vs : List Piece) → IsChange line old new
     → StandBefore first (white_pieces old (x ∷ us)) [] → Near (is_line x) (onto us []) (onto vs [])
     → Near line (onto (white_pieces old (x ∷ us)) []) (onto (white_pieces new (x ∷ vs)) [])
@@ -110,7 +110,7 @@ near_piece line first old new x us vs (inr (d, before, c, after, was, is, white_
           inr (onto (white_pieces after (x ∷ vs)) [], ap (λ k. k ∷ onto (white_pieces after (x ∷ vs)) []) (feed l));
     }
 
--- what stands after white characters
+-- a cover that begins with white characters goes on after them
 past_white : (first : Bool) (white : List ℕ) (ps : List Piece) (r : List ℕ)
     → StandBefore first (white_pieces white ps) r
     → ((white ≡ []) × StandBefore first ps r) ⊎ StandBefore false ps r
@@ -121,7 +121,7 @@ past_white first (c ∷ (d ∷ white)) ps r stand = elim (past_white false (d �
   | inr more ↦ inr more
 ]
 
--- white characters stand before anything
+-- a white character is a piece before any text
 stand_white : (first : Bool) (c : ℕ) (white : List ℕ) (ps : List Piece) (r : List ℕ) → is_white c ≡ true
     → AllWhite white → StandBefore false ps r → StandBefore first (white_pieces (c ∷ white) ps) r
 stand_white first c [] ps r is all more = (inl (c, refl, is), more)
@@ -148,7 +148,7 @@ near_all line first (x ∷ xs) old (y ∷ ys) new stand h =
     (onto (white_pieces y.0 (p ∷ pieces_of ys new)) [])) h.0
     (near_piece line first x.0 y.0 x.1 (pieces_of xs old) (pieces_of ys new) (change line x.0 y.0 h.1) stand near)
 
--- a piece stands before what follows it then
+-- a piece before the old text is also a piece before the new text
 stands_then : (first : Bool) (x : Piece) (r t : List ℕ) → Near (is_line x) r t → IsPiece first x.0 x.1 r
     → IsPiece first x.0 x.1 t
 stands_then first x r t near h =
@@ -192,7 +192,7 @@ stand_all line first (x ∷ xs) old (y ∷ ys) new stand h =
         subst (λ w. StandBefore first (white_pieces w (x.1 ∷ pieces_of ys new)) []) (sym is)
         (stand_white first c after (x.1 ∷ pieces_of ys new) [] white_c news (there more false front))
 
--- the pieces with other white space between them cover their text
+-- if pieces cover a source, they cover their text with other white space between them
 pub still_cover : (source : List ℕ) (xs : List Spaced) (old : List ℕ) (ys : List Spaced) (new : List ℕ)
     → IsCover (pieces_of xs old) source → Becomes false xs old ys new
     → IsCover (pieces_of ys new) (onto (pieces_of ys new) [])

@@ -1,4 +1,4 @@
--- A text that is gone over part by part, of which what is kept is written as a whole.
+-- The loop of `with_doc_comments`, which writes what it keeps in one go.
 use Rattle.std.proofs.Common.{◌≡◌, ℕ, ◌<◌, ◌==◌, Bool, true, false, ◌&&◌, ◌||◌, List, [], ◌∷◌, ◌++◌, codes, refl}
 use Rattle.std.proofs.Common.{sym, ap, ◌∙◌, subst, inl, append_assoc, append-nil, length, arith}
 use Rattle.std.specs.Prelude.{cond, nat_lt, None, Some}
@@ -22,9 +22,9 @@ use Rattle.relayout.proofs.AttributeLemmas.{no_front, no_line, string_stands}
 use Rattle.relayout.proofs.PartLemmas.{Makes, attribute_part, attribute_written, makes_all, makes_part, makes_start}
 use Rattle.relayout.proofs.RelaidLemmas.{no_chars, some_chars}
 
--- ---- what is read of what is kept
+-- ---- what is read and not yet written
 
--- with the front of what is kept, up to the rest, what is written is all so far
+-- what is written, together with the part of `kept` before `rest`, is the text for all that is read
 pub record Keeps (source : List ℕ) (first free : Bool) (kept rest out : List ℕ) : Type 0 where
   pub front : List ℕ
   pub split : kept ≡ front ++ rest
@@ -48,7 +48,7 @@ keeps_part source kept text rest out first free now part is after split so = rec
       part is after (sym (append_assoc out so.front (onto (new_part part) []))) so.makes;
 }
 
--- the rest is at the end of what is kept
+-- once all is read, writing what is kept gives the whole text
 pub keeps_all : (source kept rest out new : List ℕ) (first free : Bool) → rest ≡ [] → new ≡ out ++ kept
     → Keeps source first free kept rest out → IsCommented source new
 keeps_all source kept rest out new first free none push so =
@@ -102,7 +102,7 @@ keeps_white source kept text rest out first free now count white some after so =
 
 -- ---- an attribute
 
--- none begins with another character
+-- a text that begins with another character than `#` begins with no attribute
 hash_first : (c : ℕ) (front whole : List ℕ) → begins_with (codes "#") (c ∷ whole) ≡ false
     → begins_with (35 ∷ front) (c ∷ whole) ≡ false
 hash_first c front whole none = by_first (35 == c) none
@@ -121,7 +121,7 @@ no_hash whole none = no_front whole (λ inner. by_front inner whole none)
     by_front true (c ∷ whole) none = hash_first c (codes " ![doc = ") whole none
     by_front false (c ∷ whole) none = hash_first c (codes "[doc = ") whole none
 
--- none that a comment gives
+-- no attribute begins there if no comment can hold its text
 pub no_doc : (whole said rest : List ℕ) (inner : Bool)
     → whole ≡ attribute_front inner ++ (string_text said ++ (codes "]\n" ++ rest)) → IsText said
     → is_doc_line inner said ≡ false → HasNoAttribute whole
@@ -145,7 +145,7 @@ becomes kept whole said rest out before front a b c new inner is all may stands 
       ∙ append_assoc out skipped (onto (new_part (Attribute inner said)) []));
 }
 
--- it is a part, and nothing is kept after it
+-- an attribute that a comment replaces is the next part, and nothing is kept after it
 pub keeps_comment : (source kept text rest out new : List ℕ) (first free : Bool) → free ≡ true
     → BecomesComment kept text rest out new → Keeps source first free kept text out
     → Keeps source false free rest rest new
@@ -161,7 +161,7 @@ keeps_comment source kept text rest out new first free begins is so = record {
 
 -- ---- a line
 
--- where nothing else is left, all characters pass
+-- if a search leaves no text, all characters pass
 none_left : (passes : ℕ → Bool) (text : List ℕ) → while_rest passes text ≡ [] → list_all passes text ≡ true
 none_left passes [] e = refl
 none_left passes (c ∷ text) e = by_first (passes c) (none_left passes text) e
@@ -181,7 +181,7 @@ some_left passes (c ∷ text) d left e = by_first (passes c) (some_left passes t
     by_first true more e = more e
     by_first false more e = refl
 
--- what the search for the end of a line leaves
+-- the text that the search for LF or CR leaves
 abbrev left_of : Answer → List ℕ
 left_of None = []
 left_of (Some x) = x.1

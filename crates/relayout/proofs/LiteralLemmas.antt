@@ -1,4 +1,4 @@
--- Texts of string literals, as they are written.
+-- Texts of string literals.
 use Rattle.std.proofs.Common.{◌≡◌, ℕ, true, false, List, [], ◌∷◌, ◌++◌, codes, refl}
 use Rattle.std.proofs.Common.{sym, ap, ap₂, ◌∙◌, subst, append-nil, append_assoc, length, take, drop}
 use Rattle.std.specs.List.{list_all}
@@ -9,7 +9,7 @@ use Rattle.lexical.proofs.Scan.{run_boundary, run_front, run_rest}
 use Rattle.pm_token.specs.Escaped.{content, is_plain_ascii, string_text, written, written_char}
 use Rattle.pm_token.proofs.TextBuilderLemmas.{content_plain, plain_past}
 
--- ---- characters of ASCII that stand for themselves
+-- ---- ASCII characters that need no escape
 
 module _ (n : ℕ) (text : List ℕ) (utf8 : IsUtf8 text)
     (size : n ≡ length (while_front (is_plain_ascii 34) text)) where
@@ -28,9 +28,9 @@ module _ (n : ℕ) (text : List ℕ) (utf8 : IsUtf8 text)
         subst (λ x. list_all (is_plain_ascii 34) x ≡ true) (sym first) run.1.each,
       )
 
--- ---- what is read of a content
+-- ---- reading the content of a literal
 
--- of a literal's content so much is read as this text, and the rest is left
+-- the part of a literal's content that is read so far means `said`, and `rest` is left
 pub record Reads (literal said rest : List ℕ) : Type 0 where
   pub done : List ℕ
   pub split : literal ≡ codes "\"" ++ (done ++ rest)
@@ -70,7 +70,7 @@ reads_unit whole said text unit rest new c split writes push so = record {
       ∙ sym (append_assoc so.done unit (content 34 written_char more)))));
 }
 
--- a content is between its quotes, before the end of an attribute
+-- a content between its quotes, before `]` and LF, is a literal before the end of an attribute
 closes : (said body rest : List ℕ) → content 34 written_char said ≡ body
     → 34 ∷ (body ++ (34 ∷ 93 ∷ 10 ∷ rest)) ≡ string_text said ++ (codes "]\n" ++ rest)
 closes said body rest is =

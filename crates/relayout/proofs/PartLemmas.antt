@@ -1,4 +1,4 @@
--- A text that is written part by part, with comments in the place of attributes.
+-- A text that is written part by part, with comments instead of attributes.
 use Rattle.std.proofs.Common.{◌≡◌, ℕ, Bool, true, false, ◌&&◌, List, [], ◌∷◌, ◌++◌, codes, refl}
 use Rattle.std.proofs.Common.{sym, ap, ◌∙◌, subst, inl, append_assoc, append-nil}
 use Rattle.std.proofs.Common.{◌||◌, ◌<◌, inr, length, arith}
@@ -35,7 +35,7 @@ stand_append first x (y ∷ us) vs r h more = (
   stand_append false y us vs r h.1 more,
 )
 
--- a cover begins with the piece that stands there
+-- if a piece begins a text that has a cover, what follows the piece has a cover
 past_piece : (first : Bool) (x : Piece) (r : List ℕ) → IsPiece first x.0 x.1 r → Cover first (x.1 ++ r) → Cover false r
 past_piece first x r h cover = by_pieces cover.pieces cover.whole cover.stand
   where
@@ -54,7 +54,7 @@ past_pieces first x [] r h cover = past_piece first x r h.0 cover
 past_pieces first x (y ∷ us) r h cover =
     past_pieces false y us r h.1 (past_piece first x (onto (y ∷ us) r) h.0 cover)
 
--- a part has a first piece
+-- each part has at least one piece
 some_piece : (part : Part) → (x : Piece) × (us : List Piece) × (old_part part ≡ x ∷ us)
 some_piece (White c) = ((Gap, c ∷ []), [], refl)
 some_piece (Kept piece) = (piece, [], refl)
@@ -63,7 +63,7 @@ some_piece (Attribute false text) = (_, _, refl)
 
 -- ---- what is written so far
 
--- with the parts that are left, what is written is all
+-- what is written for the parts so far, together with any parts for the rest, makes the whole text
 pub record Makes (source : List ℕ) (first free : Bool) (rest out : List ℕ) : Type 0 where
   pub only : Cover true source → Cover first rest
   pub all : (ps : List Part) → rest ≡ onto (old_pieces ps) [] → StandBefore first (old_pieces ps) []
@@ -154,7 +154,7 @@ attribute_stands first true text r all = (
 attribute_stands first false text r all =
     ((refl, inl (((35, refl, refl), refl), refl)), doc_stand false text r all)
 
--- it is a part
+-- an attribute that a comment can replace is a part
 pub attribute_part : (first free inner : Bool) (whole text rest : List ℕ) → free ≡ true → IsText text
     → IsAttribute whole inner text rest → IsFirstPart first free whole (Attribute inner text) rest
 attribute_part first free true whole text rest begins all is = record {
@@ -175,7 +175,7 @@ unfolding chars
 comment_chars true = refl
 comment_chars false = refl
 
--- what is written of it
+-- the comment is written as the pieces of its part
 pub attribute_written : (out front text a b new : List ℕ) (inner : Bool) → front ≡ comment_front inner
     → a ≡ out ++ front → b ≡ a ++ text → new ≡ b ++ (10 ∷ []) → new ≡ out ++ onto (new_part (Attribute inner text)) []
 attribute_written out front text a b new inner is first second third =
@@ -185,7 +185,7 @@ attribute_written out front text a b new inner is first second third =
 
 -- ---- another piece
 
--- it is a part, where no attribute begins
+-- a piece is a part if no attribute that a comment can replace begins there
 pub piece_part : (first free now : Bool) (text front rest out new : List ℕ) (k : Kind) → text ≡ front ++ rest
     → IsPiece first k front rest → (free ≡ true → HasNoAttribute text)
     → now ≡ (is_white_gap (k, front) && (free || begins_with (codes "\n") front)) → new ≡ out ++ front
@@ -214,7 +214,7 @@ piece_part first free now text front rest out new k whole stands none after push
       )
     ]
 
--- ---- what follows is shorter
+-- ---- each step makes the rest shorter
 
 pieces_shorten : (first : Bool) (x : Piece) (us : List Piece) (r : List ℕ) → StandBefore first (x ∷ us) r
     → length r < length (onto (x ∷ us) r)

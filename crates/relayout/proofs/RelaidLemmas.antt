@@ -8,7 +8,7 @@ use Rattle.std.specs.Prelude.{String, string_bytes}
 use Rattle.lexical.specs.Cover.{onto, StandBefore}
 use Rattle.lexical.specs.Piece.{Piece, HasNoPiece}
 
--- ---- texts without characters
+-- ---- empty texts
 
 pub no_chars : (text : List ℕ) → (length text == 0) ≡ true → chars text ≡ []
 no_chars text none = ap chars (nil_from_length text (eqb-true (length text) 0 none)) ∙ chars-nil
@@ -31,7 +31,7 @@ pub record Cover (first : Bool) (text : List ℕ) : Type 0 where
   pub whole : text ≡ onto pieces []
   pub stand : StandBefore first pieces []
 
--- where no piece stands and the text goes on, there is no cover
+-- a text that is not empty has no cover if no piece begins it
 pub cover_none : (first : Bool) (text : List ℕ) → HasNoPiece first text → (text ≡ [] → ⊥) → Cover first text → ⊥
 cover_none first text none more cover = by_pieces cover.pieces cover.whole cover.stand
   where
@@ -39,7 +39,7 @@ cover_none first text none more cover = by_pieces cover.pieces cover.whole cover
     by_pieces [] e stand = more e
     by_pieces (x ∷ ps) e stand = none x.0 x.1 (onto ps []) e stand.0
 
--- what a text is, once it is a string
+-- the characters of a string are those of the text that it encodes
 pub string_chars : {Z : Type 0} (s : String Z) (text : List ℕ) → string_bytes s ≡ encode_utf8_all text
     → chars (string_bytes s) ≡ text
 string_chars s text e = encodes_same _ _ (encodes-chars (string_bytes s) (IsUtf8-string_bytes s) ∙ e)

@@ -1,4 +1,4 @@
--- Pieces that stand where the white space after them becomes other white space.
+-- A piece remains a piece when the white space after it becomes other white space.
 use Rattle.std.proofs.Common.{◌≡◌, ◌⊎◌, ℕ, Bool, true, false, not, ◌&&◌, ◌==◌, List, [], ◌∷◌, ◌++◌, codes, refl}
 use Rattle.std.proofs.Common.{sym, ap, ap₂, ◌∙◌, subst, inl, inr, append_assoc, eqb-true}
 use Rattle.std.specs.List.{list_all, list_any}
@@ -29,7 +29,7 @@ use Rattle.relayout.specs.Relayout.{is_line}
 
 -- ---- white characters
 
--- a character that isn't white
+-- the character is not white
 abbrev pub solid_char : ℕ → Bool
 solid_char c = not (is_white c)
 
@@ -63,17 +63,17 @@ calm_on s calm = calm_for goes_on on_solid s calm
 calm_continue : (s : List ℕ) → Calm s → first_passes is_ident_continue s ≡ false
 calm_continue s calm = calm_for is_ident_continue continue_solid s calm
 
--- ---- fronts of texts
+-- ---- prefixes of texts
 
 module _ (b s t : List ℕ) (old : Calm s) (new : Calm t) where
-  -- what begins with none of the fronts, which have no white character, begins with none then
+  -- a text that begins with none of the prefixes, which have no white characters, still begins with none of them
   none_begins : (fronts : List (List ℕ)) (p : List ℕ) → list_all (list_all solid_char) fronts ≡ true
       → begins_any fronts (p ++ (b ++ s)) ≡ false → begins_any fronts (p ++ (b ++ t)) ≡ false
   none_begins fronts p free h =
       ap (begins_any fronts) (sym (append_assoc p b t))
       ∙ any_cut solid_char fronts (p ++ b) s t free new (ap (begins_any fronts) (append_assoc p b s) ∙ h)
 
--- and the other way round
+-- the changed text begins with one of the prefixes exactly if the old text does
 begins_same : (fronts : List (List ℕ)) (b s t : List ℕ) → Calm s → Calm t
     → list_all (list_all solid_char) fronts ≡ true → begins_any fronts (b ++ s) ≡ begins_any fronts (b ++ t)
 begins_same fronts b s t old new free = by_cases (begins_any fronts (b ++ s)) (begins_any fronts (b ++ t)) refl refl
@@ -84,7 +84,7 @@ begins_same fronts b s t old new free = by_cases (begins_any fronts (b ++ s)) (b
     by_cases true false e f = absurd (both_ways _ (none_begins b t s new old fronts [] free f) e)
     by_cases false true e f = absurd (both_ways _ (none_begins b s t old new fronts [] free e) f)
 
--- the first character of what follows passes or not, as it did
+-- the first character passes in the changed text exactly if it passed in the old one
 first_same : (class : ℕ → Bool) → NoWhite class → (b s t : List ℕ) → Calm s → Calm t
     → first_passes class (b ++ s) ≡ first_passes class (b ++ t)
 first_same class none [] s t old new = calm_for class none s old ∙ sym (calm_for class none t new)
@@ -120,7 +120,7 @@ identifier_near true name b s t old new h =
 identifier_near false name b s t old new h =
     (named_near false name b s t old new h.0, none_begins b s t old new literal_prefixes name refl h.1)
 
--- an identifier as it is written has no white character
+-- the characters of an identifier are not white
 name_solid : (name r : List ℕ) → identifiers.Name name r → list_all solid_char name ≡ true
 name_solid name r h = all_in solid_char identifiers.name (start_solid, continue_solid) name r h
 
@@ -178,7 +178,7 @@ literal_near p b s t old new (inl (inr number)) =
 
 -- ---- comments
 
--- a body asks for one character of what follows it
+-- whether a sign of block comments begins there depends on one character of what follows
 sign_cut : (k c : ℕ) (more x y : List ℕ)
     → begins_any block_signs (k ∷ (more ++ (c ∷ x))) ≡ begins_any block_signs (k ∷ (more ++ (c ∷ y)))
 sign_cut k c [] x y = refl
@@ -190,7 +190,7 @@ body_cut c x y (Nested inner more e nested h) =
     Nested inner more e (body_cut 42 (47 ∷ (more ++ (c ∷ x))) (47 ∷ (more ++ (c ∷ y))) nested) (body_cut c x y h)
 body_cut c x y (Single k more e plain h) = Single k more e (sign_cut k c more y x ∙ plain) (body_cut c x y h)
 
--- a block comment stands whatever follows it
+-- a block comment does not depend on what follows it
 block_stays : (p r s : List ℕ) → BlockComment p r → BlockComment p s
 block_stays p r s h =
     let ends = h.second in
@@ -204,7 +204,7 @@ block_stays p r s h =
       second = record { front = ends.front; back = ends.back; whole = ends.whole; first = body; second = ends.second };
     }
 
--- a text that follows a line comment: the same, or one that begins with LF
+-- what follows a line comment stays the same or begins with LF
 abbrev pub Feeds : Piece → List ℕ → List ℕ → List ℕ → Type 0
 Feeds piece b s t = b ≡ [] → is_line piece ≡ true → (s ≡ t) ⊎ ((w : List ℕ) × (t ≡ 10 ∷ w))
 
@@ -244,7 +244,7 @@ doc_near inner text p [] s t feed h = by_comment h.comment.0
 
 -- ---- pieces
 
--- a piece stands before the new text as it stood before the old one
+-- a piece before the old text is also a piece before the new text
 pub piece_near : (first : Bool) (k : Kind) (p b s t : List ℕ) → Calm s → Calm t → Feeds (k, p) b s t
     → IsPiece first k p (b ++ s) → IsPiece first k p (b ++ t)
 piece_near first FrontMark p b s t old new feed h = h

@@ -1,4 +1,4 @@
--- What is kept of a text before it is written, and how a run of white characters is placed.
+-- The loop of `relayout`: what is kept before it is written, and how a run of white characters is replaced.
 use Rattle.std.proofs.Common.{◌≡◌, ◌∙◌, ℕ, Bool, true, false, List, [], ◌∷◌, ◌++◌, None, Some, inl, inr, refl, sym}
 use Rattle.std.proofs.Common.{ap, ap₂, append_assoc, append-nil, subst}
 use Rattle.std.specs.List.{list_all}
@@ -23,7 +23,7 @@ use Rattle.relayout.proofs.ChoiceLemmas.{white_is_gap}
 
 -- ---- white characters, and other pieces
 
--- a piece that begins with no white character is none
+-- a piece is not a white character if it does not begin with one
 solid : (first : Bool) (x : Piece) (r : List ℕ) → IsPiece first x.0 x.1 r → first_passes is_white x.1 ≡ false
     → is_white_gap x ≡ false
 solid first (FrontMark, p) r stands other = refl
@@ -44,9 +44,9 @@ written_gaps choices line run (c ∷ white) ps each =
     cond-true _ _ _ (white_is_gap c parts.0) ∙ (written_gaps choices line (run ++ (c ∷ [])) white ps parts.1
     ∙ ap (λ w. written choices line w ps) (append_assoc run (c ∷ []) white))
 
--- ---- what is written so far
+-- ---- the loop's invariant
 
--- what is kept before the walk would be written next; with the pieces that are left, that is all
+-- what is written and what is kept, together with what will be written for the pieces that are left, is the whole text
 pub record Stays (source : List ℕ) (choices left : List White) (line : Bool) (kept : List ℕ) (at : PieceWalk)
     (out : List ℕ) : Type 0 where
   pub front : List ℕ
@@ -68,7 +68,7 @@ stays_start text choices at out whole first none = record {
   );
 }
 
--- the run before a piece is placed, and the piece is kept
+-- the invariant holds after the run before a piece is replaced and the piece is kept
 pub stays_piece : (source : List ℕ) (choices left after : List White) (line now : Bool) (kept kept_now : List ℕ)
     (at : PieceWalk) (next : Spaced) (to : PieceWalk) (piece : PlacedPiece) (out new : List ℕ) → IsSpaced at next to
     → next.piece ≡ Some piece → (so : Stays source choices left line kept at out)
@@ -106,7 +106,7 @@ stays_piece source choices left after line now kept kept_now at next to piece ou
           (before.0, before.1, same ∙ before.2);
     }
 
--- the last run is placed, and what is kept is written
+-- after the last run, writing what is kept gives the whole text
 pub stays_all : (source : List ℕ) (choices left after : List White) (line : Bool) (kept kept_now : List ℕ)
     (at : PieceWalk) (next : Spaced) (to : PieceWalk) (out new last : List ℕ) → IsSpaced at next to
     → chars next.rest.now ≡ [] → (so : Stays source choices left line kept at out)
@@ -123,9 +123,9 @@ stays_all source choices left after line kept kept_now at next to out new last i
     (sym (written_gaps left line [] white [] is.passes.splits.stands.each)))) in
     (before.0, before.1, same ∙ before.2)
 
--- ---- how a run is placed
+-- ---- how one run is replaced
 
--- where there is none
+-- an empty run takes no choice
 pub places_none : (choices : List White) (line : Bool) (kept from to out run : List ℕ) → from ≡ run ++ to → run ≡ []
     → (front : List ℕ) → kept ≡ front ++ from → Placed choices choices line front run kept to out out
 places_none choices line kept from to out run since none front keeps = rw none (record {
@@ -135,7 +135,7 @@ places_none choices line kept from to out run since none front keeps = rw none (
   leaves = refl;
 })
 
--- where it stays as it is
+-- a run that stays as it is is kept
 pub places_kept : (choices left : List White) (line : Bool) (kept from to out run : List ℕ) → from ≡ run ++ to
     → ((c : ℕ) × (more : List ℕ) × (run ≡ c ∷ more)) → next_choice choices ≡ Kept
     → ((c : ℕ) (more : List ℕ) → left ≡ choices_left choices (c ∷ more))
@@ -150,7 +150,7 @@ places_kept choices left line kept from to out run since (c, more, some) stays l
   leaves = leaves c more;
 })
 
--- where it changes
+-- a run that changes is written after the text that was kept before it
 pub places_changed : (choices left : List White) (choice : White) (line : Bool) (kept from to out written new : List ℕ)
     (front_text run : List ℕ) → ((front : List ℕ) → kept ≡ front ++ from → front_text ≡ front)
     → ((c : ℕ) × (more : List ℕ) × (run ≡ c ∷ more)) → choices ≡ choice ∷ left

@@ -1,4 +1,4 @@
--- Texts with the same pieces but for white characters.
+-- Texts with the same pieces except for white characters.
 use Rattle.std.proofs.Common.{◌≡◌, ℕ, true, false, List, [], ◌∷◌, refl, sym, ap, ◌∙◌, inl, inr}
 use Rattle.std.proofs.lemmas.Bool.{both_ways, cases_Bool, cond-true, cond-false}
 use Rattle.lexical.specs.Cover.{IsCover}
@@ -11,7 +11,7 @@ use Rattle.proc_macro2.specs.Laws.{Gives}
 use Rattle.proc_macro2.proofs.EventSpans.{bare, said, said_onto, said_parsed, same_from_said}
 use Rattle.relayout.specs.Written.{is_white_gap, solid_pieces}
 
--- a white character says nothing
+-- a white character means no token
 gap_says : (x : Piece) (es : List Event) → is_white_gap x ≡ true → said_onto x.0 es ≡ es
 gap_says (FrontMark, p) es gap = refl
 gap_says (Gap, p) es gap = refl

@@ -1,4 +1,4 @@
--- White space in the place of other white space.
+-- White space that replaces other white space.
 use Rattle.std.proofs.Common.{◌≡◌, ℕ, Bool, true, false, ◌||◌, ◌==◌, List, [], ◌∷◌, ◌++◌, refl, sym, ap, ap₂, ◌∙◌}
 use Rattle.std.proofs.Common.{append_assoc, append-nil, encode_utf8, length}
 use Rattle.std.specs.Str.{chars, IsUtf8}
@@ -7,14 +7,14 @@ use Rattle.std.proofs.lemmas.List.{nil_from_length}
 use Rattle.std.proofs.lemmas.Str.{chars-nil, chars_past_char, IsUtf8-past_char}
 use Rattle.relayout.specs.Written.{ends_line, line_end, line_ends}
 
--- where no line ends, there is no line end
+-- white space without an LF has no line ends
 pub ends_none : (returned : Bool) (white : List ℕ) → ends_line white ≡ false → line_ends returned white ≡ []
 ends_none returned [] none = refl
 ends_none returned (c ∷ white) none =
     let parts = or_parts (c == 10) (ends_line white) none in
     ap₂ (λ x y. x ++ y) (cond-false (c == 10) _ _ parts.0) (ends_none (c == 13) white parts.1)
 
--- the line ends that are written, and those that are left, are all
+-- the line ends that are written and those that are left are all line ends of the white space
 pub record AreEnds (white rest : List ℕ) (old out : List ℕ) (ended returned : Bool) : Type 0 where
   pub utf8 : IsUtf8 rest
   pub ends : out ++ line_ends returned (chars rest) ≡ old ++ line_ends false (chars white)

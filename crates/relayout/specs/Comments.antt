@@ -1,4 +1,4 @@
--- What is written of a text with comments in the place of attributes.
+-- What is written for a text whose attributes become comments.
 use Rattle.std.specs.Prelude.{ℕ, Bool, true, not, ◌||◌, ◌==◌, ◌≡◌, List, [], ◌∷◌, ◌++◌, IsTrue, codes}
 use Rattle.lexical.specs.Character.{carriage_return, line_feed}
 use Rattle.lexical.specs.Cover.{onto, IsCover, StandBefore}
@@ -8,16 +8,16 @@ use Rattle.relayout.specs.Commented.{Part, White, Kept, Attribute, attribute_fro
 use Rattle.relayout.specs.Commented.{may_be, new_part, new_pieces, old_part, old_pieces}
 use Rattle.relayout.specs.Laws.{KeepsTokens}
 
--- a character that a line of a comment may have
+-- whether a one-line doc comment may contain the character: it is neither LF nor CR
 abbrev pub in_line : ℕ → Bool
 in_line c = not ((c == line_feed) || (c == carriage_return))
 
--- the attribute of a text that a comment gives stands at the front, before the rest
+-- the text begins with a doc attribute for `text`, which a comment can hold, and goes on with `rest`
 pub record IsAttribute (whole : List ℕ) (inner : Bool) (text rest : List ℕ) : Type 0 where
   pub is : whole ≡ attribute_front inner ++ (string_text text ++ (codes "]\n" ++ rest))
   pub may : IsTrue (is_doc_line inner text)
 
--- what stands before the attribute in what is kept is written, and a comment in the place of the attribute
+-- what precedes the attribute in `kept` is written, and then a comment instead of the attribute
 pub record BecomesComment (kept whole rest old new : List ℕ) : Type 0 where
   pub inner : Bool
   pub text : List ℕ
@@ -26,23 +26,23 @@ pub record BecomesComment (kept whole rest old new : List ℕ) : Type 0 where
   pub writes : (front : List ℕ) → kept ≡ front ++ whole
       → new ≡ old ++ (front ++ onto (new_part (Attribute inner text)) [])
 
--- no such attribute does
+-- the text begins with no attribute that a comment can replace
 abbrev pub HasNoAttribute : List ℕ → Type 0
 HasNoAttribute whole = (inner : Bool) (text rest : List ℕ) → IsText text → IsAttribute whole inner text rest → ⊥
 
--- another piece is kept at the front of a text only where none does
+-- a piece may stay as it is only if the text from it on begins with no attribute that a comment can replace
 abbrev pub Stays : Part → List ℕ → Type 0
 Stays (White c) whole = Unit {0}
 Stays (Kept piece) whole = HasNoAttribute whole
 Stays (Attribute inner text) whole = Unit {0}
 
--- each attribute that begins its line, and that a comment gives, is one of the parts
+-- each attribute that begins its line and that a comment can replace is one of the parts
 abbrev pub AreFound : Bool → List Part → Type 0
 AreFound free [] = Unit {0}
 AreFound free (part ∷ parts) =
     (IsTrue free → Stays part (onto (old_pieces (part ∷ parts)) [])) × AreFound (is_free free part) parts
 
--- the part stands at the front of the text, before the rest
+-- the part is the first one of the text, and `rest` follows it
 pub record IsFirstPart (first free : Bool) (text : List ℕ) (part : Part) (rest : List ℕ) : Type 0 where
   pub whole : text ≡ onto (old_part part) rest
   pub stand : StandBefore first (old_part part) rest
@@ -51,7 +51,8 @@ pub record IsFirstPart (first free : Bool) (text : List ℕ) (part : Part) (rest
 
 -- ---- a text with comments
 
--- the text is the source with comments in the place of all such attributes, and gives the same tokens up to spans
+-- the text is the source with a comment instead of each attribute that begins its line and that a comment can replace,
+-- and gives the same tokens up to spans
 pub record IsCommented (source text : List ℕ) : Type 0 where
   pub parts : List Part
   pub covers : IsCover (old_pieces parts) source

@@ -1,4 +1,4 @@
--- A text with other white space, and what it has in common with the first one.
+-- What `relayout` guarantees about the text that it returns.
 use Rattle.std.specs.Prelude.{ℕ, ◌≡◌, false, List, []}
 use Rattle.lexical.specs.Cover.{IsCover}
 use Rattle.lexical.specs.Piece.{Piece}
@@ -12,7 +12,7 @@ use Rattle.relayout.specs.declared.white.White.{White}
 abbrev pub HasNoCover : List ℕ → Type 0
 HasNoCover source = (all : List Piece) → IsCover all source → ⊥
 
--- the text is the source with these choices; it is covered by the same pieces but for white characters, and gives the
+-- the text is the source with these choices; the same pieces cover it except for white characters, and it gives the
 -- same tokens up to spans
 pub record IsRelaid (choices : List White) (source text : List ℕ) : Type 0 where
   pub pieces : List Piece
@@ -23,7 +23,7 @@ pub record IsRelaid (choices : List White) (source text : List ℕ) : Type 0 whe
   pub same : solid_pieces pieces_now ≡ solid_pieces pieces
   pub tokens : KeepsTokens source text
 
--- if the error is that no piece stands somewhere, this holds
+-- if the error is `NoPiece`, `holds` is true
 abbrev pub IfNoPiece : Type 0 → RelayoutError → Type 0
 IfNoPiece holds NoPiece = holds
 IfNoPiece holds (Memory refused) = Unit {0}

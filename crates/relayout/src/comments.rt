@@ -1,4 +1,4 @@
-//! Doc attributes of a text, as doc comments.
+//! Writes the doc attributes of a text as doc comments.
 ghost use Rattle.std.specs.List.{list_all};
 ghost use Rattle.std.specs.Prelude.{◌≡◌, ◌↔◌, ◌++◌, ◌&&◌, ◌||◌, [], ℕ, Bool, List, codes, false, true};
 ghost use Rattle.std.specs.Prelude.{IfErr, IfOk, IfSome, IsTrue, MatchOption, string_bytes};
@@ -26,29 +26,31 @@ use pm_token::{ConversionErrorKind, Literal};
 use proc_macro2::Span;
 use std::alloc::{AllocError, Global};
 
-/// The text with doc comments in the place of doc attributes.
+/// Returns the text with its doc attributes written as doc comments.
 ///
-/// `#[doc = ".."]` becomes `///..`, and `# ![doc = ".."]` becomes `//!..`: the tokens that these comments are read as.
-/// An attribute stays where it isn't spelled so; where more than white space stands on its line; and where no comment
-/// of one line gives its text: one with LF or CR in it, and one that begins with `/` after `///`. All else stays as it
-/// is, so that the text parses to the same tokens up to spans.
+/// `#[doc = ".."]` becomes `///..`, and `# ![doc = ".."]` becomes `//!..`. Such a comment is read as that attribute, so
+/// the text parses to the same tokens up to spans. An attribute stays if it is spelled in another way, if more than
+/// white space precedes it on its line, or if LF does not follow its `]` at once. It also stays if its text has LF or
+/// CR, which no one-line comment can hold, or if the text would begin with `/` right after `///`. Everything else stays
+/// as it is.
 ///
-/// Fails with `NoPiece` where no pieces cover the text, and with `Memory`. Delimiters need not match. It takes time
-/// proportional to the length of the text.
+/// Returns `NoPiece` if no pieces cover the text, and `Memory` if memory runs out. Delimiters need not match. The call
+/// takes time proportional to the length of the text.
 ///
-/// Of `#[doc = " a"]`, LF and `fn f() {}` it is `/// a`, LF and `fn f() {}`.
+/// Example: `#[doc = " a"]`, LF and `fn f() {}` become `/// a`, LF and `fn f() {}`.
 pub fn with_doc_comments(alloc: Global, text: &str) -> Result<String, RelayoutError>
     ensures ok { IfOk result (λ out. IsCommented (chars text.now) (chars (string_bytes out))) }
     ensures no_piece { IfErr result (IfNoPiece (HasNoCover (chars text.now))) }
 {
     let mut out = TextBuilder::with_room(alloc, text.len())?;
-    // What isn't written yet, and the end of it that is still to be read. What is kept is written as a whole.
+    // `kept` is the text that is not written yet, and `rest` its end that is not read yet. What is kept is copied in
+    // one go.
     let mut kept = text;
     let mut rest = text;
     let mut first = true;
     let mut free = true;
     while !rest.is_empty() {
-        // Of white space only the line ends matter, so the lexer isn't asked for it.
+        // Of white space only the line ends matter, so it is skipped without the lexer.
         let (solid, white) = past_white(rest);
         if white > 0 {
             free = is_free_after(free, before(rest, solid));
@@ -73,7 +75,7 @@ pub fn with_doc_comments(alloc: Global, text: &str) -> Result<String, RelayoutEr
     Ok(out.into_string())
 }
 
-/// Whether nothing but white space stands on the line after this white space, where so it was before it or not.
+/// Whether the line is blank up to the end of `white`. `free` says whether it is blank up to the start of `white`.
 #[inline(always)]
 fn is_free_after(free: bool, white: &str) -> bool
     ensures { result ≡ (free || ends_line (chars white.now)) }
@@ -81,7 +83,7 @@ fn is_free_after(free: bool, white: &str) -> bool
     free || ends_line(white)
 }
 
-/// Whether a line ends in the white space.
+/// Whether the white space has a line end in it.
 #[inline(always)]
 fn ends_line(white: &str) -> bool
     ensures { result ≡ ends_line (chars white.now) }
@@ -89,9 +91,9 @@ fn ends_line(white: &str) -> bool
     white.chars().any(|c| c == '\n')
 }
 
-/// Writes a comment in the place of the attribute at the front of the text, and before it what is kept up to there.
-/// `free` says whether nothing but white space stands before the text on its line. Answers what follows the attribute's
-/// line; `None`, and nothing is written, where no attribute is to become a comment.
+/// Writes a comment for the attribute at the start of `text`, after the part of `kept` that precedes `text`. `free`
+/// says whether only white space precedes `text` on its line. Returns what follows the attribute's line. If no
+/// attribute that becomes a comment begins there, it returns `None` and writes nothing.
 #[inline(always)]
 fn push_comment<'a>(
     alloc: Global,
@@ -116,7 +118,7 @@ fn push_comment<'a>(
     push_attribute(alloc, out, kept, text)
 }
 
-/// The same, where nothing but white space stands before the text on its line.
+/// Does the work of `push_comment` for a text that only white space precedes on its line.
 #[inline(never)]
 fn push_attribute<'a>(
     alloc: Global,
@@ -133,7 +135,7 @@ fn push_attribute<'a>(
     let Some((inner, after)) = past_front(text) else {
         return Ok(None);
     };
-    // Most texts stand in their literals as they are, or with short escapes.
+    // Most literals hold their text as it is or with short escapes. These are read without the lexer.
     if let Some((front, more)) = plain_front(after) {
         if let Some(rest) = strip(more, "\"]\n") {
             return push_doc(out, kept, text, inner, front, rest);
@@ -151,7 +153,8 @@ fn push_attribute<'a>(
     push_doc(out, kept, text, inner, said.as_str(), rest)
 }
 
-/// The same of an attribute of this text before the rest, if a comment gives the text.
+/// Writes the comment for an attribute whose text is `said`, if a one-line comment can hold that text, and returns
+/// `rest`, which follows the attribute's line. Otherwise it returns `None` and writes nothing.
 fn push_doc<'a>(
     out: &mut TextBuilder,
     kept: &str,
@@ -178,15 +181,16 @@ fn push_doc<'a>(
     Ok(Some(rest))
 }
 
-/// How a comment begins, one with `!` or not.
+/// Returns `//!` for an inner comment and `///` for an outer one.
 fn front_of(inner: bool) -> &'static str
     ensures { result.now ≡ comment_front inner }
 {
     if inner { "//!" } else { "///" }
 }
 
-/// What follows the piece at the front of the text, where no attribute is to become a comment, and whether nothing but
-/// white space stands before that on its line. `free` says whether so it is before the piece. `None` where none stands.
+/// Returns what follows the piece at the start of the text, and whether only white space precedes that on its line.
+/// `free` says whether only white space precedes the piece on its line. If so, no attribute that becomes a comment may
+/// begin there. Returns `None` if no piece begins there.
 #[inline(always)]
 fn past_piece(text: &str, first: bool, free: bool) -> Option<(&str, bool)>
     requires { IsTrue free → HasNoAttribute (chars text.now) }
@@ -202,7 +206,8 @@ fn past_piece(text: &str, first: bool, free: bool) -> Option<(&str, bool)>
     Some((rest, is_free(free, piece.kind, own)))
 }
 
-/// Whether nothing but white space stands on the line after a piece of this kind and text.
+/// Whether the line is blank up to the end of a piece of this kind and text. `free` says whether it is blank up to its
+/// start.
 fn is_free(free: bool, kind: PieceKind<'_>, text: &str) -> bool
     ensures { result ≡ (is_white_gap (kind_of kind.entry (chars text.now), chars text.now)
         && (free || begins_with (codes "\n") (chars text.now))) }
@@ -213,7 +218,8 @@ fn is_free(free: bool, kind: PieceKind<'_>, text: &str) -> bool
     }
 }
 
-/// What follows the front of an attribute, which is of a comment with `!` or not.
+/// Returns which doc attribute begins the text, an inner one (`true`) or an outer one, and the text from its literal
+/// on. Returns `None` if none begins it.
 fn past_front(text: &str) -> Option<(bool, &str)>
     ensures found { MatchOption result
         ((inner : Bool) → begins_with (attribute_front inner) (chars text.now) ≡ false)
@@ -229,7 +235,8 @@ fn past_front(text: &str) -> Option<(bool, &str)>
     None
 }
 
-/// The literal at the front of the text, and what follows `]` and LF after it.
+/// Returns the literal at the start of the text, and what follows the `]` and LF after it. Returns `None` if no literal
+/// begins there or something else follows it.
 fn split_literal(text: &str) -> Option<(&str, &str)>
     ensures found { MatchOption result ((p r : List ℕ) → lexical.Literal p (codes "]\n" ++ r)
         → chars text.now ≡ p ++ (codes "]\n" ++ r) → ⊥)
@@ -246,7 +253,7 @@ fn split_literal(text: &str) -> Option<(&str, &str)>
     Some((&text[..bytes], rest))
 }
 
-/// The text of which this is the string literal, as `Literal::string` writes it.
+/// Returns the text for which `Literal::string` writes this literal, if there is one.
 fn text_of(alloc: Global, literal: &str) -> Result<Option<String>, AllocError>
     ensures { IfOk result (λ found. MatchOption found
         ((text : List ℕ) → IsText text → chars literal.now ≡ string_text text → ⊥)
@@ -263,7 +270,7 @@ fn text_of(alloc: Global, literal: &str) -> Result<Option<String>, AllocError>
     }
 }
 
-/// The text, if this is its string literal.
+/// Returns `text` if `Literal::string` writes `literal` for it.
 fn same_literal(alloc: Global, literal: &str, text: String) -> Result<Option<String>, AllocError>
     ensures { IfOk result (λ found. MatchOption found
         (chars literal.now ≡ string_text (chars (string_bytes text)) → ⊥)
@@ -277,21 +284,21 @@ fn same_literal(alloc: Global, literal: &str, text: String) -> Result<Option<Str
     }
 }
 
-/// Whether both are the same text.
+/// Whether the two texts are equal.
 fn is_same(text: &str, other: &str) -> bool
     ensures { IsTrue result ↔ (chars text.now ≡ chars other.now) }
 {
     text == other
 }
 
-/// Whether a doc comment of one line gives the text.
+/// Whether a doc comment of one line can hold the text.
 fn is_doc_line(inner: bool, text: &str) -> bool
     ensures { result ≡ is_doc_line inner (chars text.now) }
 {
     is_in_line(text) && (inner || !begins(text, "/"))
 }
 
-/// Whether no line ends in the text, and no CR stands in it.
+/// Whether the text has neither LF nor CR in it.
 fn is_in_line(text: &str) -> bool
     ensures { result ≡ list_all in_line (chars text.now) }
 {

@@ -1,14 +1,14 @@
-//! Why no other white space is written.
+//! The error of `relayout` and `with_doc_comments`.
 ghost use Rattle.std.specs.Prelude.{◌≡◌};
 
 use std::alloc::AllocError;
 use std::error::Error;
 use std::fmt;
 
-/// Why no other white space is written.
+/// Why `relayout` or `with_doc_comments` returned no text.
 #[derive(Debug, Drop, PartialEq, Eq)]
 pub enum RelayoutError {
-    /// Somewhere in the text no piece stands.
+    /// No pieces cover the text: somewhere in it no piece begins.
     NoPiece,
     /// Memory ran out.
     Memory(AllocError),

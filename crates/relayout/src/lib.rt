@@ -1,7 +1,10 @@
-//! Other white space between the tokens and comments of a text.
+//! Changes the white space between the tokens and comments of a text.
 //!
-//! [`relayout`] writes a text with white space that is chosen, run by run, and keeps everything else: whatever is
-//! chosen, the tokens are the same, and so are the comments.
+//! [`relayout`] replaces white space run by run, as its caller chooses, and keeps everything else. Whatever is chosen,
+//! the tokens and the comments stay the same.
+//!
+//! The pieces of a text are its tokens, delimiters, comments and white characters. They cover the text if they join to
+//! all of it.
 #![tactic(auto)]
 
 mod comments;

@@ -1,4 +1,4 @@
-//! Texts of string literals, as `Literal::string` writes them.
+//! Reads the text of a string literal that `Literal::string` wrote.
 ghost use Rattle.std.specs.List.{list_all};
 ghost use Rattle.std.specs.Prelude.{◌≡◌, ◌≤◌, ◌<◌, ◌++◌, ◌∷◌, [], ℕ, List, codes, false, length};
 ghost use Rattle.std.specs.Prelude.{IfOk, IfSome, IsTrue, MatchOption, string_bytes};
@@ -12,8 +12,8 @@ ghost use Rattle.pm_token.specs.Escaped.{is_plain_ascii, string_text, written, w
 use pm_token::parts::{TextBuilder, is_bare};
 use std::alloc::{AllocError, Global};
 
-/// The characters of ASCII at the front of a literal's content that stand for themselves, and what follows them. `None`
-/// where no quote begins the text.
+/// Returns the ASCII characters at the start of a literal's content that need no escape, and what follows them. Returns
+/// `None` if the text does not begin with a quote.
 #[inline(always)]
 pub(crate) fn plain_front(text: &str) -> Option<(&str, &str)>
     ensures split { IfSome result (λ x. chars text.now ≡ codes "\"" ++ (chars x.0.now ++ chars x.1.now)) }
@@ -25,9 +25,10 @@ pub(crate) fn plain_front(text: &str) -> Option<(&str, &str)>
     Some(split_plain(content))
 }
 
-/// The text whose literal has this content, from such a front on, before `]` and LF, and what follows these. `None`
-/// says nothing: characters past ASCII may stand for themselves too, and an escape is a backslash and a letter. It
-/// takes memory only where such a literal stands.
+/// Returns the text of a literal before `]` and LF, and what follows that LF. `front` is the start of the literal's
+/// content that `plain_front` found, and `after` follows it. `None` does not mean that there is no such literal: this
+/// reads only characters without an escape and escapes of one letter. It allocates only if quote, `]` and LF end the
+/// content.
 pub(crate) fn escaped_text<'a>(
     alloc: Global,
     front: &str,
@@ -61,7 +62,7 @@ pub(crate) fn escaped_text<'a>(
     Ok(None)
 }
 
-/// What follows this ASCII front of the text.
+/// Returns what follows `front`, if the text begins with it.
 #[inline(always)]
 pub(crate) fn strip<'a>(text: &'a str, front: &str) -> Option<&'a str>
     requires { IsTrue (all_ascii front.now) }
@@ -72,7 +73,7 @@ pub(crate) fn strip<'a>(text: &'a str, front: &str) -> Option<&'a str>
     text.strip_prefix(front)
 }
 
-/// The characters of ASCII at the front that stand for themselves in a literal, and what follows them.
+/// Splits off the ASCII characters at the start that need no escape in a literal.
 #[inline(always)]
 fn split_plain(text: &str) -> (&str, &str)
     ensures split { chars text.now ≡ chars result.0.now ++ chars result.1.now }
@@ -83,7 +84,7 @@ fn split_plain(text: &str) -> (&str, &str)
     text.split_at(plain_size(text.as_bytes()))
 }
 
-/// How many bytes at the front are characters of ASCII that stand for themselves.
+/// Returns how many bytes at the start are ASCII characters that need no escape.
 #[inline(always)]
 fn plain_size(bytes: &[u8]) -> usize
     ensures { result ≡ length (while_front (is_plain_ascii double_quote) bytes.now) }
@@ -98,7 +99,7 @@ fn plain_size(bytes: &[u8]) -> usize
     count
 }
 
-/// Whether the byte is a character of ASCII that stands for itself.
+/// Whether the byte is an ASCII character that needs no escape.
 #[inline(always)]
 fn is_plain(byte: u8) -> bool
     ensures { result ≡ is_plain_ascii double_quote byte }
@@ -106,7 +107,7 @@ fn is_plain(byte: u8) -> bool
     byte >= b' ' && byte < 0x7F && byte != b'\\' && byte != b'"'
 }
 
-/// How many bytes the content of a literal has at the front, of characters and escapes that `split_unit` may read.
+/// Returns how many bytes at the start may be characters and escapes that `split_unit` reads.
 fn content_size(bytes: &[u8]) -> usize
     ensures { result ≤ length bytes.now }
 {
@@ -129,7 +130,7 @@ fn is_letter(byte: u8) -> bool {
     matches!(byte, b'\\' | b'"' | b't' | b'n' | b'r')
 }
 
-/// The character that is written at the front, by itself past ASCII or by a short escape, and what follows it.
+/// Splits off the first character, if it needs no escape and is past ASCII, or is written with a short escape.
 fn split_unit(text: &str) -> Option<(char, &str)>
     ensures found { IfSome result (λ x. (unit : List ℕ) × (chars text.now ≡ unit ++ chars x.1.now)
         × ((more : List ℕ) → written double_quote written_char x.0 more ≡ unit)) }
@@ -159,14 +160,14 @@ fn split_first(text: &str) -> Option<(char, &str)>
     Some((first, characters.as_str()))
 }
 
-/// Whether the character is past ASCII and stands for itself.
+/// Whether the character is past ASCII and needs no escape.
 fn stands_past_ascii(c: char) -> bool
     ensures { IsTrue result → (more : List ℕ) → written double_quote written_char c more ≡ c ∷ [] }
 {
     !c.is_ascii() && is_bare(c)
 }
 
-/// What this letter means after a backslash, where it is the escape by which a literal has that character.
+/// Returns the character that the escape of this letter means, if `Literal::string` writes it with that escape.
 fn meaning(letter: char) -> Option<char>
     ensures { IfSome result (λ c. (more : List ℕ)
         → written double_quote written_char c more ≡ backslash ∷ letter ∷ []) }

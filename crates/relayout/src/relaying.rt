@@ -13,17 +13,16 @@ use lexical::{PieceKind, PlacedPiece, pieces};
 use pm_token::parts::TextBuilder;
 use std::alloc::{AllocError, Global};
 
-/// The text with other white space between its tokens and comments, which stay as they are.
+/// Returns the text with other white space between its tokens and comments, which stay as they are.
 ///
-/// Each run of white characters becomes what the next of the choices says, and stays where there are no more of them.
-/// So some white space stands wherever some stood, and none where none did, and a line comment keeps its line end: the
-/// pieces of the text are the same but for white characters, and it parses to the same tokens up to spans, whatever is
-/// chosen.
+/// Each run of white characters becomes what the next of the choices says. Runs after the last choice stay as they are.
+/// No run is added, none becomes empty, and a line comment keeps its line end. So the text keeps its pieces except for
+/// white characters, and it parses to the same tokens up to spans, whatever is chosen.
 ///
-/// Fails with `NoPiece` where no pieces cover the text, and with `Memory`. Delimiters need not match. It takes time
-/// proportional to the length of the text and of what is written.
+/// Returns `NoPiece` if no pieces cover the text, and `Memory` if memory runs out. Delimiters need not match. The call
+/// takes time proportional to the length of the text and of what it writes.
 ///
-/// Of `a  +\n// b\n c` with `Space`, `Lines` with 4 spaces and `Space` it is `a +\n    // b\nc`.
+/// Example: with `Space`, `Lines` with 4 spaces and `Space`, `a  +\n// b\n c` becomes `a +\n    // b\nc`.
 pub fn relayout(alloc: Global, text: &str, choices: &[White]) -> Result<String, RelayoutError>
     ensures ok { IfOk result (λ out. IsRelaid choices.now (chars text.now) (chars (string_bytes out))) }
     ensures no_piece { IfErr result (IfNoPiece (HasNoCover (chars text.now))) }
@@ -31,7 +30,7 @@ pub fn relayout(alloc: Global, text: &str, choices: &[White]) -> Result<String, 
     let mut out = TextBuilder::with_room(alloc, text.len())?;
     let mut left = choices;
     let mut line = false;
-    // The text from `kept` on stays, as far as it is passed, and isn't written yet. It is copied at once, before the
+    // The text from `kept` up to the walk stays as it is and is not written yet. It is copied in one go, before the
     // next run of white characters that changes or at the end.
     let mut kept = text;
     let mut walk = pieces(text);
@@ -53,7 +52,7 @@ pub fn relayout(alloc: Global, text: &str, choices: &[White]) -> Result<String, 
     }
 }
 
-/// Whether it is a line comment.
+/// Whether the piece is a line comment, also a doc comment.
 fn is_line(next: PlacedPiece<'_>) -> bool
     ensures { result ≡ is_line (
       kind_of next.entry.piece.kind (chars next.entry.text.now),
@@ -66,9 +65,9 @@ fn is_line(next: PlacedPiece<'_>) -> bool
     }
 }
 
-/// Takes the next choice for a run of white characters, which stands from `from` up to `to`, if it isn't empty. A run
-/// that changes is written as the choice says, after the text that was kept before it. Answers the text that is kept
-/// now, up to `to` and on, and the choices for later runs.
+/// Takes the next choice for the run of white characters between `from` and `to`, if the run is not empty. A run that
+/// changes is written as the choice says, after the text that was kept before it. Returns the text that is kept now,
+/// which ends with `to`, and the choices for later runs.
 #[inline(always)]
 fn push_run<'a, 'b>(
     out: &mut TextBuilder,

@@ -1,4 +1,4 @@
--- What is odd at the end of a line.
+-- What is odd about a line end.
 use Rattle.std.proofs.Common.{◌≡◌, ◌∙◌, ℕ, Bool, true, false, List, [], ◌∷◌, codes, refl, rules, sym}
 use Rattle.std.specs.Str.{chars}
 use Rattle.std.proofs.lemmas.Str.{chars-IsAscii}
@@ -12,7 +12,7 @@ chars_return = chars-IsAscii (13 ∷ []) (search rules)
 pub chars_feed : chars (10 ∷ []) ≡ 10 ∷ []
 chars_feed = chars-IsAscii (10 ∷ []) (search rules)
 
--- CR that no line feed follows
+-- a CR that no LF follows is found
 pub bare : (ends : LineEnds) (place : Place) (c : ℕ) (rest : List ℕ) (begins : Bool) → c ≡ 13
     → begins ≡ begins_feed rest
     → begins ≡ false → chars (13 ∷ []) ≡ 13 ∷ []
@@ -22,7 +22,7 @@ bare ends place c rest begins is tests goes spelled =
     let none : begins_feed rest ≡ false = sym tests ∙ goes in
     rw (spelled, is, none) refl
 
--- a line feed that ends its line unlike those before it
+-- an LF that ends its line differently from the lines before it is found
 pub mixed : (ends : LineEnds) (place : Place) (c : ℕ) (rest : List ℕ) (other : Bool) → c ≡ 10 → other ≡ is_other ends
     → other ≡ true → chars (10 ∷ []) ≡ 10 ∷ []
     → odd (codes "mixed-line-ends") (codes "a line that ends unlike those before it") (chars (10 ∷ [])) place ∷ []

@@ -1,4 +1,4 @@
--- Several files, one after the other.
+-- Several files, checked one after the other.
 use Rattle.std.proofs.Common.{◌≡◌, ◌∙◌, ℕ, suc, ◌+◌, ◌<◌, ◌≤◌, Bool, true, false, List, [], ◌∷◌, Option}
 use Rattle.std.proofs.Common.{Ok, Err, refl, ap, arith, subst, sym}
 use Rattle.std.proofs.Common.{drop, get_or, length, map, IfOk, string_bytes, String}
@@ -10,7 +10,7 @@ use Rattle.rust_check.specs.Files.{AllTold, Outcome, counted}
 use Rattle.rust_check.specs.declared.options.Form.{Form}
 use Rattle.rust_check.specs.declared.tally.Tally.{Tally}
 
--- what an outcome says of a file
+-- if the file was read, everything found in it is written
 abbrev pub Told : Form → Bool → List ℕ → Outcome → Option (List ℕ) → Option (List ℕ) → Type 0
 Told form hidden path outcome old new =
     IfOk outcome (λ faulty. (text : List ℕ) × TellsAll form hidden path text old new faulty)
@@ -22,7 +22,7 @@ told_cons : (form : Form) (hidden : Bool) (path : List ℕ) (paths : List (List 
 told_cons form hidden path paths (Ok faulty) more old between new told rest = (told.0, between, told.1, rest)
 told_cons form hidden path paths (Err failure) more old between new told rest = (between, rest)
 
--- a file before those that are left
+-- the outcome of one file, before those of the files that are left
 pub told_one : (form : Form) (hidden : Bool) (paths : List (String Global)) (k : ℕ) (path : String Global)
     (outcome : Outcome) (more : List Outcome) (old between new : Option (List ℕ))
     → k < length paths → path ≡ get_or paths k path
@@ -37,13 +37,13 @@ told_one form hidden paths k path outcome more old between new within is told re
     subst (λ l. AllTold form hidden (map string_bytes l) (outcome ∷ more) old new) (sym split)
     (told_cons form hidden (string_bytes path) _ outcome more old between new told rest)
 
--- no file is left
+-- no files are left once the index is past the last
 pub told_none : (form : Form) (hidden : Bool) (paths : List (String Global)) (k : ℕ) (known : Option (List ℕ))
     → length paths ≤ k → AllTold form hidden (map string_bytes (drop k paths)) [] known known
 told_none form hidden paths k known past =
     subst (λ l. AllTold form hidden (map string_bytes l) [] known known) (sym (drop_of_length-le paths past)) refl
 
--- one outcome counts once at most
+-- one outcome adds at most 1 to each count
 pub counted_most : (tally : Tally) (outcome : Outcome) (most : ℕ) → tally.faulty ≤ most → tally.unread ≤ most
     → ((counted tally outcome).faulty ≤ most + 1) × ((counted tally outcome).unread ≤ most + 1)
 counted_most tally (Ok true) most f u = (omega arith, omega arith)

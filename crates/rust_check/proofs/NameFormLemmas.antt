@@ -1,4 +1,4 @@
--- The first name of each form, with one name more.
+-- The first name of each form, after one more name.
 use Rattle.std.proofs.Common.{◌≡◌, ◌∙◌, ℕ, Bool, true, false, not, List, ◌∷◌, Option, Some, None, refl, sym}
 use Rattle.std.proofs.Common.{ap, subst, bytes_eq, string_bytes, String}
 use Rattle.std.specs.HashMap.{HashMap, get_by_text}
@@ -11,7 +11,7 @@ use Rattle.std.proofs.lemmas.Str.{encodes_same}
 use Rattle.unicode_normalization.specs.Forms.{nfkc}
 use Rattle.rust_check.specs.NameForms.{AreFirst, IsText, first_named, is_other, is_other_than, is_same_text, or_named}
 
--- texts are the same where their bytes are
+-- texts are the same exactly if their bytes are
 bytes_tell : (a b : List ℕ) → bytes_eq (encode_utf8_all a) (encode_utf8_all b) ≡ is_same_text a b
 bytes_tell a b =
     let bytes = bytes_eq-Decides (encode_utf8_all a) (encode_utf8_all b) in
@@ -23,7 +23,7 @@ same_text a b e = (bytes_eq-Decides a b).0 e
 
 module _ {A B S : Type 0} (map : HashMap (String A) (String B) S) (names : List (List ℕ))
     (are : AreFirst map names) (name : List ℕ) where
-  -- the form has a first name
+  -- a form that the map has is the form of a name
   known : (first : String B) → get_by_text map (encode_utf8_all (nfkc name)) ≡ Some first
       → (f : List ℕ) × (first_named (nfkc name) names ≡ Some f) × (string_bytes first ≡ encode_utf8_all f)
   known first found = by (first_named (nfkc name) names) refl

@@ -1,4 +1,4 @@
--- The scripts of a name, one character after the other.
+-- The scripts of a name, character by character.
 use Rattle.std.proofs.Common.{◌≡◌, ◌↔◌, ◌∙◌, ◌++◌, ℕ, Bool, true, false, not, List, [], ◌∷◌, Option, IsTrue, ap, codes}
 use Rattle.std.proofs.Common.{encode_utf8, if◌then◌else◌, length, refl, sym}
 use Rattle.std.proofs.lemmas.Bool.Decides.{same_from_decides}
@@ -19,7 +19,7 @@ use Rattle.rust_check.specs.Names.{all_written, found_in_name, is_mixed, written
 use Rattle.rust_check.specs.declared.names.Writing.{Writing}
 use Rattle.rust_check.specs.declared.names.Writing.TheVariants.{Open}
 
--- with the characters that are left, it is all
+-- the scripts so far, with the characters that are left, give the scripts of the whole name
 pub record IsWritten (name rest : List ℕ) (writing : Writing) : Type 0 where
   pub utf8 : IsUtf8 rest
   pub all : all_written writing (chars rest) ≡ all_written Open (chars name)
@@ -45,7 +45,7 @@ not_cases : {A : Type 0} (b : Bool) (x y : A) → (if not b then x else y) ≡ (
 not_cases true x y = refl
 not_cases false x y = refl
 
--- what is odd about a name is told
+-- the three tests of a name together report all that is odd about it
 pub name_told : (form : Form) (path : List ℕ) (place : Place) (name text : List ℕ) (good apart other : Bool)
     (first second third : Found) (names : List (List ℕ))
     (old between later new : Option (List ℕ)) (before so_far by_now after : Bool) → (IsTrue good ↔ IsInForm Nfc name)

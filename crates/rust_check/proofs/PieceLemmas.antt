@@ -14,18 +14,18 @@ use Rattle.rust_check.specs.Place.{front, places_after}
 use Rattle.rust_check.specs.Told.{ArePieces, found_in_piece, found_in_pieces, is_literal}
 use Rattle.rust_check.specs.declared.finding.Place.{Place}
 
--- whether nothing stands before what follows these pieces, of which the first is at the front of the text or not
+-- whether the text after these pieces is the start of the source
 abbrev pub first_past : Bool → List Piece → Bool
 first_past first [] = first
 first_past first (piece ∷ more) = false
 
--- these pieces are left, and then the rest, where none stands
+-- these pieces are left, and then `rest`, where no piece begins
 pub record AreLeft (first : Bool) (source : List ℕ) (more : List Piece) (rest : List ℕ) : Type 0 where
   pub whole : source ≡ onto more rest
   pub stand : StandBefore first more rest
   pub none : HasNoPiece (first_past first more) rest
 
--- a piece, and then those after it
+-- a piece, and then the pieces after it, are left
 pub left_before : (at : PieceWalk) (next : PlacedPiece) (to : PieceWalk) (more : List Piece) (rest : List ℕ)
     → IsNext at next to → AreLeft to.at_front (chars to.rest.now) more rest
     → AreLeft at.at_front (chars at.rest.now)
@@ -49,14 +49,14 @@ past_true : (all : List Piece) → first_past true all ≡ is_first all
 past_true [] = refl
 past_true (piece ∷ more) = refl
 
--- all of them
+-- the pieces that are left at the start are all pieces of the text
 pub all_left : (text : List ℕ) (all : List Piece) (rest : List ℕ) → AreLeft true text all rest → ArePieces all text rest
 all_left text all rest left = record {
   covers = record { whole = left.whole; stand = left.stand };
   none = subst (λ first. HasNoPiece first rest) (past_true all) left.none;
 }
 
--- what is found in a piece, and then in those after it
+-- what is found in a piece, and then in the pieces after it, is found in all of them
 pub pieces_step : (done : List Found) (place after : Place) (before : List (List ℕ)) (kind : Kind) (words : List ℕ)
     (literal : Bool) (more : List Piece) (rest : List ℕ) → literal ≡ is_literal kind → after ≡ places_after place words
     → (done ++ (found_by_kind place before kind words ++ found_in_piece literal place words))
@@ -71,14 +71,14 @@ pieces_step done place after before kind words literal more rest is past =
     ∙ (ap (λ at. (done ++ (here ++ inside)) ++ found_in_pieces at names more rest) past
     ∙ (append_assoc done (here ++ inside) tail ∙ ap (λ l. done ++ l) (append_assoc here inside tail)))
 
--- with the pieces that are left, it is all that is found in the text's pieces
+-- what is found so far, with what is found in the pieces that are left, is all that is found in the text's pieces
 pub record GoesOn (done : List Found) (place : Place) (before : List (List ℕ)) (text : List ℕ) (more : List Piece)
     (rest : List ℕ) : Type 0 where
   pub pieces : List Piece
   pub are : ArePieces pieces text rest
   pub all : done ++ found_in_pieces place before more rest ≡ found_in_pieces front [] pieces rest
 
--- at the front of the text
+-- at the start of the text nothing is found yet
 pub front_on : (first : Bool) (words text : List ℕ) (place : Place) (more : List Piece) (rest : List ℕ) → first ≡ true
     → words ≡ text → place ≡ front → AreLeft first words more rest → GoesOn [] place [] text more rest
 front_on first words text place more rest at is stands left = record {
@@ -88,7 +88,7 @@ front_on first words text place more rest at is stands left = record {
   all = ap (λ p. found_in_pieces p [] more rest) stands;
 }
 
--- after a piece more
+-- one more piece keeps the invariant
 pub piece_on : (done : List Found) (place after : Place) (before : List (List ℕ)) (text : List ℕ) (at : PieceWalk)
     (next : PlacedPiece) (to : PieceWalk) (literal : Bool) (more : List Piece) (rest : List ℕ) → IsNext at next to
     → literal ≡ is_literal (kind_of next.piece.kind (chars next.text.now))
@@ -110,6 +110,6 @@ piece_on done place after before text at next to literal more rest step is past 
       all = pieces_step done place after before kind words literal more rest is past ∙ on.all;
     }
 
--- where none stands
+-- no pieces are left where no piece begins
 pub none_left : (first : Bool) (words : List ℕ) → HasNoPiece first words → AreLeft first words [] words
 none_left first words none = record { whole = refl; stand = tt; none = none }

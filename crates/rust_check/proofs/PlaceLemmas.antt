@@ -1,4 +1,4 @@
--- The line on which a text ends, one character after the other.
+-- The line on which a text ends, character by character.
 use Rattle.std.proofs.Common.{◌≡◌, ◌∙◌, ◌+◌, ◌||◌, ◌++◌, ℕ, Bool, true, false, not, List, [], ◌∷◌, refl, sym, ap}
 use Rattle.std.proofs.Common.{append_assoc, append-nil, length, length-append, ◌≤◌, reverse, arith, encode_utf8, ◌==◌}
 use Rattle.std.specs.Prelude.{if◌then◌else◌, cond}
@@ -11,7 +11,7 @@ use Rattle.pm_span.proofs.AsciiLemmas.{length_chars_le}
 use Rattle.pm_span.specs.CharOffset.{is_line_feed}
 use Rattle.rust_check.specs.Place.{ends_line, first_line, last_line, last_number}
 
--- so much of a text is read, and these are the number and the front of the line that is reached
+-- the part of the text before `rest` is read, and the line that is reached has this number and begins with `front`
 pub record IsAt (text front rest : List ℕ) (number : ℕ) : Type 0 where
   pub done : List ℕ
   pub utf8 : IsUtf8 rest
@@ -39,7 +39,7 @@ line_one done c =
     by_feed true = refl
     by_feed false = reverse-append (c ∷ []) (take_while (λ c. not (is_line_feed c)) (reverse done))
 
--- a character that is no line feed
+-- a character that is not LF stays on the line
 pub at_other : (text front rest more : List ℕ) (number c : ℕ) → IsAt text front rest number
     → rest ≡ encode_utf8 c ++ more → (c == 10) ≡ false → IsAt text front more number
 at_other text front rest more number c at split other =
@@ -54,7 +54,7 @@ at_other text front rest more number c at split other =
           ∙ ap (λ l. l ++ chars more) (sym (rw other at (line_one at.done c)))));
     }
 
--- a line feed
+-- LF begins the next line
 pub at_feed : (text front rest more : List ℕ) (number c : ℕ) → IsAt text front rest number
     → rest ≡ encode_utf8 c ++ more → (c == 10) ≡ true → IsAt text more more (number + 1)
 at_feed text front rest more number c at split feed =
@@ -67,11 +67,11 @@ at_feed text front rest more number c at split feed =
       line = ap (λ l. l ++ chars more) (sym (rw feed at (line_one at.done c)));
     }
 
--- before all of it, in a text that begins so
+-- at the start of the text, line 1 is reached
 pub at_start : (text : List ℕ) → IsUtf8 text → IsAt text text text 1
 at_start text utf8 = record { done = []; utf8 = utf8; whole = refl; counted = refl; line = refl }
 
--- at its end
+-- at the end of the text, the line that is reached is the last one
 pub at_end : (text front rest : List ℕ) (number : ℕ) → IsAt text front rest number → length rest ≡ 0
     → (number ≡ last_number (chars text)) × (chars front ≡ last_line (chars text))
 at_end text front rest number at none =
@@ -81,7 +81,7 @@ at_end text front rest number at none =
       at.line ∙ (ap (λ l. last_line at.done ++ l) nil ∙ (append-nil (last_line at.done) ∙ ap last_line (sym whole))),
     )
 
--- lines are no more than bytes
+-- a text has no more lines than bytes, if a character is left
 pub few_lines : (text front rest more : List ℕ) (number c : ℕ) → IsAt text front rest number → IsUtf8 text
     → rest ≡ encode_utf8 c ++ more → number ≤ length text
 few_lines text front rest more number c at utf8 split =
@@ -95,7 +95,7 @@ few_lines text front rest more number c at utf8 split =
       length-append at.done (c ∷ chars more),
     )
 
--- so much of a text's first line is read
+-- the part of the text's first line before `rest` is read
 pub record IsWithin (text left rest : List ℕ) : Type 0 where
   pub done : List ℕ
   pub utf8 : IsUtf8 rest
@@ -124,7 +124,7 @@ within_one text left rest more c at split goes =
     goes_on c more goes =
         take_while-cons (λ d. not (ends_line d)) c more ∙ ap (λ b. cond (not b) (c ∷ first_line more) []) goes
 
--- where the line ends
+-- the first line ends before LF or CR
 pub within_stop : (text left rest more : List ℕ) (c : ℕ) → IsWithin text left rest
     → rest ≡ encode_utf8 c ++ more → ends_line c ≡ true
     → (front : List ℕ) × (chars text ≡ front ++ chars left) × (first_line (chars text) ≡ front)
@@ -146,6 +146,6 @@ within_end text left rest at none =
     let nil : chars rest ≡ [] = ap chars (nil_from_length rest none) ∙ chars-nil in
     at.whole ∙ (ap (λ l. at.done ++ l) nil ∙ sym (at.line ∙ ap (λ l. at.done ++ first_line l) nil))
 
--- neither of the two that end a line
+-- a character that is neither LF nor CR ends no line
 pub goes_past : (c : ℕ) → (c == 10) ≡ false → (c == 13) ≡ false → ends_line c ≡ false
 goes_past c feed return = ap (λ b. b || (c == 13)) feed ∙ return

@@ -1,4 +1,4 @@
--- What is told, one finding after the other.
+-- Findings that are written one after the other.
 use Rattle.std.proofs.Common.{◌≡◌, ◌∙◌, ◌+◌, ◌<◌, ◌≤◌, ◌||◌, ◌++◌, ℕ, Bool, true, false, List, [], ◌∷◌, Option}
 use Rattle.std.proofs.Common.{refl, sym, ap, subst, arith, encode_utf8, append_assoc, append-nil}
 use Rattle.std.proofs.Common.{length, length-append, ◌^◌, ◌==◌, if◌then◌else◌}
@@ -33,12 +33,12 @@ or_true : (b : Bool) → true ≡ (b || true)
 or_true true = refl
 or_true false = refl
 
--- nothing is told
+-- no finding writes nothing
 pub tells_none : (form : Form) (path : List ℕ) (old : Option (List ℕ)) (before : Bool)
     → Tells form path [] old old before before
 tells_none form path old before = record { bytes = Appends-nil old; any = or_false before }
 
--- one finding is
+-- one finding is written as its line
 pub tells_one : (form : Form) (path : List ℕ) (x : Found) (old new : Option (List ℕ)) (before : Bool)
     → Appends old new (line_message form path x) → Tells form path (x ∷ []) old new before true
 tells_one form path x old new before said = record {
@@ -46,13 +46,13 @@ tells_one form path x old new before said = record {
   any = or_true before;
 }
 
--- these are
+-- the findings may be replaced by equal ones
 pub tells_same : (form : Form) (path : List ℕ) (xs ys : List Found) (old new : Option (List ℕ)) (before after : Bool)
     → xs ≡ ys → Tells form path xs old new before after → Tells form path ys old new before after
 tells_same form path xs ys old new before after same told =
     subst (λ l. Tells form path l old new before after) same told
 
--- and then more
+-- more findings are written after the first ones
 pub tells_more : (form : Form) (path : List ℕ) (xs ys : List Found) (old between new : Option (List ℕ))
     (before so_far after : Bool) → Tells form path xs old between before so_far
     → Tells form path ys between new so_far after
@@ -62,7 +62,7 @@ tells_more form path xs ys old between new before so_far after first later = rec
   any = later.any ∙ (ap (λ b. b || is_any ys) first.any ∙ any_append before xs ys);
 }
 
--- so much of a text is read, up to a place, and what was found in that is told
+-- the part of the text before `rest` is read, and what was found in it is written
 pub record IsAlong {S : Type 0} (found : S → Place → ℕ → List ℕ → List Found) (next : S → ℕ → List ℕ → S) (form : Form)
     (path text rest : List ℕ) (start known : S) (origin place : Place) (first old : Option (List ℕ))
     (before after : Bool)
@@ -75,7 +75,7 @@ pub record IsAlong {S : Type 0} (found : S → Place → ℕ → List ℕ → Li
   pub told : Tells form path done first old before after
   pub all : done ++ found_along found next known place (chars rest) ≡ found_along found next start origin (chars text)
 
--- nothing is read
+-- before the first character nothing is found
 pub along_start : {S : Type 0} (found : S → Place → ℕ → List ℕ → List Found) (next : S → ℕ → List ℕ → S) (form : Form)
     (path text rest : List ℕ) (start known : S) (origin place : Place) (old : Option (List ℕ)) (before : Bool)
     → rest ≡ text → known ≡ start → place ≡ origin → IsUtf8 text → IsWithin origin
@@ -104,7 +104,7 @@ within_after place c within = (let both = by_feed (c == 10) in record { line = b
 pub within_front : IsWithin front
 within_front = record { line = omega arith; column = omega arith }
 
--- a character more
+-- one more character keeps the invariant
 pub along_one : {S : Type 0} (found : S → Place → ℕ → List ℕ → List Found) (next : S → ℕ → List ℕ → S) (form : Form)
     (path text rest more : List ℕ) (start known knows : S) (origin place at : Place) (first old new : Option (List ℕ))
     (before so_far after : Bool) (c : ℕ)
@@ -128,7 +128,7 @@ along_one found next form path text rest more start known knows origin place at 
           ∙ (ap (λ l. so.done ++ found_along found next known place l) (sym step) ∙ so.all);
     })
 
--- all of it
+-- after the last character everything found is written
 pub along_end : {S : Type 0} (found : S → Place → ℕ → List ℕ → List Found) (next : S → ℕ → List ℕ → S) (form : Form)
     (path text rest : List ℕ) (start known : S) (origin place : Place) (first old : Option (List ℕ))
     (before after : Bool)
@@ -143,7 +143,7 @@ along_end found next form path text rest start known origin place first old befo
       (ap (places_after place) (sym nil) ∙ so.last, omega (arith, so.bytes, none)),
     )
 
--- a character of a text that has few enough bytes
+-- a position in a text that is not too long can be counted on
 pub room_for : {S : Type 0} (found : S → Place → ℕ → List ℕ → List Found) (next : S → ℕ → List ℕ → S) (form : Form)
     (path text rest more : List ℕ) (start known : S) (origin place : Place) (first old : Option (List ℕ))
     (before after : Bool) (c : ℕ)

@@ -1,4 +1,4 @@
--- The controls of a line's direction, one after the other.
+-- The controls of direction on a line, character by character.
 use Rattle.std.proofs.Common.{◌≡◌, ◌∙◌, ◌++◌, ◌==◌, ℕ, Bool, true, false, not, List, [], ◌∷◌, Some, None}
 use Rattle.std.proofs.Common.{refl, sym, ap, encode_utf8, length, reverse, arith, ne_eqb}
 use Rattle.std.specs.Prelude.{cond, if◌then◌else◌}
@@ -9,7 +9,7 @@ use Rattle.std.proofs.lemmas.Str.{chars-nil, chars_past_char, IsUtf8-past_char}
 use Rattle.pm_span.specs.CharOffset.{is_line_feed}
 use Rattle.rust_check.specs.Turns.{all_open, closes_all, fed_line, is_balanced, open_after}
 
--- so much of the line is read, and these are open
+-- the part of the line before `rest` is read, and `opened` has the parts that are open
 pub record IsTurned (text rest : List ℕ) (opened : List Bool) : Type 0 where
   pub utf8 : IsUtf8 rest
   pub all : all_open (Some (reverse opened)) (fed_line (chars rest)) ≡ all_open (Some []) (fed_line (chars text))
@@ -38,7 +38,7 @@ read_one text rest more opened c so split goes =
     (sym (ap fed_line (chars_past_char rest more c so.utf8 split) ∙ line_on c (chars more) goes))
     ∙ so.all
 
--- a character that leaves these open
+-- a character that is in balance keeps the invariant
 pub turned_one : (text rest more : List ℕ) (opened next : List Bool) (is : Bool) (c : ℕ) → IsTurned text rest opened
     → rest ≡ encode_utf8 c ++ more → (c == 10) ≡ false
     → open_after (Some (reverse opened)) c ≡ (if is then Some (reverse next) else None) → is ≡ true
@@ -50,7 +50,7 @@ turned_one text rest more opened next is c so split goes turns goes_well = recor
       ∙ read_one text rest more opened c so split goes;
 }
 
--- one that closes what isn't open
+-- a line with a character that is not in balance is not balanced
 pub turned_wrong : (text rest more : List ℕ) (opened next : List Bool) (is : Bool) (c : ℕ) → IsTurned text rest opened
     → rest ≡ encode_utf8 c ++ more → (c == 10) ≡ false
     → open_after (Some (reverse opened)) c ≡ (if is then Some (reverse next) else None) → is ≡ false
@@ -61,7 +61,7 @@ turned_wrong text rest more opened next is c so split goes turns goes_wrong =
     (sym (turns ∙ ap (λ b. if b then Some (reverse next) else None) goes_wrong))
     ∙ read_one text rest more opened c so split goes))
 
--- where the line ends
+-- at LF the line is balanced exactly if nothing is open
 pub turned_stop : (text rest more : List ℕ) (opened : List Bool) (c : ℕ) → IsTurned text rest opened
     → rest ≡ encode_utf8 c ++ more → (c == 10) ≡ true → closes_all (Some (reverse opened)) ≡ is_balanced (chars text)
 turned_stop text rest more opened c so split ends =
@@ -74,7 +74,7 @@ turned_end text rest opened so none =
     let nil : chars rest ≡ [] = ap chars (nil_from_length rest none) ∙ chars-nil in
     ap closes_all (ap (λ l. all_open (Some (reverse opened)) (fed_line l)) (sym nil) ∙ so.all)
 
--- nothing is open where the list has no item
+-- nothing is open exactly if the list has no items
 pub closes_items : (items : List Bool) → (length items == 0) ≡ closes_all (Some (reverse items))
 closes_items [] = refl
 closes_items (x ∷ items) =

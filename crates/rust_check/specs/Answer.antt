@@ -26,7 +26,7 @@ use Rattle.rust_check.specs.declared.options.Form.TheVariants.{Short, Long, Colo
 abbrev pub first : ℕ
 first = next_lo new_map
 
--- so it is found where these characters of the text stand before it and these from it on
+-- a finding whose text is the first `size` characters of `rest`, where `before` precedes `rest`
 abbrev pub found_between : List ℕ → List ℕ → List ℕ → List ℕ → ℕ → Found
 found_between name says before rest size = record {
   name = name;
@@ -39,23 +39,23 @@ found_between name says before rest size = record {
   rest = rest;
 }
 
--- where the span from one position to another says
+-- a finding for the characters from position `lo` up to position `hi`
 abbrev pub found_at : List ℕ → List ℕ → List ℕ → ℕ → ℕ → Found
 found_at name says text lo hi =
     found_between name says (take (lo - first) text) (drop (lo - first) text) (hi - lo)
 
--- the text's fault
+-- the finding for the text's error
 abbrev pub fault : List ℕ → Explained → Found
 fault text x = found_at (name_of x.reason) (sentence_of x.reason) text x.at.span.lo x.at.span.hi
 
--- what stands where the span says, below the fault
+-- a note with the part of the source that it is about
 abbrev pub noted : Codes → List ℕ → List ℕ → Found → List ℕ
 noted k path says x = k.strong ++ (codes "note" ++ (k.off ++ (codes ": " ++ (says ++ codes "\n")))) ++ excerpt k path x
 
 abbrev pub noted_at : Codes → List ℕ → List ℕ → List ℕ → Stretch → List ℕ
 noted_at k path says text at = noted k path says (found_at [] [] text at.span.lo at.span.hi)
 
--- the opener that waits for another closer than the one that stands there
+-- the note that shows the opener that waits for another closer
 abbrev pub waiting_note : Codes → List ℕ → List ℕ → Option Opener → List ℕ
 waiting_note k path text None = []
 waiting_note k path text (Some opener) = noted_at k path (codes "this opener waits") text opener.at
@@ -64,14 +64,14 @@ abbrev pub note_of : Reason → Codes → List ℕ → List ℕ → Option Opene
 note_of MismatchedCloser k path text innermost = waiting_note k path text innermost
 note_of _ k path text innermost = []
 
--- how many comments are open, if that is more than one
+-- the note that says how many comments are open, if there is more than one
 abbrev pub depth_note : Codes → ℕ → List ℕ
 depth_note k depth =
     if nat_le depth 1 then []
     else k.strong ++ (codes "note" ++ (k.off ++ (codes ": comments that are open at the end of the text: "
     ++ (decimal depth ++ codes "\n"))))
 
--- the comment that ended last
+-- the note that shows the comment that ended last
 abbrev pub closed_note : Codes → List ℕ → List ℕ → Option Stretch → List ℕ
 closed_note k path text None = []
 closed_note k path text (Some at) = noted_at k path (codes "the comment in it that ended last") text at
@@ -85,26 +85,28 @@ hint_note k path text (Some (Quote at)) =
 abbrev pub notes : Codes → List ℕ → List ℕ → Explained → Option Hint → List ℕ
 notes k path text x hint = note_of x.reason k path text x.innermost ++ hint_note k path text hint
 
--- what is written below the fault
+-- the notes below the error
 abbrev pub note : Form → List ℕ → List ℕ → Explained → Option Hint → List ℕ
 note Long path text x hint = notes plain path text x hint
 note Coloured path text x hint = notes terminal path text x hint
 note Short path text x hint = []
 note Json path text x hint = []
 
--- what is said of it, and nothing of a text that parses
+-- the message about the error and the notes below it; nothing for a text that parses
 abbrev pub said : Form → List ℕ → List ℕ → Option Explained → Option Hint → List ℕ
 said form path text None hint = []
 said form path text (Some x) hint = message form path (fault text x) ++ note form path text x hint
 
--- the text is explained, with what helps besides, and whether it has a fault is answered, of which all is written
+-- the text is explained, with a hint if there is one; all of that is written, and the result is whether the text has an
+-- error
 abbrev pub Tells : Form → List ℕ → List ℕ → Option (List ℕ) → Option (List ℕ) → Bool → Type 0
 Tells form path text old new faulty =
     (answer : Option Explained) × (hint : Option Hint)
     × MatchOption answer (Parses first text) (λ x. IsExplained first text x × IsHint first text x hint)
     × (faulty ≡ is_some answer) × Appends old new (said form path text answer hint)
 
--- what is found in the text: its fault, and then its hidden characters, where they are asked for
+-- the text's error is written, and then its hidden characters if `hidden` is true; the result is whether anything was
+-- found
 abbrev pub TellsAll : Form → Bool → List ℕ → List ℕ → Option (List ℕ) → Option (List ℕ) → Bool → Type 0
 TellsAll form false path text old new found = Tells form path text old new found
 TellsAll form true path text old new found =

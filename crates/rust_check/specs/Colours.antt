@@ -2,7 +2,8 @@
 use Rattle.std.specs.Prelude.{ℕ, List, [], ◌∷◌, codes}
 use Rattle.rust_check.specs.declared.colours.Colours.{Colours}
 
--- what is written before a fault, what is said of it and what is no part of the source, and after each of these
+-- what is written before something wrong, before the words about it and before what surrounds the source, and after
+-- each of them
 pub record Codes : Type 0 where
   pub fault : List ℕ
   pub strong : List ℕ
@@ -12,7 +13,7 @@ pub record Codes : Type 0 where
 abbrev pub plain : Codes
 plain = record { fault = []; strong = []; line = []; off = [] }
 
--- red, bold and blue; 27 is ESC
+-- red, bold and blue, where 27 is ESC
 abbrev pub terminal : Codes
 terminal = record {
   fault = 27 ∷ codes "[1;31m";
@@ -21,7 +22,7 @@ terminal = record {
   off = 27 ∷ codes "[0m";
 }
 
--- them in the program
+-- the sequences of the program's record
 abbrev pub codes_of : Colours → Codes
 codes_of colours = record {
   fault = colours.fault.now;

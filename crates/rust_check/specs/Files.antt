@@ -7,11 +7,11 @@ use Rattle.rust_check.specs.Answer.{TellsAll}
 use Rattle.rust_check.specs.declared.options.Form.{Form}
 use Rattle.rust_check.specs.declared.tally.Tally.{Tally}
 
--- how the check of a file ended: whether its text has a fault, or why it was not read
+-- how the check of a file ended: whether its text has an error, or why it was not read
 abbrev pub Outcome : Type 0
 Outcome = Result Bool Failure
 
--- these files are checked one after the other, with these outcomes: of each that was read all is written
+-- the files are checked in order and have these outcomes; for each file that was read, everything found is written
 abbrev pub AllTold : Form → Bool → List (List ℕ) → List Outcome → Option (List ℕ) → Option (List ℕ) → Type 0
 AllTold form hidden [] [] old new = old ≡ new
 AllTold form hidden [] (outcome ∷ outcomes) old new = ⊥
@@ -22,7 +22,7 @@ AllTold form hidden (path ∷ paths) (Ok faulty ∷ outcomes) old new =
 AllTold form hidden (path ∷ paths) (Err failure ∷ outcomes) old new =
     (between : Option (List ℕ)) × AllTold form hidden paths outcomes between new
 
--- one outcome more
+-- the counts with one more outcome
 abbrev pub counted : Tally → Outcome → Tally
 counted tally (Ok true) = record { faulty = tally.faulty + 1; unread = tally.unread }
 counted tally (Ok false) = tally
@@ -35,11 +35,11 @@ all_counted tally (outcome ∷ outcomes) = all_counted (counted tally outcome) o
 abbrev pub nothing : Tally
 nothing = record { faulty = 0; unread = 0 }
 
--- 2 where a file was not read, else 1 where a text has a fault, and else 0
+-- the exit status: 2 if a file was not read, else 1 if a text has an error, else 0
 abbrev pub status_of : Tally → ℕ
 status_of tally = if tally.unread == 0 then (if tally.faulty == 0 then 0 else 1) else 2
 
--- the line below the messages of so many files
+-- the line below the messages of `files` files
 abbrev pub summary : ℕ → Tally → List ℕ
 summary files tally =
     decimal files ++ (codes " files, " ++ (decimal tally.faulty ++ (codes " with a fault, "

@@ -1,4 +1,4 @@
--- The characters that nobody sees, or that change how what stands around them is seen.
+-- Characters that a reader doesn't see, or that change how the text around them looks.
 use Rattle.std.specs.Prelude.{ℕ, Bool, true, false, not, ◌&&◌, ◌||◌, ◌==◌, Option, Some, None, nat_lt}
 use Rattle.std.specs.Prelude.{if◌then◌else◌}
 use Rattle.ucd_category.specs.GeneralCategory.{general_category}
@@ -9,17 +9,18 @@ use Rattle.ucd_props.specs.Binary.{is_bidi_control, is_join_control, is_variatio
 use Rattle.rust_check.specs.declared.hidden.Hidden.{Hidden}
 use Rattle.rust_check.specs.declared.hidden.Hidden.TheVariants.{Direction, Joiner, Invisible, Control, White}
 
--- of ASCII each control but tab (9), line feed (10) and CR (13)
+-- how an ASCII character hides something: each control does, except tab (9), LF (10) and CR (13)
 abbrev pub ascii_hides_as : ℕ → Option Hidden
 ascii_hides_as c =
     if (c == 9) || (c == 10) || (c == 13) then None else (if nat_lt c 32 || (c == 127) then Some Control else None)
 
--- the category of the controls
+-- whether it is the category of the controls
 abbrev pub is_control : GeneralCategory → Bool
 is_control categories.Control = true
 is_control _ = false
 
--- past ASCII, by the properties of Unicode; a variation selector shows on the character before it
+-- how a character past ASCII hides something, by the properties of Unicode; a variation selector shows on the character
+-- before it, so it hides nothing
 abbrev pub other_hides_as : ℕ → Option Hidden
 other_hides_as c =
     if is_bidi_control c then Some Direction
@@ -31,7 +32,7 @@ other_hides_as c =
 abbrev pub hides_as : ℕ → Option Hidden
 hides_as c = if nat_lt c 128 then ascii_hides_as c else other_hides_as c
 
--- hides something, and isn't white space
+-- whether a character hides something in another way than as white space
 abbrev pub is_unseen : Option Hidden → Bool
 is_unseen None = false
 is_unseen (Some White) = false

@@ -1,4 +1,4 @@
--- What is odd at the ends of lines.
+-- What is odd about the line ends of a text.
 use Rattle.std.specs.Prelude.{ℕ, Bool, false, not, ◌&&◌, ◌==◌, List, [], ◌∷◌, codes}
 use Rattle.std.specs.Prelude.{if◌then◌else◌}
 use Rattle.rust_check.specs.Message.{Found}
@@ -8,7 +8,7 @@ use Rattle.rust_check.specs.declared.ends.Style.{Style}
 use Rattle.rust_check.specs.declared.ends.Style.TheVariants.{Unknown, Feed, Return, Mixed}
 use Rattle.rust_check.specs.declared.finding.Place.{Place}
 
--- a line feed here ends its line unlike those before it, which are alike
+-- whether a line that ends with LF here ends differently from the lines before it, which all end alike
 abbrev pub is_unlike : Style → Bool → Bool
 is_unlike Unknown after_return = false
 is_unlike Feed after_return = after_return
@@ -18,7 +18,7 @@ is_unlike Mixed after_return = false
 abbrev pub is_other : LineEnds → Bool
 is_other ends = is_unlike ends.style ends.after_return
 
--- how lines end, the one that ends at this line feed too
+-- how lines end once LF is read here
 abbrev pub with_end : Style → Bool → Style
 with_end Unknown after_return = if after_return then Return else Feed
 with_end Feed after_return = if after_return then Mixed else Feed
@@ -28,7 +28,7 @@ with_end Mixed after_return = Mixed
 abbrev pub joined : LineEnds → Style
 joined ends = with_end ends.style ends.after_return
 
--- line feed is 10, and CR 13
+-- what is known about the line ends after the character, where LF is 10 and CR is 13
 abbrev pub ends_after : LineEnds → ℕ → LineEnds
 ends_after ends c = record {
   style = if c == 10 then joined ends else ends.style;
@@ -51,7 +51,8 @@ odd name says here place = record {
   rest = [];
 }
 
--- the character at this place: CR that no line feed follows, and a line feed that ends its line unlike those before it
+-- what is odd at this character: CR before anything but LF, or LF that ends its line differently from the lines before
+-- it
 abbrev pub found_at_end : LineEnds → Place → ℕ → List ℕ → List Found
 found_at_end ends place c rest =
     if (c == 13) && not (begins_feed rest)
@@ -60,7 +61,7 @@ found_at_end ends place c rest =
     then odd (codes "mixed-line-ends") (codes "a line that ends unlike those before it") (10 ∷ []) place ∷ []
     else [])
 
--- the text, which begins at this place
+-- what is odd about the line ends of a text that begins at this place
 abbrev pub found_in_ends : Place → List ℕ → List Found
 found_in_ends place text =
     found_along found_at_end (λ ends c rest. ends_after ends c) (record { style = Unknown; after_return = false }) place

@@ -1,4 +1,4 @@
--- What is written of a finding: what it is named, what it says, and where it stands.
+-- What is written for a finding: its name, what it is, and where it is.
 use Rattle.std.specs.Prelude.{ℕ, ◌+◌, ◌-◌, ◌==◌, List, [], ◌∷◌, ◌++◌, codes, decimal, encode_utf8, length, nat_lt}
 use Rattle.std.specs.Prelude.{if◌then◌else◌}
 use Rattle.std.specs.Str.{chars, encode_utf8_all}
@@ -11,8 +11,9 @@ use Rattle.rust_check.specs.declared.finding.Finding.{Finding}
 use Rattle.rust_check.specs.declared.options.Form.{Form}
 use Rattle.rust_check.specs.declared.options.Form.TheVariants.{Short, Long, Coloured, Json}
 
--- its name and what it says, and where it stands: its line, from 1, how many characters stand before it on that, and
--- how many bytes before it in the text; and the characters before it on its line, those of it, and those from it on
+-- the name of a finding, what it is, and where: its line, counted from 1, the number of characters before it on that
+-- line, and the number of bytes before it in the text; then the characters before it on its line, its own, and all from
+-- its first on
 pub record Found : Type 0 where
   pub name : List ℕ
   pub says : List ℕ
@@ -23,7 +24,7 @@ pub record Found : Type 0 where
   pub here : List ℕ
   pub rest : List ℕ
 
--- it in the program
+-- the finding of the program's record
 abbrev pub seen : Finding → Found
 seen x = record {
   name = x.name.now;
@@ -36,11 +37,11 @@ seen x = record {
   rest = chars x.rest.now;
 }
 
--- so many bytes of the text stand before its end
+-- the number of bytes before the end of the finding
 abbrev pub end_of : Found → ℕ
 end_of x = x.begin + length (encode_utf8_all x.here)
 
--- `FILE:L:C: error: what`
+-- the short form, `FILE:L:C: error: what`
 abbrev pub short : List ℕ → Found → List ℕ
 short path x =
     path ++ (codes ":" ++ (decimal x.line ++ (codes ":" ++ (decimal (x.column + 1) ++ (codes ": error: "
@@ -50,15 +51,15 @@ short path x =
 abbrev pub source_line : Found → List ℕ
 source_line x = each shown x.front ++ each shown (first_line x.rest)
 
--- the carets below it
+-- the carets below the line of the source
 abbrev pub underline : Found → List ℕ
 underline x = filled (codes " ") x.front ++ carets (first_line x.here)
 
--- the space that the number of the line takes
+-- spaces for the width of the line number
 abbrev pub gutter : Found → List ℕ
 gutter x = times (length (decimal x.line)) (codes " ")
 
--- where it stands, with its line of the source and carets below
+-- where the finding is, its line of the source, and carets below that
 abbrev pub excerpt : Codes → List ℕ → Found → List ℕ
 excerpt k path x =
     gutter x ++ (k.line ++ (codes "-->" ++ (k.off ++ (codes " " ++ (path ++ (codes ":" ++ (decimal x.line
@@ -67,7 +68,7 @@ excerpt k path x =
     ++ (codes "\n" ++ (k.line ++ (gutter x ++ (codes " |" ++ (k.off ++ (codes " " ++ (k.fault ++ (underline x
     ++ (k.off ++ codes "\n"))))))))))))))))))))))))))))))
 
--- what is wrong, and where
+-- the line that says what is wrong
 abbrev pub headline : Codes → Found → List ℕ
 headline k x =
     k.fault ++ (codes "error[" ++ (x.name ++ (codes "]" ++ (k.off ++ (k.strong ++ (codes ": " ++ (x.says
@@ -76,12 +77,13 @@ headline k x =
 abbrev pub long : Codes → List ℕ → Found → List ℕ
 long k path x = headline k x ++ excerpt k path x
 
--- an object of JSON on a line: the file and what is wrong, and then where
+-- the first part of the JSON object: the file and what is wrong
 abbrev pub json_what : List ℕ → Found → List ℕ
 json_what path x =
     codes "{\"file\":\"" ++ (escaped path ++ (codes "\",\"reason\":\"" ++ (x.name ++ (codes "\",\"message\":\""
     ++ (escaped x.says ++ codes "\",")))))
 
+-- the second part of the JSON object: where the finding is
 abbrev pub json_where : Found → List ℕ
 json_where x =
     codes "\"line\":" ++ (decimal x.line ++ (codes ",\"column\":" ++ (decimal (x.column + 1)
@@ -90,7 +92,7 @@ json_where x =
 abbrev pub json : List ℕ → Found → List ℕ
 json path x = json_what path x ++ json_where x
 
--- on one line, whichever it is
+-- a finding on one line: as JSON if that is the form, else in the short form
 abbrev pub line_message : Form → List ℕ → Found → List ℕ
 line_message Json path x = json path x
 line_message _ path x = short path x

@@ -18,11 +18,11 @@ use Rattle.rust_check.specs.declared.names.Writing.TheVariants.{Open, Han, Japan
 abbrev pub is_same : Script → Script → Bool
 is_same a b = script_number a == script_number b
 
--- Han is written with Hangul and with Bopomofo
+-- whether the script is written together with Han: Hangul and Bopomofo are
 abbrev pub is_with_han : Script → Bool
 is_with_han s = is_same s scripts.Hangul || is_same s scripts.Bopomofo
 
--- with a character of Han
+-- the scripts with one more character, of Han
 abbrev pub with_han : Writing → Writing
 with_han Open = Han
 with_han Han = Han
@@ -30,7 +30,7 @@ with_han Japanese = Japanese
 with_han (One s) = if is_with_han s then One s else Mixed
 with_han Mixed = Mixed
 
--- with one of Hiragana or Katakana
+-- the scripts with one more character, of Hiragana or Katakana
 abbrev pub with_kana : Writing → Writing
 with_kana Open = Japanese
 with_kana Han = Japanese
@@ -38,7 +38,7 @@ with_kana Japanese = Japanese
 with_kana (One s) = Mixed
 with_kana Mixed = Mixed
 
--- with one of another script
+-- the scripts with one more character, of any other script
 abbrev pub with_other : Writing → Script → Writing
 with_other Open s = One s
 with_other Han s = if is_with_han s then One s else Mixed
@@ -46,7 +46,7 @@ with_other Japanese s = Mixed
 with_other (One before) s = if is_same before s then One before else Mixed
 with_other Mixed s = Mixed
 
--- a character of all scripts says nothing
+-- the scripts with one more character; a character that all scripts share changes nothing
 abbrev pub written_with : Writing → Script → Writing
 written_with writing s =
     if is_same s scripts.Common || is_same s scripts.Inherited || is_same s scripts.Unknown then writing
@@ -61,11 +61,11 @@ abbrev pub are_apart : Writing → Bool
 are_apart Mixed = true
 are_apart _ = false
 
--- some of its characters are of scripts that are not written together
+-- whether the name has characters of scripts that are not written together
 abbrev pub is_mixed : List ℕ → Bool
 is_mixed name = are_apart (all_written Open name)
 
--- a name whose piece has this text and begins at this place; these names stand before it, the last first
+-- what is odd about a name whose piece has this text and begins at this place; `before` has the names before it
 abbrev pub found_in_name : Place → List (List ℕ) → List ℕ → List ℕ → List Found
 found_in_name place before name text =
     (if is_nfc name then []
@@ -78,7 +78,7 @@ found_in_name place before name text =
     place ∷ []
     else []))
 
--- a piece of this kind
+-- what is odd about a piece of this kind: only names can be odd
 abbrev pub found_by_kind : Place → List (List ℕ) → Kind → List ℕ → List Found
 found_by_kind place before (pieces.Leaf (tokens.Name raw name)) text = found_in_name place before name text
 found_by_kind place before (pieces.Leaf (tokens.Mark c joint)) text = []
@@ -89,7 +89,7 @@ found_by_kind place before (pieces.Doc inner words) text = []
 found_by_kind place before (pieces.Open c) text = []
 found_by_kind place before (pieces.Close c) text = []
 
--- the names after it
+-- the names after a piece, the last first
 abbrev pub names_after : List (List ℕ) → Kind → List (List ℕ)
 names_after before (pieces.Leaf (tokens.Name raw name)) = name ∷ before
 names_after before (pieces.Leaf (tokens.Mark c joint)) = before

@@ -1,4 +1,4 @@
--- What the words after the program's name ask for.
+-- What the words of the command line mean.
 use Rattle.std.specs.Prelude.{ℕ, Bool, true, false, not, ◌&&◌, ◌==◌, List, [], ◌∷◌, ◌++◌, codes, length, map, nat_eq}
 use Rattle.std.specs.Prelude.{slice_index, string_bytes, Option, Some, None}
 use Rattle.std.specs.Prelude.{if◌then◌else◌}
@@ -13,12 +13,12 @@ use Rattle.rust_check.specs.declared.options.Request.TheVariants as requests
 use Rattle.rust_check.specs.declared.options.Word.{Word}
 use Rattle.rust_check.specs.declared.options.Word.TheVariants as words
 
--- ---- a word
+-- ---- one word
 
 abbrev pub is_same : List ℕ → List ℕ → Bool
 is_same a b = pointwise nat_eq a b
 
--- one that begins with `-` (45), but not `-` alone, is an option
+-- a word that is no known option: a path, or an unknown option if it begins with `-` (45) and is not `-` alone
 abbrev pub other_word : List ℕ → Word
 other_word word = if (slice_index word 0 == 45) && not (length word == 1) then words.Unknown else words.Path
 
@@ -32,27 +32,27 @@ word_of word =
     else (if is_same word (codes "--help") then words.Help
     else (if is_same word (codes "--version") then words.Version else other_word word))))))
 
--- ---- what is asked for
+-- ---- the whole command line
 
--- how a finding is written but for colours, whether colours are wanted, whether hidden text is told, and the paths
+-- the form of a finding without colours, whether colours are on, whether hidden text is reported, and the paths
 pub record Wishes : Type 0 where
   pub form : Form
   pub coloured : Bool
   pub hidden : Bool
   pub paths : List (List ℕ)
 
--- to check files, or a text about the program; or nothing that is known
+-- files are to be checked, or a text about the program is to be written, or the command line is wrong
 pub data Asked : Type 0 where
   Checks : Wishes → Asked
   Helps : Asked
   Versions : Asked
   Misused : Asked
 
--- before any word
+-- the options of an empty command line
 abbrev pub no_wish : Wishes
 no_wish = record { form = Long; coloured = false; hidden = false; paths = [] }
 
--- with a word more, of which this is what it says
+-- the options with one more word, which means `Word`
 abbrev pub with_word : Word → List ℕ → Wishes → Wishes
 with_word words.Short word w = record { form = Short; coloured = w.coloured; hidden = w.hidden; paths = w.paths }
 with_word words.Json word w = record { form = Json; coloured = w.coloured; hidden = w.hidden; paths = w.paths }
@@ -64,7 +64,7 @@ with_word words.Unknown word w = w
 with_word words.Path word w =
     record { form = w.form; coloured = w.coloured; hidden = w.hidden; paths = w.paths ++ (word ∷ []) }
 
--- standard input is read where no file is named
+-- the paths, or standard input if there are none
 abbrev pub or_dash : List (List ℕ) → List (List ℕ)
 or_dash [] = codes "-" ∷ []
 or_dash (path ∷ paths) = path ∷ paths
@@ -72,7 +72,7 @@ or_dash (path ∷ paths) = path ∷ paths
 abbrev pub or_input : Wishes → Wishes
 or_input w = record { form = w.form; coloured = w.coloured; hidden = w.hidden; paths = or_dash w.paths }
 
--- the first word that asks for a text, or that says nothing, decides
+-- the first word that demands a text or is an unknown option decides; the other words do not
 abbrev pub unless_decided : Word → Asked → Asked
 unless_decided words.Short next = next
 unless_decided words.Json next = next
@@ -83,12 +83,12 @@ unless_decided words.Version next = Versions
 unless_decided words.Unknown next = Misused
 unless_decided words.Path next = next
 
--- what the words that are left ask for
+-- what the words that are left mean, after the options so far
 abbrev pub asks : Wishes → List (List ℕ) → Asked
 asks w [] = Checks (or_input w)
 asks w (word ∷ more) = unless_decided (word_of word) (asks (with_word (word_of word) word w) more)
 
--- ---- it in the program
+-- ---- the program's records
 
 abbrev pub wishes_of : Options → Wishes
 wishes_of options = record {
@@ -103,12 +103,12 @@ meant (requests.Check options) = Checks (wishes_of options)
 meant requests.Help = Helps
 meant requests.Version = Versions
 
--- how the program is called, where that is said
+-- the usage line of an error, if it has one
 abbrev pub usage_of : Failure → Option (List ℕ)
 usage_of (Usage text) = Some text.now
 usage_of _ = None
 
--- colours are for the long form alone
+-- the form with colours, which only the long form has
 abbrev pub in_colours : Form → Bool → Form
 in_colours Long true = Coloured
 in_colours Long false = Long

@@ -1,30 +1,30 @@
--- A place of a text, on its line.
+-- Positions in a text, and its lines.
 use Rattle.std.specs.Prelude.{ℕ, Bool, not, ◌||◌, ◌==◌, ◌+◌, List, [], ◌∷◌, count_by, encode_utf8, length}
 use Rattle.std.specs.Prelude.{if◌then◌else◌, reverse, take_while}
 use Rattle.pm_span.specs.CharOffset.{is_line_feed}
 use Rattle.rust_check.specs.declared.finding.Place.{Place}
 
--- the line on which a text ends, from 1
+-- the number of the line on which a text ends, counted from 1
 abbrev pub last_number : List ℕ → ℕ
 last_number text = 1 + count_by is_line_feed text
 
--- what stands on it: all after the last line feed
+-- the last line of a text: all after the last LF
 abbrev pub last_line : List ℕ → List ℕ
 last_line text = reverse (take_while (λ c. not (is_line_feed c)) (reverse text))
 
--- whether a line ends here: at a line feed, or at CR
+-- whether the character ends a line of the source: LF and CR do
 abbrev pub ends_line : ℕ → Bool
 ends_line c = is_line_feed c || (c == 13)
 
--- what stands on a text's first line
+-- the first line of a text, which ends before the first LF or CR
 abbrev pub first_line : List ℕ → List ℕ
 first_line text = take_while (λ c. not (ends_line c)) text
 
--- the place at the front of a text
+-- the position at which a text begins
 abbrev pub front : Place
 front = record { line = 1; column = 0; begin = 0 }
 
--- the place after one character more
+-- the position after one more character
 abbrev pub place_after : Place → ℕ → Place
 place_after place c = record {
   line = if c == 10 then place.line + 1 else place.line;
@@ -32,7 +32,7 @@ place_after place c = record {
   begin = place.begin + length (encode_utf8 c);
 }
 
--- the place after the text
+-- the position after the text
 abbrev pub places_after : Place → List ℕ → Place
 places_after place [] = place
 places_after place (c ∷ text) = places_after (place_after place c) text

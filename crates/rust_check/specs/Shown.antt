@@ -1,16 +1,16 @@
--- How a line is shown on a terminal, and in which columns.
+-- How a line is shown on a terminal, and how many columns it takes.
 use Rattle.std.specs.Prelude.{ℕ, zero, suc, false, ◌==◌, ◌||◌, List, [], ◌∷◌, ◌++◌, Option, Some, None, codes}
 use Rattle.std.specs.Prelude.{encode_utf8, length, if◌then◌else◌}
 use Rattle.unicode_width.specs.Width.{char_width}
 use Rattle.messages.specs.Each.{each}
 use Rattle.rust_check.specs.Hidden.{is_hidden}
 
--- so many times the text
+-- the text `n` times
 abbrev pub times : ℕ → List ℕ → List ℕ
 times zero text = []
 times (suc n) text = text ++ times n text
 
--- a character: tab as four spaces, CR and what is hidden as U+FFFD
+-- a character as it is shown: a tab as four spaces, CR and hidden characters as U+FFFD
 abbrev pub shown : ℕ → List ℕ
 shown c =
     if c == 9 then codes "    " else (if (c == 13) || is_hidden c then encode_utf8 0xFFFD else encode_utf8 c)
@@ -19,14 +19,14 @@ abbrev pub or_none : Option ℕ → ℕ
 or_none (Some width) = width
 or_none None = 0
 
--- the columns that it takes
+-- the number of columns that a character takes as it is shown
 abbrev pub columns : ℕ → ℕ
 columns c = if c == 9 then 4 else (if (c == 13) || is_hidden c then 1 else or_none (char_width false c))
 
--- so much of this for each column of the text
+-- `fill` once for each column of the text
 abbrev pub filled : List ℕ → List ℕ → List ℕ
 filled fill text = each (λ c. times (columns c) fill) text
 
--- a caret below each column, and one at least
+-- a caret for each column of the text, but at least one
 abbrev pub carets : List ℕ → List ℕ
 carets text = if length (filled (codes "^") text) == 0 then codes "^" else filled (codes "^") text

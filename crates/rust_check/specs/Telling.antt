@@ -1,4 +1,4 @@
--- How findings are told, a line each.
+-- Findings that are written on one line each.
 use Rattle.std.specs.Prelude.{ℕ, ◌≡◌, ◌+◌, ◌≤◌, Bool, true, false, ◌||◌, List, [], ◌∷◌, ◌++◌, Option}
 use Rattle.std.specs.Io.KnownBytes.{Appends}
 use Rattle.rust_check.specs.Message.{Found, line_message}
@@ -6,7 +6,7 @@ use Rattle.rust_check.specs.Place.{place_after}
 use Rattle.rust_check.specs.declared.finding.Place.{Place}
 use Rattle.rust_check.specs.declared.options.Form.{Form}
 
--- a line of each
+-- one line for each finding
 abbrev pub lines_of : Form → List ℕ → List Found → List ℕ
 lines_of form path [] = []
 lines_of form path (x ∷ more) = line_message form path x ++ lines_of form path more
@@ -15,21 +15,21 @@ abbrev pub is_any : List Found → Bool
 is_any [] = false
 is_any (x ∷ more) = true
 
--- all of these are told, in order, and whether something was found so far is kept in mind
+-- all the findings are written, in order, and `after` says whether there was one before or is one now
 pub record Tells (form : Form) (path : List ℕ) (xs : List Found) (old new : Option (List ℕ)) (before after : Bool)
     : Type 0 where
   pub bytes : Appends old new (lines_of form path xs)
   pub any : after ≡ (before || is_any xs)
 
--- what is found at each character of a text that begins at this place: by what is known of the characters before it,
--- itself and what follows it
+-- what is found at the characters of a text that begins at this place, where each is judged by what is known from the
+-- characters before it, by itself and by what follows it
 abbrev pub found_along : {S : Type 0} → (S → Place → ℕ → List ℕ → List Found) → (S → ℕ → List ℕ → S) → S → Place
     → List ℕ → List Found
 found_along found next known place [] = []
 found_along found next known place (c ∷ rest) =
     found known place c rest ++ found_along found next (next known c rest) (place_after place c) rest
 
--- no more lines and columns than bytes
+-- a position has no more lines and columns before it than bytes
 pub record IsWithin (place : Place) : Type 0 where
   pub line : place.line ≤ place.begin + 1
   pub column : place.column ≤ place.begin

@@ -1,4 +1,4 @@
--- What is told of the hidden text of a source.
+-- What is reported about the hidden text of a source.
 use Rattle.std.specs.Prelude.{ℕ, Bool, true, false, ◌&&◌, ◌==◌, List, [], ◌∷◌, ◌++◌, Option}
 use Rattle.std.specs.Prelude.{Some, None, codes}
 use Rattle.std.specs.Prelude.{if◌then◌else◌}
@@ -19,7 +19,7 @@ use Rattle.rust_check.specs.declared.hidden.Hidden.{Hidden}
 use Rattle.rust_check.specs.declared.hidden.Hidden.TheVariants.{Direction, Joiner, Invisible, Control, White}
 use Rattle.rust_check.specs.declared.options.Form.{Form}
 
--- ---- a character
+-- ---- one character
 
 abbrev pub name_of_hidden : Bool → Hidden → List ℕ
 name_of_hidden true Direction = codes "direction-control"
@@ -37,7 +37,7 @@ says_of_hidden balanced Invisible = codes "a character that nobody sees"
 says_of_hidden balanced Control = codes "a control character"
 says_of_hidden balanced White = codes "white space that is no space, tab or line end"
 
--- the character at this place
+-- the finding for the hidden character at this place
 abbrev pub found_one : Bool → Place → Hidden → ℕ → Found
 found_one balanced place hidden c = record {
   name = name_of_hidden balanced hidden;
@@ -50,7 +50,7 @@ found_one balanced place hidden c = record {
   rest = [];
 }
 
--- nothing is said of white space in a literal, and of U+FEFF at the text's front
+-- whether a hidden character is not reported: white space in a literal, and U+FEFF at the start of the text
 abbrev pub is_spared : Bool → Place → ℕ → Hidden → Bool
 is_spared literal place c White = literal
 is_spared literal place c Invisible = (c == 0xFEFF) && (place.begin == 0)
@@ -63,30 +63,32 @@ found_hidden literal balanced place c None = []
 found_hidden literal balanced place c (Some hidden) =
     if is_spared literal place c hidden then [] else found_one balanced place hidden c ∷ []
 
--- the character at this place, in a literal or not, on a line where the controls of the direction are balanced or not
+-- what is found at a character; `literal` says whether it is in a literal, and `balanced` whether the controls of
+-- direction are balanced on its line
 abbrev pub found_at_character : Bool → Bool → Place → ℕ → List Found
 found_at_character literal balanced place c = found_hidden literal balanced place c (hides_as c)
 
--- ---- a piece
+-- ---- one piece
 
--- whether they are balanced on the line that goes on after this character
+-- whether the controls of direction are balanced on the line on which the text after this character begins
 abbrev pub balanced_after : Bool → ℕ → List ℕ → Bool
 balanced_after balanced c rest = if c == 10 then is_balanced rest else balanced
 
--- the characters of a piece that begins at this place; a piece's part of a line counts by itself
+-- what is found at the characters of a piece; controls of direction are balanced or not within the piece's part of a
+-- line
 abbrev pub found_in_piece : Bool → Place → List ℕ → List Found
 found_in_piece literal place text =
     found_along (λ balanced at c rest. found_at_character literal balanced at c) balanced_after (is_balanced text)
     place text
 
--- ---- all of it
+-- ---- the whole text
 
 abbrev pub is_literal : Kind → Bool
 is_literal (pieces.Leaf (tokens.Literal text)) = true
 is_literal _ = false
 
--- the pieces, of which the first begins at this place, and what follows them: what is odd about each that is a name,
--- and its characters; these names stand before them, the last first
+-- what is found in the pieces and in what follows the last: what is odd about each name, and its hidden characters;
+-- `before` has the names before the pieces, the last first
 abbrev pub found_in_pieces : Place → List (List ℕ) → List Piece → List ℕ → List Found
 found_in_pieces place before [] rest = found_in_piece false place rest
 found_in_pieces place before (piece ∷ more) rest =
@@ -94,12 +96,13 @@ found_in_pieces place before (piece ∷ more) rest =
     ++ (found_in_piece (is_literal piece.0) place piece.1
     ++ found_in_pieces (places_after place piece.1) (names_after before piece.0) more rest)
 
--- these pieces stand in the text one after the other, and none stands at the rest
+-- the text consists of these pieces and then of `rest`, at which no piece begins
 pub record ArePieces (all : List Piece) (text rest : List ℕ) : Type 0 where
   pub covers : CoversUpTo all text rest
   pub none : HasNoPiece (is_first all) rest
 
--- each hidden character of the text's pieces, and of what follows them, is told
+-- each hidden character and odd name in the text's pieces is written, and each hidden character of what follows the
+-- last piece
 pub record TellsPieces (form : Form) (path text : List ℕ) (old new : Option (List ℕ)) (before after : Bool)
     : Type 0 where
   pub all : List Piece
@@ -107,7 +110,7 @@ pub record TellsPieces (form : Form) (path text : List ℕ) (old new : Option (L
   pub are : ArePieces all text rest
   pub tells : Tells form path (found_in_pieces front [] all rest) old new before after
 
--- and then what is odd at the ends of its lines
+-- what is hidden in the text's pieces is written, and then what is odd about its line ends
 pub record TellsHidden (form : Form) (path text : List ℕ) (old new : Option (List ℕ)) (found : Bool) : Type 0 where
   pub all : List Piece
   pub rest : List ℕ

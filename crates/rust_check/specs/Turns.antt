@@ -1,4 +1,4 @@
--- Whether the controls of a line's direction are balanced.
+-- Whether the controls of direction on a line are balanced.
 use Rattle.std.specs.Prelude.{ℕ, Bool, true, false, not, ◌||◌, ◌==◌, List, [], ◌∷◌, Option, Some, None, take_while}
 use Rattle.std.specs.Prelude.{if◌then◌else◌}
 use Rattle.std.specs.Int.{is_in_range}
@@ -6,8 +6,8 @@ use Rattle.pm_span.specs.CharOffset.{is_line_feed}
 use Rattle.rust_check.specs.declared.turns.Turn.{Turn}
 use Rattle.rust_check.specs.declared.turns.Turn.TheVariants.{Stays, Opens, Closes}
 
--- embeddings and overrides open within the text around them, and U+202C closes them; isolates open apart from it, and
--- U+2069 closes those
+-- what a control opens or closes: embeddings and overrides (`false`) are closed by U+202C, and isolates (`true`) by
+-- U+2069
 abbrev pub turn_of : ℕ → Turn
 turn_of c =
     if (c == 0x202A) || (c == 0x202B) || (c == 0x202D) || (c == 0x202E) then Opens false
@@ -18,7 +18,8 @@ abbrev pub is_same : Bool → Bool → Bool
 is_same true b = b
 is_same false b = not b
 
--- what is open, the innermost first, after one is closed; None where another one is the innermost, or none is open
+-- what is open after a part is closed, the innermost first; None if the innermost open part is another one or nothing
+-- is open
 abbrev pub closed : Bool → List Bool → Option (List Bool)
 closed apart [] = None
 closed apart (innermost ∷ opened) = if is_same innermost apart then Some opened else None
@@ -40,10 +41,10 @@ abbrev pub closes_all : Option (List Bool) → Bool
 closes_all (Some []) = true
 closes_all _ = false
 
--- what stands on the text's first line, which ends at a line feed
+-- the first line of a text, which ends before the first LF
 abbrev pub fed_line : List ℕ → List ℕ
 fed_line text = take_while (λ c. not (is_line_feed c)) text
 
--- on that each one that opens is closed, in order, and none is closed that isn't open
+-- whether all that is opened on the first line is closed there, the innermost first, and nothing else is closed
 abbrev pub is_balanced : List ℕ → Bool
 is_balanced text = closes_all (all_open (Some []) (fed_line text))

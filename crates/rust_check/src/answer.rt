@@ -1,4 +1,4 @@
-//! What the program writes for a text.
+//! Writes what is found in a text.
 ghost use Rattle.std.specs.Prelude.{◌≡◌, ◌++◌, IfOk, OnOk, Some};
 ghost use Rattle.std.specs.Io.KnownBytes.{Appends};
 ghost use Rattle.std.specs.Str.{chars};
@@ -21,8 +21,8 @@ use std::alloc::Global;
 use std::io;
 use std::io::Write;
 
-/// Writes why the text of the file at this path doesn't parse, and then where its hidden characters stand, if `hidden`
-/// asks for them, and answers whether something was found.
+/// Writes why the text of the file at this path doesn't parse, and then its hidden characters if `hidden` is true.
+/// Returns whether anything was found.
 pub fn check_all<W: Write>(
     alloc: Global,
     form: Form,
@@ -42,7 +42,7 @@ pub fn check_all<W: Write>(
     Ok(faulty || told)
 }
 
-/// Writes why the text of the file at this path doesn't parse, and answers whether it has a fault. Nothing is written
+/// Writes why the text of the file at this path doesn't parse, and returns whether it has an error. Nothing is written
 /// for a text that parses.
 fn check_text<W: Write>(
     alloc: Global,
@@ -66,7 +66,7 @@ fn check_text<W: Write>(
     }
 }
 
-/// The fault of the text.
+/// Returns the finding for the text's error.
 fn fault<'a>(text: &'a str, explained: &Explained) -> Finding<'a>
     ensures { seen result ≡ fault (chars text.now) explained.now }
 {
@@ -74,7 +74,7 @@ fn fault<'a>(text: &'a str, explained: &Explained) -> Finding<'a>
     found_at(reason.name(), reason.message(), text, explained.at.span)
 }
 
-/// Writes what is said of the fault, and what helps besides.
+/// Writes the error, and the notes about it.
 fn write_fault<W: Write>(
     alloc: Global,
     form: Form,
@@ -91,7 +91,7 @@ fn write_fault<W: Write>(
     write_note(alloc, form, path, text, explained, hint, writer)
 }
 
-/// Writes what is said below the fault.
+/// Writes the notes about the error, if the form has notes.
 fn write_note<W: Write>(
     alloc: Global,
     form: Form,
@@ -119,7 +119,7 @@ fn write_note<W: Write>(
     }
 }
 
-/// Writes the same in these colours.
+/// Writes the notes with these colours.
 fn write_notes<W: Write>(
     alloc: Global,
     colours: Colours,
@@ -136,7 +136,7 @@ fn write_notes<W: Write>(
     write_hint(alloc, colours, path, text, hint, writer)
 }
 
-/// Writes of a closer that doesn't match where the opener stands that waits for another.
+/// If the error is a closer that doesn't match, writes where the opener is that waits for another closer.
 fn write_waiting<W: Write>(
     alloc: Global,
     colours: Colours,
@@ -162,7 +162,7 @@ fn write_waiting<W: Write>(
     }
 }
 
-/// Writes what helps besides.
+/// Writes the note that the hint gives, if there is a hint.
 fn write_hint<W: Write>(
     alloc: Global,
     colours: Colours,
@@ -191,7 +191,7 @@ fn write_hint<W: Write>(
     }
 }
 
-/// Writes how many comments are open, and which ended last.
+/// Writes how many comments are open, and which comment ended last.
 fn write_comments<W: Write>(
     alloc: Global,
     colours: Colours,
@@ -208,7 +208,7 @@ fn write_comments<W: Write>(
     write_closed(alloc, colours, path, text, closed, writer)
 }
 
-/// Writes how many comments are open, if that is more than one.
+/// Writes how many comments are open, if there is more than one.
 fn write_depth<W: Write>(colours: Colours, depth: usize, writer: &mut W) -> io::Result<()>
     ensures { OnOk result (Appends (W.contents writer.old) (W.contents writer.new)
         (depth_note (codes_of colours) depth)) }
@@ -249,7 +249,7 @@ fn write_closed<W: Write>(
     }
 }
 
-/// Writes what stands at this place.
+/// Writes a note with its part of the source.
 fn write_place<W: Write>(
     alloc: Global,
     colours: Colours,
@@ -268,7 +268,7 @@ fn write_place<W: Write>(
     write_excerpt(alloc, colours, path, &place, writer)
 }
 
-/// What is found where the span says.
+/// Returns the finding for the part of the text that the span covers.
 fn found_at<'a>(name: &'static str, says: &'static str, text: &'a str, span: Span) -> Finding<'a>
     ensures { seen result ≡ found_at name.now says.now (chars text.now) span.lo span.hi }
 {

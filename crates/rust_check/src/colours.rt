@@ -2,21 +2,21 @@
 ghost use Rattle.std.specs.Prelude.{◌≡◌};
 ghost use Rattle.rust_check.specs.Colours.{codes_of, plain, terminal};
 
-/// What sets a terminal's colours, or nothing in their place.
+/// The control sequences that set a terminal's colours, or empty texts instead.
 #[derive(Clone, Copy)]
 pub struct Colours {
-    /// What is at fault is written after it.
+    /// The colour of what is wrong.
     pub fault: &'static str,
-    /// What is said of that.
+    /// The style of the words about what is wrong.
     pub strong: &'static str,
-    /// What is no part of the source beside it.
+    /// The colour of what surrounds the source, such as line numbers.
     pub line: &'static str,
-    /// What has no colour.
+    /// The end of a colour or style.
     pub off: &'static str,
 }
 
 impl Colours {
-    /// None.
+    /// Returns empty texts, for output without colours.
     pub fn none() -> Colours
         ensures { codes_of result ≡ plain }
     {
@@ -28,7 +28,7 @@ impl Colours {
         }
     }
 
-    /// Red, bold and blue.
+    /// Returns the sequences for red, bold and blue.
     pub fn terminal() -> Colours
         ensures { codes_of result ≡ terminal }
     {

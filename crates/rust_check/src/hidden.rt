@@ -1,4 +1,4 @@
-//! The characters that nobody sees, or that change how what stands around them is seen.
+//! Characters that a reader doesn't see, or that change how the text around them looks.
 ghost use Rattle.std.specs.Prelude.{◌≡◌};
 ghost use Rattle.rust_check.specs.Hidden.{ascii_hides_as, hides_as, is_hidden, other_hides_as};
 
@@ -6,22 +6,22 @@ use ucd_category::GeneralCategory;
 use ucd_derived::is_default_ignorable_code_point;
 use ucd_props::{is_bidi_control, is_join_control, is_variation_selector, is_white_space};
 
-/// How a character hides something from who reads the text.
+/// How a character hides something from the reader of a text.
 #[derive(Clone, Copy, Debug, PartialEq, Eq)]
 pub enum Hidden {
-    /// It controls the text's direction.
+    /// It controls the direction of the text.
     Direction,
     /// It joins its neighbours, or keeps them apart.
     Joiner,
-    /// It isn't shown.
+    /// It is not shown.
     Invisible,
     /// It controls a device.
     Control,
-    /// It is white space that looks like a space, or like a line's end.
+    /// It is white space that looks like a space or a line end but is neither.
     White,
 }
 
-/// How the character hides something, if it does: by its properties in Unicode, past ASCII.
+/// Returns how the character hides something, if it does. Past ASCII the properties of Unicode decide.
 pub fn hides_as(c: char) -> Option<Hidden>
     ensures { result ≡ hides_as c }
 {
@@ -32,7 +32,7 @@ pub fn hides_as(c: char) -> Option<Hidden>
     }
 }
 
-/// The same of a character of ASCII: each control but tab, line feed and CR.
+/// Returns how an ASCII character hides something: each control does, except tab, LF and CR.
 fn ascii_hides_as(c: char) -> Option<Hidden>
     ensures { result ≡ ascii_hides_as c }
 {
@@ -43,7 +43,8 @@ fn ascii_hides_as(c: char) -> Option<Hidden>
     }
 }
 
-/// The same of a character past ASCII. What selects a variant of the character before it shows on that.
+/// Returns how a character past ASCII hides something. A variation selector hides nothing, since it shows on the
+/// character before it.
 fn other_hides_as(c: char) -> Option<Hidden>
     ensures { result ≡ other_hides_as c }
 {
@@ -62,7 +63,7 @@ fn other_hides_as(c: char) -> Option<Hidden>
     }
 }
 
-/// Whether the character can't stand in a line that is shown: it hides something, and isn't white space.
+/// Whether the character must not be shown as it is: it hides something and isn't white space.
 pub fn is_hidden(c: char) -> bool
     ensures { result ≡ is_hidden c }
 {

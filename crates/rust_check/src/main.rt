@@ -1,8 +1,10 @@
-//! Tells why Rust files don't parse: each fault with its reason, where it stands, and its line of the source.
+//! Says why Rust files don't parse. Each syntax error is written with its reason, where it is, and its line of the
+//! source.
 //!
-//! `rust_check FILE..` reads the files, and `-` or no file standard input. The status is 0 where all texts parse, 1
-//! where one has a fault, and 2 where the words ask for nothing, a read or a write failed, a text isn't UTF-8 or too
-//! long, or memory ran out. A line on standard error says why, but nothing where nobody reads the output any more.
+//! `rust_check FILE..` reads the files, and standard input for `-` or if no file is named. The status is 0 if all texts
+//! parse and 1 if one has an error. It is 2 if the command line is wrong, if a read or a write failed, if a text isn't
+//! UTF-8 or is too long, or if memory ran out. Then a line on standard error says why, unless the output has no reader
+//! any more.
 #![tactic(auto)]
 
 mod answer;
@@ -35,7 +37,7 @@ fn main(rt: HostRuntime) -> ExitCode {
     }
 }
 
-/// Does what the words after the program's name ask for, and answers the status.
+/// Does what the command line demands, and returns the exit status.
 fn run(rt: &HostRuntime) -> Result<u8, Failure> {
     let words = words(rt.alloc(), env::args(rt), USAGE)?;
     match request_of(rt.alloc(), words.as_slice())? {
@@ -45,7 +47,7 @@ fn run(rt: &HostRuntime) -> Result<u8, Failure> {
     }
 }
 
-/// Checks the files, and answers the status.
+/// Checks the files, and returns the exit status.
 fn check(rt: &HostRuntime, options: &Options) -> Result<u8, Failure> {
     let mut writer = BufWriter::new(rt.alloc(), rt.stdout())?;
     let paths = options.paths.as_slice();
@@ -57,7 +59,7 @@ fn check(rt: &HostRuntime, options: &Options) -> Result<u8, Failure> {
     Ok(tally.status())
 }
 
-/// Writes a text.
+/// Writes a text to standard output, and returns the exit status 0.
 fn print(rt: &HostRuntime, text: &str) -> Result<u8, Failure> {
     let mut writer = rt.stdout();
     write!(writer, "{text}")?;

@@ -1,4 +1,4 @@
-//! The names of a text, by their forms NFKC.
+//! The names of a text by their normal form NFKC.
 ghost use Rattle.std.specs.Prelude.{◌≡◌, ◌∷◌, [], List, ℕ, IfOk};
 ghost use Rattle.std.specs.Str.{chars};
 ghost use Rattle.rust_check.specs.NameForms.{AreFirst, is_other};
@@ -7,15 +7,15 @@ use std::alloc::{AllocError, Global};
 use std::collections::HashMap;
 use unicode_normalization::to_nfkc;
 
-/// The names of a text so far: of each form NFKC the first.
+/// The names that were seen so far. For each NFKC form the first name is kept.
 #[derive(Drop)]
 pub struct NameForms {
-    /// The first name, by its form.
+    /// The first name of each form.
     pub first: HashMap<String, String>,
 }
 
 impl NameForms {
-    /// No name.
+    /// Returns the names before any name is seen.
     pub fn new(alloc: Global) -> NameForms
         ensures { AreFirst result.first [] }
     {
@@ -24,7 +24,7 @@ impl NameForms {
         }
     }
 
-    /// Takes a name, and answers whether the first one of its form is another.
+    /// Takes one more name, and returns whether another name with the same form was first.
     pub fn take(&mut self, alloc: Global, name: &str) -> Result<bool, AllocError>
         ensures { IfOk result (λ is. (names : List (List ℕ)) → AreFirst self.old.first names
             → (is ≡ is_other (chars name.now) names) × AreFirst self.new.first (chars name.now ∷ names)) }

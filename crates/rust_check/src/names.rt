@@ -1,4 +1,4 @@
-//! What is odd about a name.
+//! Whether a name mixes scripts.
 ghost use Rattle.std.specs.Prelude.{◌≡◌};
 ghost use Rattle.std.specs.Str.{chars};
 ghost use Rattle.rust_check.specs.Names.{are_apart, is_mixed, is_same, is_with_han, with_han, with_kana, with_other};
@@ -6,16 +6,16 @@ ghost use Rattle.rust_check.specs.Names.{written_with};
 
 use ucd_script::Script;
 
-/// The scripts in which a name is written.
+/// The scripts of the characters of a name so far.
 #[derive(Clone, Copy, Debug, PartialEq, Eq)]
 pub enum Writing {
-    /// None so far, but for characters of all scripts.
+    /// No script yet, or only characters that all scripts share.
     Open,
-    /// Han, which Japanese, Korean and Bopomofo go on with.
+    /// Han only. Japanese, Korean and Bopomofo may follow.
     Han,
-    /// Kana, with Han or without.
+    /// Hiragana or Katakana, with or without Han.
     Japanese,
-    /// One script, and Han too where that is written with it.
+    /// One other script, with or without Han if Han is written together with it.
     One(Script),
     /// Scripts that are not written together.
     Mixed,
@@ -40,7 +40,7 @@ impl Writing {
         matches!(self, Writing::Mixed)
     }
 
-    /// With a character more, of this script.
+    /// Returns the scripts with one more character, which is of this script.
     fn with(self, script: Script) -> Writing
         ensures { result ≡ written_with self script }
     {
@@ -90,14 +90,14 @@ impl Writing {
     }
 }
 
-/// Whether Han is written with it: with Hangul and Bopomofo.
+/// Whether the script is written together with Han: Hangul and Bopomofo are.
 fn is_with_han(script: Script) -> bool
     ensures { result ≡ is_with_han script }
 {
     is_same(script, Script::Hangul) || is_same(script, Script::Bopomofo)
 }
 
-/// Whether the two are one script.
+/// Whether the two scripts are the same.
 fn is_same(a: Script, b: Script) -> bool
     ensures { result ≡ is_same a b }
 {

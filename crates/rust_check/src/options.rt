@@ -1,4 +1,4 @@
-//! What the words after the program's name ask for.
+//! The options and paths of the command line.
 ghost use Rattle.std.specs.Prelude.{◌≡◌, ◌⊎◌, IfErr, IfOk, OnOk, Some, map, string_bytes};
 ghost use Rattle.messages.specs.declared.errors.Failure.TheVariants.{Memory};
 ghost use Rattle.rust_check.specs.Options.{Misused, asks, form_of, meant, no_wish, or_input, other_word, usage_of};
@@ -7,47 +7,47 @@ ghost use Rattle.rust_check.specs.Options.{wishes_of, with_word, word_of};
 use messages::Failure;
 use std::alloc::{AllocError, Global};
 
-/// How the program is called.
+/// The usage line.
 pub const USAGE: &str = "rust_check [--short|--json] [--hidden] [--color=always|never] [FILE..]";
 
 /// How a finding is written.
 #[derive(Clone, Copy, Debug, PartialEq, Eq)]
 pub enum Form {
-    /// In one line.
+    /// On one line.
     Short,
-    /// With its line of the source and carets below.
+    /// With its line of the source and carets below that.
     Long,
-    /// The same, in a terminal's colours.
+    /// As in `Long`, but in the colours of a terminal.
     Coloured,
-    /// As an object of JSON on a line.
+    /// As a JSON object on one line.
     Json,
 }
 
 /// How files are checked.
 #[derive(Drop)]
 pub struct Options {
-    /// How a finding is written, but for colours.
+    /// The form of a finding, in which colours are left out.
     pub form: Form,
-    /// Whether colours are wanted.
+    /// Whether `--color=always` is the last option for colours.
     pub coloured: bool,
-    /// Whether hidden text is told too.
+    /// Whether hidden text is reported too.
     pub hidden: bool,
-    /// The paths of the files, `-` for standard input.
+    /// The paths of the files. `-` is standard input.
     pub paths: Vec<String>,
 }
 
-/// What the program is asked for.
+/// What the command line demands.
 #[derive(Drop)]
 pub enum Request {
-    /// To check files.
+    /// The files are checked.
     Check(Options),
-    /// How it is called.
+    /// The help is written.
     Help,
-    /// Its name and version.
+    /// The program's name and version are written.
     Version,
 }
 
-/// What a word says.
+/// What one word of the command line means.
 #[derive(Clone, Copy, Debug, PartialEq, Eq)]
 enum Word {
     Short,
@@ -60,9 +60,10 @@ enum Word {
     Path,
 }
 
-/// What the words ask for: options anywhere, and paths, of which standard input is one where there is no other.
+/// Returns what the words of the command line demand. Options and paths may come in any order, and `-` is the path if
+/// there is no other.
 ///
-/// Fails with `Usage` where a word begins with `-` that is no option, and with `Memory`.
+/// Returns `Usage` if a word begins with `-` and is no option, and `Memory` if memory runs out.
 pub fn request_of(alloc: Global, words: &[String]) -> Result<Request, Failure>
     ensures ok { IfOk result (λ request. meant request ≡ asks no_wish (map string_bytes words.now)) }
     ensures err { IfErr result (λ failure.
@@ -82,7 +83,7 @@ pub fn request_of(alloc: Global, words: &[String]) -> Result<Request, Failure>
     Ok(Request::Check(options))
 }
 
-/// What the word says.
+/// Returns what the word means.
 fn word_of(word: &str) -> Word
     ensures { result ≡ word_of word.now }
 {
@@ -98,7 +99,7 @@ fn word_of(word: &str) -> Word
     }
 }
 
-/// The same of a word that is no option that is known.
+/// Returns what a word means that is none of the known options.
 fn other_word(word: &str) -> Word
     ensures { result ≡ other_word word.now }
 {
@@ -110,7 +111,7 @@ fn other_word(word: &str) -> Word
 }
 
 impl Options {
-    /// What is asked for before any word.
+    /// Returns the options of an empty command line.
     fn new(alloc: Global) -> Options
         ensures { wishes_of result ≡ no_wish }
     {
@@ -122,7 +123,7 @@ impl Options {
         }
     }
 
-    /// Takes a word.
+    /// Applies a known word, and takes it as a path if it is one.
     fn take(&mut self, alloc: Global, known: Word, word: &str) -> Result<(), AllocError>
         ensures { OnOk result (wishes_of self.new ≡ with_word known word.now (wishes_of self.old)) }
     {
@@ -137,7 +138,7 @@ impl Options {
         Ok(())
     }
 
-    /// Standard input is read where no file is named.
+    /// Adds standard input as the path if no file is named.
     fn read_input_at_least(&mut self, alloc: Global) -> Result<(), AllocError>
         ensures { OnOk result (wishes_of self.new ≡ or_input (wishes_of self.old)) }
     {
@@ -155,7 +156,7 @@ impl Options {
         Ok(())
     }
 
-    /// How a finding is written.
+    /// Returns the form of a finding, in which colours count only for `Long`.
     pub fn shown_form(&self) -> Form
         ensures { result ≡ form_of self.now }
     {

@@ -1,4 +1,4 @@
-//! Where a place of a text stands.
+//! Lines of a text, and numbers of its characters and bytes.
 ghost use Rattle.std.specs.Prelude.{◌≡◌, drop, length, take};
 ghost use Rattle.std.specs.Str.{chars, encode_utf8_all};
 ghost use Rattle.rust_check.specs.Place.{first_line, last_line, last_number};
@@ -8,13 +8,13 @@ use lexical::parts::before;
 /// The line on which a text ends.
 #[derive(Clone, Copy)]
 pub struct LastLine<'a> {
-    /// Its number, from 1.
+    /// The number of the line, counted from 1.
     pub number: usize,
-    /// What stands on it.
+    /// The text of the line.
     pub text: &'a str,
 }
 
-/// The line on which the text ends.
+/// Returns the line on which the text ends. Only LF ends a line here.
 pub fn last_line(text: &str) -> LastLine<'_>
     ensures number { result.number ≡ last_number (chars text.now) }
     ensures text { chars result.text.now ≡ last_line (chars text.now) }
@@ -34,7 +34,7 @@ pub fn last_line(text: &str) -> LastLine<'_>
     }
 }
 
-/// The first `count` characters of the text, or all where it has fewer, and what follows them.
+/// Splits the text after its first `count` characters, or at its end if it has fewer.
 pub fn split_chars(text: &str, count: u32) -> (&str, &str)
     ensures front { chars result.0.now ≡ take count (chars text.now) }
     ensures rest { chars result.1.now ≡ drop count (chars text.now) }
@@ -47,7 +47,7 @@ pub fn split_chars(text: &str, count: u32) -> (&str, &str)
     (before(text, after), after)
 }
 
-/// What stands on the first line of the text, which ends at a line feed or at CR.
+/// Returns the first line of the text, which ends before the first LF or CR.
 pub fn first_line(text: &str) -> &str
     ensures { chars result.now ≡ first_line (chars text.now) }
 {
@@ -62,7 +62,7 @@ pub fn first_line(text: &str) -> &str
     text
 }
 
-/// How many bytes the text has.
+/// Returns the number of bytes in the text.
 pub fn byte_count(text: &str) -> usize
     ensures { result ≡ length (encode_utf8_all (chars text.now)) }
 {

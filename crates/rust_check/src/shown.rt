@@ -1,4 +1,4 @@
-//! How a line is shown on a terminal, and in which columns.
+//! How a line is shown on a terminal, and how many columns it takes.
 ghost use Rattle.std.specs.Prelude.{◌≡◌, ◌++◌, IfOk, OnOk, codes, string_bytes};
 ghost use Rattle.std.specs.Str.{chars};
 ghost use Rattle.messages.specs.Each.{each};
@@ -8,7 +8,7 @@ use crate::hidden::is_hidden;
 use std::alloc::{AllocError, Global};
 use unicode_width::UnicodeWidthChar;
 
-/// The two parts of a line as they are shown: tab as four spaces, CR and what is hidden as U+FFFD.
+/// Returns the two parts of a line as they are shown: a tab as four spaces, CR and hidden characters as U+FFFD.
 pub fn shown_line(alloc: Global, front: &str, rest: &str) -> Result<String, AllocError>
     ensures { IfOk result (λ out. string_bytes out
         ≡ each shown (chars front.now) ++ each shown (chars rest.now)) }
@@ -19,7 +19,8 @@ pub fn shown_line(alloc: Global, front: &str, rest: &str) -> Result<String, Allo
     Ok(out)
 }
 
-/// Carets below the columns of a part of a line, one at least, after the columns of what stands before it.
+/// Returns carets under the columns of `part`, but at least one, after spaces for the columns of `front`, which
+/// precedes it.
 pub fn underline(alloc: Global, front: &str, part: &str) -> Result<String, AllocError>
     ensures { IfOk result (λ out. string_bytes out
         ≡ filled (codes " ") (chars front.now) ++ carets (chars part.now)) }
@@ -34,7 +35,7 @@ pub fn underline(alloc: Global, front: &str, part: &str) -> Result<String, Alloc
     Ok(out)
 }
 
-/// So many spaces.
+/// Returns `count` spaces.
 pub fn spaces(alloc: Global, count: usize) -> Result<String, AllocError>
     ensures { IfOk result (λ out. string_bytes out ≡ times count (codes " ")) }
 {
@@ -65,7 +66,7 @@ fn push_character(out: &mut String, c: char) -> Result<(), AllocError>
     }
 }
 
-/// Appends this for each column of the text.
+/// Appends `fill` once for each column of the text.
 fn push_filled(out: &mut String, fill: &str, text: &str) -> Result<(), AllocError>
     ensures { OnOk result (string_bytes out.new ≡ string_bytes out.old ++ filled fill.now (chars text.now)) }
 {
@@ -75,7 +76,7 @@ fn push_filled(out: &mut String, fill: &str, text: &str) -> Result<(), AllocErro
     Ok(())
 }
 
-/// Appends a text so many times.
+/// Appends the text `count` times.
 fn push_times(out: &mut String, count: usize, text: &str) -> Result<(), AllocError>
     ensures { OnOk result (string_bytes out.new ≡ string_bytes out.old ++ times count text.now) }
 {
@@ -85,7 +86,7 @@ fn push_times(out: &mut String, count: usize, text: &str) -> Result<(), AllocErr
     Ok(())
 }
 
-/// The columns that a character takes as it is shown.
+/// Returns how many columns the character takes as it is shown.
 fn columns(c: char) -> usize
     ensures { result ≡ columns c }
 {

@@ -1,4 +1,4 @@
-//! How many of the files have a fault or weren't read, and the status of the program.
+//! Counts the files with an error and the files that were not read, for the exit status.
 ghost use Rattle.std.specs.Prelude.{◌≡◌, ◌+◌, ◌<◌, ◌^◌, OnOk};
 ghost use Rattle.std.specs.Io.KnownBytes.{Appends};
 ghost use Rattle.rust_check.specs.Files.{counted, nothing, status_of, summary};
@@ -7,17 +7,17 @@ use messages::Failure;
 use std::io;
 use std::io::Write;
 
-/// How many of the files so far have a fault or weren't read.
+/// How many of the files so far have an error, or were not read.
 #[derive(Clone, Copy, Debug, PartialEq, Eq)]
 pub struct Tally {
-    /// Those whose text has a fault.
+    /// The number of files whose text has an error.
     pub faulty: usize,
-    /// Those that weren't read.
+    /// The number of files that were not read.
     pub unread: usize,
 }
 
 impl Tally {
-    /// None.
+    /// Returns the counts before any file.
     pub fn new() -> Tally
         ensures { result ≡ nothing }
     {
@@ -27,7 +27,7 @@ impl Tally {
         }
     }
 
-    /// With the outcome of one file more: whether its text has a fault, or why it wasn't read.
+    /// Returns the counts with the outcome of one more file: whether its text has an error, or why it was not read.
     pub fn with(self, outcome: &Result<bool, Failure>) -> Tally
         requires faulty { self.faulty + 1 < 2 ^ 64 }
         requires unread { self.unread + 1 < 2 ^ 64 }
@@ -46,7 +46,7 @@ impl Tally {
         }
     }
 
-    /// The status of the program: 2 where a file wasn't read, else 1 where a text has a fault, and else 0.
+    /// Returns the exit status: 2 if a file was not read, else 1 if a text has an error, else 0.
     pub fn status(self) -> u8
         ensures { result ≡ status_of self }
     {
@@ -59,7 +59,7 @@ impl Tally {
         }
     }
 
-    /// Writes how many of so many files have a fault or weren't read.
+    /// Writes how many of the `files` files have an error and how many were not read.
     pub fn write_summary<W: Write>(self, files: usize, writer: &mut W) -> io::Result<()>
         ensures { OnOk result (Appends (W.contents writer.old) (W.contents writer.new) (summary files self)) }
     {

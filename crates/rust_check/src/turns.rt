@@ -1,23 +1,23 @@
-//! Whether the controls of a line's direction are balanced.
+//! Whether the controls of direction on a line are balanced.
 ghost use Rattle.std.specs.Prelude.{◌≡◌, ◌∷◌, IfOk, None, OnOk, Some, if◌then◌else◌, reverse};
 ghost use Rattle.std.specs.Str.{chars};
 ghost use Rattle.rust_check.specs.Turns.{is_balanced, is_same, open_after, turn_of};
 
 use std::alloc::{AllocError, Global};
 
-/// What a control does to a line's direction.
+/// What a control does to the direction of the text.
 #[derive(Clone, Copy, Debug, PartialEq, Eq)]
 pub enum Turn {
-    /// Nothing that lasts.
+    /// It opens and closes nothing.
     Stays,
-    /// What follows has a direction of its own, apart from the text around it (`true`) or within it.
+    /// It opens a part with its own direction: an isolate (`true`), or an embedding or override (`false`).
     Opens(bool),
-    /// That ends, where it was apart (`true`) or not.
+    /// It closes an isolate (`true`), or an embedding or override (`false`).
     Closes(bool),
 }
 
-/// Whether each control of the direction on the text's first line is closed there, in order, and none is closed that
-/// isn't open.
+/// Whether the controls of direction on the text's first line are balanced: each part that is opened there is closed
+/// there, the innermost first, and nothing else is closed. Only LF ends the line.
 pub fn is_balanced(alloc: Global, text: &str) -> Result<bool, AllocError>
     ensures { IfOk result (λ is. is ≡ is_balanced (chars text.now)) }
 {
@@ -34,7 +34,8 @@ pub fn is_balanced(alloc: Global, text: &str) -> Result<bool, AllocError>
     Ok(opened.as_slice().is_empty())
 }
 
-/// Takes a character, and answers whether it closes nothing that isn't open, the innermost last.
+/// Applies the character to the parts that are open, and returns whether it is in balance. It is not if it closes
+/// another part than the innermost.
 fn take(opened: &mut Vec<bool>, c: char) -> Result<bool, AllocError>
     ensures { IfOk result (λ is. open_after (Some (reverse opened.old.items)) c
         ≡ (if is then Some (reverse opened.new.items) else None)) }
@@ -52,14 +53,14 @@ fn take(opened: &mut Vec<bool>, c: char) -> Result<bool, AllocError>
     }
 }
 
-/// Whether both are apart, or neither.
+/// Whether both are isolates, or neither is.
 fn is_same(a: bool, b: bool) -> bool
     ensures { result ≡ is_same a b }
 {
     if a { b } else { !b }
 }
 
-/// What the character does to its line's direction.
+/// Returns what the character does to the direction of the text.
 fn turn_of(c: char) -> Turn
     ensures { result ≡ turn_of c }
 {

@@ -1,4 +1,4 @@
-//! What is written for a finding.
+//! Writes a finding.
 ghost use Rattle.std.specs.Prelude.{OnOk};
 ghost use Rattle.std.specs.Io.KnownBytes.{Appends};
 ghost use Rattle.rust_check.specs.Colours.{codes_of};
@@ -15,7 +15,7 @@ use std::alloc::Global;
 use std::io;
 use std::io::Write;
 
-/// Writes what is found in the file at this path, in this form.
+/// Writes a finding in the file at this path, in the given form.
 pub fn write_message<W: Write>(
     alloc: Global,
     form: Form,
@@ -34,7 +34,7 @@ pub fn write_message<W: Write>(
     }
 }
 
-/// Writes what is found in the file at this path on one line, whichever form it has.
+/// Writes a finding in the file at this path on one line: as JSON if that is the form, else in the short form.
 pub fn write_line<W: Write>(
     alloc: Global,
     form: Form,
@@ -51,20 +51,19 @@ pub fn write_line<W: Write>(
     }
 }
 
-/// Writes what is found in the file at this path in one line: `FILE:L:C: error: what`, line and column from 1, the
-/// column in characters.
+/// Writes a finding on one line, as `FILE:L:C: error: what`. Line and column count from 1, and columns are characters.
 fn write_short<W: Write>(path: &str, finding: &Finding<'_>, writer: &mut W) -> io::Result<()>
     ensures { OnOk result (Appends (W.contents writer.old) (W.contents writer.new)
         (short path.now (seen finding.now))) }
 {
     let line = finding.place.line;
-    // As wide as the sum needs.
+    // The column may be the largest `usize`, so the sum needs more bits.
     let column = finding.place.column as u128 + 1;
     let says = finding.says;
     writeln!(writer, "{path}:{line}:{column}: error: {says}")
 }
 
-/// Writes what is found in the file at this path, with its line of the source and carets below.
+/// Writes a finding with its line of the source and carets below that.
 fn write_long<W: Write>(
     alloc: Global,
     colours: Colours,
@@ -79,7 +78,7 @@ fn write_long<W: Write>(
     write_excerpt(alloc, colours, path, finding, writer)
 }
 
-/// Writes what is wrong.
+/// Writes the line that says what is wrong.
 fn write_headline<W: Write>(
     colours: Colours,
     finding: &Finding<'_>,
@@ -99,7 +98,7 @@ fn write_headline<W: Write>(
     writeln!(writer, "{fault}error[{name}]{off}{strong}: {says}{off}")
 }
 
-/// Writes where it is found in the file at this path, with its line of the source and carets below.
+/// Writes where a finding is, its line of the source, and carets below that.
 pub fn write_excerpt<W: Write>(
     alloc: Global,
     colours: Colours,
@@ -117,7 +116,7 @@ pub fn write_excerpt<W: Write>(
         ..
     } = colours;
     let number = finding.place.line.to_string(alloc)?;
-    // As wide as the sum needs.
+    // The column may be the largest `usize`, so the sum needs more bits.
     let column = finding.place.column as u128 + 1;
     let gutter = spaces(alloc, number.len())?;
     let source = shown_line(alloc, finding.front, first_line(finding.rest))?;
@@ -129,7 +128,7 @@ pub fn write_excerpt<W: Write>(
     )
 }
 
-/// Writes what is found in the file at this path as an object of JSON on a line.
+/// Writes a finding as a JSON object on one line.
 fn write_json<W: Write>(
     alloc: Global,
     path: &str,
@@ -142,7 +141,7 @@ fn write_json<W: Write>(
     write_json_where(finding, writer)
 }
 
-/// Writes the front of an object of JSON: the file and what is wrong.
+/// Writes the first part of the JSON object: the file and what is wrong.
 fn write_json_what<W: Write>(
     alloc: Global,
     path: &str,
@@ -161,7 +160,7 @@ fn write_json_what<W: Write>(
     )
 }
 
-/// Writes its rest: where it stands.
+/// Writes the second part of the JSON object: where the finding is.
 fn write_json_where<W: Write>(finding: &Finding<'_>, writer: &mut W) -> io::Result<()>
     ensures { OnOk result (Appends (W.contents writer.old) (W.contents writer.new) (json_where (seen finding.now))) }
 {
@@ -170,7 +169,7 @@ fn write_json_where<W: Write>(finding: &Finding<'_>, writer: &mut W) -> io::Resu
         column,
         begin,
     } = finding.place;
-    // As wide as the sums need.
+    // The sums may exceed a `usize`.
     let column = column as u128 + 1;
     let end = begin as u128 + byte_count(finding.here) as u128;
     write!(

@@ -1,4 +1,4 @@
--- Words that are compared.
+-- Comparing words.
 use Rattle.std.proofs.Common.{◌≡◌, ◌↔◌, ℕ, Bool, true, false, IsTrue, List, [], ◌∷◌, ◌++◌}
 use Rattle.std.proofs.Common.{Option, Some, None, Result, Ok, nat_eq, refl, sym, ap, ap₂, ◌∙◌, subst, append_assoc}
 use Rattle.std.proofs.Common.{option_map, IfSome, IfNone}
@@ -25,7 +25,7 @@ use Rattle.same.specs.declared.said.Said.{Said}
 
 -- ---- texts
 
--- texts are the same where their bytes are
+-- two texts are equal exactly if their bytes are
 pub texts_same : (s t : List ℕ) (r : Bool) → IsUtf8 s → IsUtf8 t → r ≡ pointwise nat_eq s t
     → IsTrue r ↔ (chars s ≡ chars t)
 texts_same s t r utf8 other is =
@@ -34,7 +34,7 @@ texts_same s t r utf8 other is =
       λ e. is ∙ bytes.1 (sym (encodes-chars s utf8) ∙ (ap encode_utf8_all e ∙ encodes-chars t other)),
     )
 
--- string literals are the same where their texts are
+-- two string literals are the same only if their texts are
 pub strings_same : (a b : List ℕ) → IsText a → IsText b → string_text a ≡ string_text b → a ≡ b
 strings_same a b text other same =
     let values : ◌≡◌ {A = Result (List ℕ) ConversionErrorKind} (Ok a) (Ok b) =
@@ -87,7 +87,7 @@ pub bare-append : (xs ys : List Placed) → bare (xs ++ ys) ≡ bare xs ++ bare 
 bare-append [] ys = refl
 bare-append (x ∷ xs) ys = ap (λ zs. x.0 ∷ zs) (bare-append xs ys)
 
--- both have gone on from the same words
+-- both texts have gone on after the same words
 pub record Goes (comments : Bool) (first second : List ℕ) (ones others : Words) : Type 0 where
   pub goes : (us vs : List Piece) → IsCover us first → IsCover vs second
       → (xs : List Piece) × Covers ones.walk xs × (ys : List Piece) × Covers others.walk ys
@@ -124,7 +124,7 @@ goes_start comments first second ones others rest front kept none other_rest oth
       );
     }
 
--- what the second text has next, and then
+-- the second text has this next word, or ends
 abbrev pub Next : Words → Option Said → Words → Type 0
 Next others (Some other) after = (ys : List Piece) → Covers others.walk ys → ComesFirst others other after ys
 Next others None after =
@@ -142,7 +142,7 @@ so_more xs ys more others x y left right so is other_is same = record {
       ∙ (ap₂ (λ l w. l ++ (w ∷ [])) so.same same ∙ sym (bare-append so.other_front (y ∷ [])));
 }
 
--- the same word comes first in both
+-- if both have the same next word, they still have the same words so far
 pub goes_on : (comments : Bool) (first second : List ℕ) (ones ones_now others others_now : Words) (one : Said)
     (other : Option Said) → Goes comments first second ones others
     → ((xs : List Piece) → Covers ones.walk xs → ComesFirst ones one ones_now xs) → Next others other others_now
@@ -164,7 +164,7 @@ goes_on comments first second ones ones_now others others_now one (Some other) s
       );
 }
 
--- both end
+-- if both end, all their words are the same
 pub all_same : (comments : Bool) (first second : List ℕ) (ones ones_now others others_now : Words)
     → Goes comments first second ones others → Next ones None ones_now → Next others None others_now
     → (us vs : List Piece) → IsCover us first → IsCover vs second
@@ -179,7 +179,7 @@ all_same comments first second ones ones_now others others_now so ends next us v
     ∙ (sym (bare-append so_far.other_front [])
     ∙ sym (ap bare (so_far.second ∙ ap (λ l. so_far.other_front ++ l) yours)))))
 
--- what the call for the next word says
+-- the call for the next word gives it, or the end
 pub next_of : (others after : Words) (other : Option Said)
     → IfSome other (λ said. (ys : List Piece) → Covers others.walk ys → ComesFirst others said after ys)
     → IfNone other ((ys : List Piece) → Covers others.walk ys

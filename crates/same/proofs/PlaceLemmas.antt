@@ -1,4 +1,4 @@
--- Places of a text, one character after the other.
+-- Lines and columns in a text, character by character.
 use Rattle.std.proofs.Common.{◌≡◌, ◌∙◌, ◌+◌, ◌-◌, ◌<◌, ◌≤◌, ◌++◌, ◌⊎◌, ℕ, Bool, true, false, not, List, [], ◌∷◌}
 use Rattle.std.proofs.Common.{refl, sym, ap}
 use Rattle.std.proofs.Common.{append_assoc, append-nil, length, length-append, reverse, arith, encode_utf8, ◌==◌}
@@ -15,14 +15,16 @@ use Rattle.std.proofs.lemmas.Str.{length-le-encodes, len_utf8_bounds}
 use Rattle.proc_macro2.specs.CharOffset.{is_line_feed, line_column}
 use Rattle.proc_macro2.specs.declared.LineColumn.{LineColumn}
 
--- the number of the line that is reached after these characters, and of characters on it
+-- the number of the line that is reached after these characters
 abbrev line_after : List ℕ → ℕ
 line_after done = 1 + count_by is_line_feed done
 
+-- the number of characters on that line so far
 abbrev column_after : List ℕ → ℕ
 column_after done = length (take_while (λ c. not (is_line_feed c)) (reverse done))
 
--- so much of a text is read. Where so many bytes end with a character, some of these characters are left
+-- the part of the text before `rest` is read; `left` is how many of the `bytes` bytes are not read yet, if these end
+-- with a character
 pub record IsAt (text rest : List ℕ) (bytes left line column : ℕ) : Type 0 where
   pub done : List ℕ
   pub utf8 : IsUtf8 rest
@@ -57,7 +59,7 @@ column_one done c =
     by_feed true = refl
     by_feed false = omega arith
 
--- one more character
+-- one more character is read
 module _ (text rest after_c : List ℕ) (bytes left line column c : ℕ) (at : IsAt text rest bytes left line column)
     (split : rest ≡ encode_utf8 c ++ after_c) (some : 0 < left) where
   next : chars rest ≡ c ∷ chars after_c
@@ -108,7 +110,7 @@ module _ (text rest after_c : List ℕ) (bytes left line column c : ℕ) (at : I
     more = more_now;
   }
 
--- where no bytes are left, or no text is
+-- the line and column are found when no bytes are left or the text ends
 pub at_end : (text rest : List ℕ) (bytes left line column : ℕ) → IsAt text rest bytes left line column
     → (left ≡ 0) ⊎ (chars rest ≡ []) → (front after : List ℕ) → chars text ≡ front ++ after
     → bytes ≡ length (encode_utf8_all front)
@@ -148,7 +150,7 @@ take_while_short : (p : ℕ → Bool) (xs : List ℕ) → length (take_while p x
 take_while_short p [] = omega arith
 take_while_short p (x ∷ xs) = rw (take_while-cons p x xs) (by_first p x xs (p x) (take_while_short p xs))
 
--- lines and columns are no more than bytes
+-- a text has no more lines and columns than bytes
 pub few : (text rest more : List ℕ) (bytes left line column c : ℕ) → IsAt text rest bytes left line column
     → IsUtf8 text → rest ≡ encode_utf8 c ++ more → (line ≤ length text) × (column < length text)
 few text rest more bytes left line column c at utf8 split =

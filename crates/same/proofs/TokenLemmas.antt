@@ -1,4 +1,4 @@
--- The words of texts and their trees.
+-- The words of texts, and the trees to which the texts parse.
 use Rattle.std.proofs.Common.{◌≡◌, ◌↔◌, ℕ, true, false, List, [], ◌∷◌, ◌++◌, refl, sym, ap, ap₂, ◌∙◌, subst}
 use Rattle.lexical.specs.Cover.{onto}
 use Rattle.lexical.specs.Piece.{Kind, Piece, FrontMark, Gap, Doc, Open, Close, Leaf}
@@ -48,7 +48,7 @@ bare_flat (group d lo hi f k) es =
     ap (λ xs. Opens d 0 ∷ xs) (bare_flat f (Closes d hi ∷ flat_onto k es)
     ∙ ap (λ xs. flat_onto (erased f) (Closes d 0 ∷ xs)) (bare_flat k es))
 
--- texts have the same words where they parse to the same trees
+-- two texts have the same words exactly if they parse to the same trees
 pub same_trees : (first second : ℕ) (source other : List ℕ) (s t : Forest) (g : ParsesTo first source s)
     (h : ParsesTo second other t)
     → (bare (words false g.pieces) ≡ bare (words false h.pieces)) ↔ Same s t

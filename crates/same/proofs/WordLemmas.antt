@@ -21,7 +21,7 @@ use Rattle.same.specs.declared.words.Words.{Words}
 
 -- ---- white characters
 
--- one is no comment
+-- a white character is not a comment, so it makes no words
 no_words : (comments : Bool) (c : ℕ) (here : List ℕ) (more : List Placed) → is_white c ≡ true
     → piece_words comments Gap (c ∷ []) here more ≡ more
 no_words false c here more white = refl
@@ -69,7 +69,7 @@ size_step old new step was is walk =
       step_smaller step,
     )
 
--- the words of the pieces that are left are those that were left
+-- skipping pieces without words leaves the same words
 pub record Follows (old left : Words) : Type 0 where
   pub step : left.step ≡ None
   pub comments : left.comments ≡ old.comments
@@ -109,7 +109,7 @@ module _ (old left new : Words) (next : Spaced) (to : PieceWalk) (piece : Placed
             ∙ (sym (next_there left.walk next to is piece some).whole ∙ ap chars (sym is.rest)),
       )
 
-  -- past a piece without words
+  -- a piece without words is skipped
   pub follows_skip : ((here : List ℕ) (more : List Placed)
       → piece_words left.comments (piece_of piece).0 (piece_of piece).1 here more ≡ more)
       → new.step ≡ None → Follows old new
@@ -128,7 +128,7 @@ module _ (old left new : Words) (next : Spaced) (to : PieceWalk) (piece : Placed
         (first.0, first.1, first.2 ∙ none (onto (piece_of piece ∷ first.0) []) (words old.comments first.0));
   }
 
-  -- a piece with words
+  -- a piece with words gives its first word
   pub follows_word : (said : Said) → new.here ≡ next.rest
       → ((here : List ℕ) (more : List Placed)
       → piece_words left.comments (piece_of piece).0 (piece_of piece).1 here more
@@ -155,7 +155,7 @@ module _ (old left new : Words) (next : Spaced) (to : PieceWalk) (piece : Placed
         steps_few new.step,
       )
 
--- at the end
+-- at the end no words are left
 pub follows_none : (old left : Words) (next : Spaced) (to : PieceWalk) → Follows old left → IsSpaced left.walk next to
     → next.piece ≡ None → (xs : List Piece) → Covers old.walk xs
     → (words_left old xs ≡ []) × (chars next.rest.now ≡ [])
@@ -168,7 +168,7 @@ follows_none old left next to so is none xs covers =
       end.1,
     )
 
--- the next token of a doc comment
+-- a doc comment gives its next token
 pub step_first : (old new : Words) (step : DocStep) (said : Said) → old.step ≡ Some step
     → ((here : List ℕ) (more : List Placed) → placed_onto (doc_left (Some step) (chars old.doc.now)) here more
     ≡ (word_of said, here) ∷ placed_onto (doc_left new.step (chars new.doc.now)) here more)

@@ -1,8 +1,8 @@
--- Where words differ first.
+-- Where two lists of words first differ.
 use Rattle.std.specs.Prelude.{ℕ, ◌≡◌, ◌≢◌, List, [], ◌∷◌, ◌++◌, Option, Some, None}
 use Rattle.same.specs.Said.{Placed, Word}
 
--- the words themselves
+-- the words without the texts from which they come
 abbrev pub bare : List Placed → List Word
 bare [] = []
 bare (x ∷ xs) = x.0 ∷ bare xs
@@ -11,12 +11,12 @@ abbrev pub first_word : List Placed → Option Word
 first_word [] = None
 first_word (x ∷ xs) = Some x.0
 
--- the text from the first of them on, nothing at the end
+-- the text from the first of the words on, empty if there is none
 abbrev pub first_place : List Placed → List ℕ
 first_place [] = []
 first_place (x ∷ xs) = x.1
 
--- both go on from the same words
+-- both lists begin with the same words, and go on with these
 pub record SoFar (xs ys : List Placed) (more others : List Placed) : Type 0 where
   pub front : List Placed
   pub other_front : List Placed
@@ -24,7 +24,7 @@ pub record SoFar (xs ys : List Placed) (more others : List Placed) : Type 0 wher
   pub second : ys ≡ other_front ++ others
   pub same : bare front ≡ bare other_front
 
--- after the same words come different ones, or none in one of them; these texts begin there
+-- after the same words the next words differ, or only one list has a next word; these texts begin there
 pub record DifferAt (xs ys : List Placed) (first second : List ℕ) : Type 0 where
   pub more : List Placed
   pub others : List Placed

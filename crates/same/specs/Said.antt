@@ -1,4 +1,4 @@
--- The words that are compared, and the attribute that a doc comment stands for.
+-- The words that are compared, and the attribute that a doc comment is read as.
 use Rattle.std.specs.Prelude.{ℕ, Bool, true, false, List, [], ◌∷◌, codes, Option, Some, None}
 use Rattle.std.specs.Str.{chars, IsUtf8}
 use Rattle.lexical.specs.Token as tokens
@@ -10,16 +10,16 @@ use Rattle.same.specs.declared.said.DocStep.TheVariants as steps
 use Rattle.same.specs.declared.said.Said.{Said}
 use Rattle.same.specs.declared.said.Said.TheVariants as says
 
--- a token, an opener or a closer, as if it stood at 0..0; or a comment, by its text
+-- a word: a token, an opener or a closer, with the span 0..0, or a comment, by its text
 pub data Word : Type 0 where
   Token : Event → Word
   Comment : List ℕ → Word
 
--- with all of the text from the piece on that it comes from
+-- a word, and the text from the piece on from which the word comes
 abbrev pub Placed : Type 0
 Placed = Word × List ℕ
 
--- the word in the program
+-- the word of the program's value
 abbrev pub word_of : Said → Word
 word_of (says.Name raw name) = Token (One (tokens.Name raw (chars name.now)) 0 0)
 word_of (says.Mark joint mark) = Token (One (tokens.Mark mark joint) 0 0)
@@ -29,7 +29,7 @@ word_of (says.Opener delimiter) = Token (Opens delimiter 0)
 word_of (says.Closer delimiter) = Token (Closes delimiter 0)
 word_of (says.Comment text) = Comment (chars text.now)
 
--- its text is one
+-- the texts in the word are UTF-8
 abbrev pub HasText : Said → Type 0
 HasText (says.Name raw name) = IsUtf8 name.now
 HasText (says.Mark joint mark) = Unit {0}
@@ -39,9 +39,9 @@ HasText (says.Opener delimiter) = Unit {0}
 HasText (says.Closer delimiter) = Unit {0}
 HasText (says.Comment text) = IsUtf8 text.now
 
--- ---- the attribute that a doc comment stands for
+-- ---- the attribute that a doc comment is read as
 
--- from this step on
+-- the tokens of the attribute from this step on
 abbrev pub doc_from : DocStep → List ℕ → List Event
 doc_from steps.Hash text =
     One hash 0 0 ∷ Opens Bracket 0 ∷ One (tokens.Name false (codes "doc")) 0 0 ∷ One equals 0 0
@@ -62,7 +62,7 @@ doc_from steps.Equals text = One equals 0 0 ∷ One (tokens.Literal (string_text
 doc_from steps.Text text = One (tokens.Literal (string_text text)) 0 0 ∷ Closes Bracket 0 ∷ []
 doc_from steps.Closer text = Closes Bracket 0 ∷ []
 
--- where there is a step
+-- the tokens that are left of the attribute, if there is a next step
 abbrev pub doc_left : Option DocStep → List ℕ → List Event
 doc_left None text = []
 doc_left (Some step) text = doc_from step text
@@ -77,12 +77,12 @@ step_after steps.Equals = Some steps.Text
 step_after steps.Text = Some steps.Closer
 step_after steps.Closer = None
 
--- the first step of a doc comment
+-- the first step of an inner or an outer doc comment
 abbrev pub first_step : Bool → DocStep
 first_step true = steps.InnerHash
 first_step false = steps.Hash
 
--- how many words are left of a doc comment, at most
+-- an upper bound for the number of words that are left of a doc comment
 abbrev pub steps_left : Option DocStep → ℕ
 steps_left None = 0
 steps_left (Some steps.Hash) = 7

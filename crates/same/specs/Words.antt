@@ -1,4 +1,4 @@
--- What is compared of a text: its tokens, and perhaps its comments.
+-- The words of a text that are compared: its tokens and, if wanted, its comments.
 use Rattle.std.specs.Prelude.{ℕ, ◌≡◌, ◌+◌, ◌*◌, Bool, true, false, List, [], ◌∷◌, codes, length, if◌then◌else◌}
 use Rattle.std.specs.Str.{chars}
 use Rattle.lexical.specs.Cover.{onto, StandBefore}
@@ -12,14 +12,14 @@ use Rattle.same.specs.Said.{Comment, Placed, Token, doc_from, doc_left, first_st
 use Rattle.same.specs.declared.said.Said.{Said}
 use Rattle.same.specs.declared.words.Words.{Words}
 
--- these tokens, all from here, and then others
+-- the tokens as words that all come from `here`, and then `more`
 abbrev pub placed_onto : List Event → List ℕ → List Placed → List Placed
 placed_onto [] here more = more
 placed_onto (event ∷ events) here more = (Token event, here) ∷ placed_onto events here more
 
 -- ---- the words of pieces
 
--- of a piece, where all of the text from it on is `here`, and then others
+-- the words of a piece, where `here` is the text from the piece on, and then `more`
 abbrev pub piece_words : Bool → Kind → List ℕ → List ℕ → List Placed → List Placed
 piece_words comments pieces.FrontMark p here more = more
 piece_words false pieces.Gap p here more = more
@@ -30,14 +30,14 @@ piece_words comments (pieces.Open c) p here more = (Token (Opens (delimiter_of c
 piece_words comments (pieces.Close c) p here more = (Token (Closes (delimiter_of c) 0), here) ∷ more
 piece_words comments (pieces.Leaf token) p here more = (Token (One token 0 0), here) ∷ more
 
--- of pieces that cover a text
+-- the words of pieces that cover a text
 abbrev pub words : Bool → List Piece → List Placed
 words comments [] = []
 words comments (x ∷ xs) = piece_words comments x.0 x.1 (onto (x ∷ xs) []) (words comments xs)
 
 -- ---- the words that are left
 
--- these pieces cover what the walk has left
+-- the pieces cover what is left for the walk
 abbrev pub Covers : PieceWalk → List Piece → Type 0
 Covers walk xs = (chars walk.rest.now ≡ onto xs []) × StandBefore walk.at_front xs []
 
@@ -45,12 +45,12 @@ abbrev pub words_left : Words → List Piece → List Placed
 words_left left xs =
     placed_onto (doc_left left.step (chars left.doc.now)) (chars left.here.now) (words left.comments xs)
 
--- the word comes first, from where the new ones are, and then those
+-- the word is the first that is left, at the new `here`, and the words after it are those that are left then
 pub record ComesFirst (old : Words) (said : Said) (new : Words) (xs : List Piece) : Type 0 where
   pub more : List Piece
   pub covers : Covers new.walk more
   pub first : words_left old xs ≡ (word_of said, chars new.here.now) ∷ words_left new more
 
--- no word leaves as much
+-- a bound that each word makes smaller
 abbrev pub size : Words → ℕ
 size left = 8 * length left.walk.rest.now + steps_left left.step

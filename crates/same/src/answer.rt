@@ -1,4 +1,4 @@
-//! What the program answers of two texts, and what it writes.
+//! The result of comparing two texts, and the line that is written for it.
 ghost use Rattle.std.specs.Prelude.{◌≡◌, IfOk, OnOk};
 ghost use Rattle.std.specs.Io.KnownBytes.{Appends};
 ghost use Rattle.std.specs.Str.{chars};
@@ -13,7 +13,7 @@ use std::alloc::Global;
 use std::io;
 use std::io::Write;
 
-/// A text, and the path that it is read from.
+/// A text, and the path from which it was read.
 #[derive(Clone, Copy)]
 pub struct Source<'a> {
     /// The path.
@@ -22,10 +22,10 @@ pub struct Source<'a> {
     pub text: &'a str,
 }
 
-/// Whether two texts have the same tokens, and the same comments too if `comments` says so. Where they don't, both
-/// places of the first that differs are written.
+/// Returns whether two texts have the same tokens and, if `comments` is true, the same comments. If they don't, it
+/// writes where the first difference is in both.
 ///
-/// Fails with `Memory` and with `Write`.
+/// Returns `Memory` if memory runs out, and `Write` if the write fails.
 pub fn compare<W: Write>(
     alloc: Global,
     comments: bool,
@@ -46,7 +46,7 @@ pub fn compare<W: Write>(
     }
 }
 
-/// Writes both places, the lines and the columns from 1.
+/// Writes where the first difference is in both texts. Lines and columns count from 1.
 fn write_places<W: Write>(
     path: &str,
     at: LineColumn,
@@ -58,7 +58,7 @@ fn write_places<W: Write>(
         (places path.now at other.now other_at)) }
 {
     let line = at.line;
-    // As wide as the sums need.
+    // The columns may be the largest `usize`, so the sums need more bits.
     let column = at.column as u128 + 1;
     let other_line = other_at.line;
     let other_column = other_at.column as u128 + 1;
@@ -68,8 +68,10 @@ fn write_places<W: Write>(
     )
 }
 
-/// Fails with `Fault` where a text doesn't parse, with the place of what is at fault, with `MapFull` where it is too
-/// long, and with `Memory`.
+/// Checks that a text parses.
+///
+/// Returns `Fault` with the line and column of the part that is wrong if the text doesn't parse, `MapFull` if it is too
+/// long, and `Memory` if memory runs out.
 pub fn check_text(alloc: Global, text: &str) -> Result<(), Failure> {
     match explain(alloc, text) {
         Ok(None) => Ok(()),

@@ -10,8 +10,9 @@ use crate::words::Words;
 use pm_token::parts::TextBuilder;
 use std::alloc::{AllocError, Global};
 
-/// Where two texts differ first in their tokens, and in their comments too if `comments` says so: what each has from
-/// there on, or nothing where it ends before. None where they are the same.
+/// Returns where two texts first differ in their tokens and, if `comments` is true, in their comments. The result is
+/// the rest of each text from there on, which is empty if the text has no more words. Returns `None` if the texts are
+/// the same.
 pub fn difference<'a>(
     alloc: Global,
     comments: bool,
@@ -34,7 +35,7 @@ pub fn difference<'a>(
     }
 }
 
-/// Whether the other is the same word.
+/// Whether there is another word and it is the same as the first.
 fn is_same(alloc: Global, one: Said<'_>, other: Option<Said<'_>>) -> Result<bool, AllocError>
     requires one { HasText one }
     requires other { IfSome other HasText }
@@ -46,7 +47,7 @@ fn is_same(alloc: Global, one: Said<'_>, other: Option<Said<'_>>) -> Result<bool
     }
 }
 
-/// Whether both are the same word.
+/// Whether the two words are the same.
 fn is_alike(alloc: Global, one: Said<'_>, other: Said<'_>) -> Result<bool, AllocError>
     requires one { HasText one }
     requires other { HasText other }
@@ -68,7 +69,7 @@ fn is_alike(alloc: Global, one: Said<'_>, other: Said<'_>) -> Result<bool, Alloc
     })
 }
 
-/// Whether the literal is the string literal of the text.
+/// Whether the literal is the one that `Literal::string` writes for the text.
 fn is_string_of(alloc: Global, text: &str, literal: &str) -> Result<bool, AllocError>
     ensures { IfOk result (λ same. IsTrue same ↔ string_text (chars text.now) ≡ chars literal.now) }
 {

@@ -1,13 +1,13 @@
-//! Says whether two files have the same tokens, and with `--comments` the same comments too.
+//! Says whether two files have the same tokens and, with `--comments`, the same comments too.
 //!
-//! `same [--comments] A B` compares two files; `-` is standard input. Where they are the same it writes nothing, else
-//! both places of the first token or comment that differs, `A:L:C: differs from B:L:C`, lines and columns from 1,
-//! columns in characters. White space isn't compared, and without `--comments` a doc comment is the attribute that it
-//! stands for.
+//! `same [--comments] A B` compares two files, where `-` is standard input. If they are the same it writes nothing.
+//! Otherwise it writes where the first token or comment that differs is in both files: `A:L:C: differs from B:L:C`.
+//! Lines and columns count from 1, and columns are characters. White space isn't compared. Without `--comments` a doc
+//! comment counts as the attribute that it is read as.
 //!
-//! The status is 0 where they are the same, 1 where they differ, and 2 where the words ask for nothing, a text has a
-//! fault, a read or a write failed, a text isn't UTF-8 or is too long, or memory ran out. A line on standard error says
-//! why.
+//! The status is 0 if the files are the same and 1 if they differ. It is 2 if the command line is wrong, if a text has
+//! a syntax error, isn't UTF-8 or is too long, if a read or a write failed, or if memory ran out. Then a line on
+//! standard error says why.
 #![tactic(auto)]
 
 mod answer;
@@ -30,7 +30,7 @@ fn main(rt: HostRuntime) -> ExitCode {
     }
 }
 
-/// Compares what the words after the program's name ask for, and answers the status.
+/// Compares the files that the command line names, and returns the exit status.
 fn run(rt: &HostRuntime) -> Result<u8, Failure> {
     let words = words(rt.alloc(), env::args(rt), USAGE)?;
     match words.as_slice() {
@@ -44,7 +44,7 @@ fn run(rt: &HostRuntime) -> Result<u8, Failure> {
     }
 }
 
-/// Compares the files at these paths, and answers the status.
+/// Compares the files at these paths, and returns the exit status.
 fn compare_files(
     rt: &HostRuntime,
     comments: bool,
@@ -72,7 +72,8 @@ fn compare_files(
     }
 }
 
-/// The text of the file at this path. Where it isn't had or has a fault, a line on standard error says so.
+/// Returns the text of the file at this path. If it cannot be read or has a syntax error, it writes why to standard
+/// error.
 fn text_at(rt: &HostRuntime, path: &str) -> Option<String> {
     match checked(rt, path) {
         Ok(text) => Some(text),
@@ -83,7 +84,7 @@ fn text_at(rt: &HostRuntime, path: &str) -> Option<String> {
     }
 }
 
-/// The text of the file at this path, which has no fault.
+/// Returns the text of the file at this path, if it has no syntax error.
 fn checked(rt: &HostRuntime, path: &str) -> Result<String, Failure> {
     let text = read_text(rt, path)?;
     check_text(rt.alloc(), text.as_str())?;

@@ -1,11 +1,12 @@
-//! Places of a text.
+//! Lines and columns in a text.
 ghost use Rattle.std.specs.Prelude.{◌≡◌, ◌++◌, ℕ, List, length};
 ghost use Rattle.std.specs.Str.{chars, encode_utf8_all};
 ghost use Rattle.proc_macro2.specs.CharOffset.{line_column};
 
 use proc_macro2::LineColumn;
 
-/// The line and the column of what follows so many bytes of the text. Lines count from 1, columns in characters from 0.
+/// Returns the line and column after the first `bytes` bytes of the text. Lines count from 1, and columns count
+/// characters from 0.
 pub fn place_at(text: &str, bytes: usize) -> LineColumn
     ensures { (front rest : List ℕ) → chars text.now ≡ front ++ rest → bytes ≡ length (encode_utf8_all front)
         → result ≡ line_column (chars text.now) (length front) }

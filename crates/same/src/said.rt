@@ -5,31 +5,31 @@ ghost use Rattle.same.specs.Said.{step_after};
 
 use pm_token::Delimiter;
 
-/// A token, an opener or a closer, or a comment.
+/// One word: a token, an opener, a closer or a comment.
 #[derive(Clone, Copy)]
 pub enum Said<'a> {
     /// An identifier: whether it is raw, and its name.
     Name(bool, &'a str),
-    /// A mark, after whether it is Joint.
+    /// A mark: whether it is Joint, and its character.
     Mark(bool, char),
     /// A literal as it is written.
     Literal(&'a str),
-    /// The string literal of what a doc comment says.
+    /// The string literal for the text of a doc comment, given by that text.
     DocText(&'a str),
     /// The opener of a group.
     Opener(Delimiter),
     /// The closer of a group.
     Closer(Delimiter),
-    /// A comment, where comments are compared.
+    /// A comment, which is a word only if comments are compared.
     Comment(&'a str),
 }
 
-/// Which token comes next of the attribute that a doc comment stands for.
+/// The next token of the attribute that a doc comment is read as.
 #[derive(Clone, Copy)]
 pub enum DocStep {
-    /// `#`, before `[`.
+    /// `#` of an outer attribute, before `[`.
     Hash,
-    /// `#`, before `!`.
+    /// `#` of an inner attribute, before `!`.
     InnerHash,
     /// `!`.
     Bang,
@@ -39,20 +39,20 @@ pub enum DocStep {
     Name,
     /// `=`.
     Equals,
-    /// The string literal.
+    /// The string literal with the comment's text.
     Text,
     /// `]`.
     Closer,
 }
 
-/// The mark, Alone.
+/// Returns the mark with the spacing Alone.
 pub fn alone<'a>(mark: char) -> Said<'a>
     ensures { result ≡ Said.Mark false mark }
 {
     Said::Mark(false, mark)
 }
 
-/// The step after it.
+/// Returns the step after this one, if there is one.
 pub fn after(step: DocStep) -> Option<DocStep>
     ensures { result ≡ step_after step }
 {
@@ -67,7 +67,7 @@ pub fn after(step: DocStep) -> Option<DocStep>
     }
 }
 
-/// The delimiter of an opener or a closer.
+/// Returns the delimiter of an opener or a closer.
 pub fn delimiter(c: char) -> Delimiter
     ensures { result ≡ delimiter_of c }
 {

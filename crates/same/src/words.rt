@@ -1,4 +1,4 @@
-//! What is compared of a text: its tokens, one after another, and perhaps its comments.
+//! The words of a text that are compared: its tokens in order and, if wanted, its comments.
 ghost use Rattle.std.specs.Prelude.{◌≡◌, ◌+◌, ◌*◌, ◌<◌, ◌∷◌, [], Bool, IfNone, IfSome, List, ℕ, None, length, true};
 ghost use Rattle.std.specs.Str.{IsUtf8, chars};
 ghost use Rattle.lexical.specs.Piece.{Piece};
@@ -9,12 +9,12 @@ use lexical::parts::begins;
 use lexical::{PieceKind, PieceWalk, PlacedPiece, pieces};
 use pm_token::Delimiter;
 
-/// The words of a text that are left.
+/// The words that are left of a text.
 #[derive(Drop)]
 pub struct Words<'a> {
     walk: PieceWalk<'a>,
     comments: bool,
-    // What is left of a doc comment, and what it says.
+    // The next token of a doc comment that is being read, if there is one, and the comment's text.
     step: Option<DocStep>,
     doc: &'a str,
     ghost doc_text: { ∥ IsUtf8 doc.now ∥₁ },
@@ -26,8 +26,8 @@ impl<'a> Words<'a> {
     ghost use Rattle.same.specs.Said.{HasText, Placed, doc_from, doc_left, step_after, word_of};
     ghost use Rattle.same.specs.Words.{ComesFirst, Covers, piece_words, placed_onto, size, words_left};
 
-    /// All words of a text: its tokens, and its comments too if `comments` says so. Then a doc comment is a comment,
-    /// and else the attribute that it stands for.
+    /// Returns all words of a text: its tokens and, if `comments` is true, its comments. Without comments a doc comment
+    /// counts as the attribute that it is read as.
     pub fn new(text: &'a str, comments: bool) -> Words<'a>
         ensures walk { result.walk.rest.now ≡ text.now }
         ensures front { result.walk.at_front ≡ true }
@@ -42,7 +42,8 @@ impl<'a> Words<'a> {
             here: text,
         }
     }
-    /// The next word, from which `here` is the text then on. None at the end, where `here` is empty.
+    /// Returns the next word, and sets `here` to the text from that word on. Returns `None` at the end, where `here` is
+    /// empty.
     #[inline(always)]
     pub fn next(&mut self) -> Option<Said<'a>>
         ensures first { IfSome result (λ said. (xs : List Piece) → Covers self.old.walk xs
@@ -52,7 +53,7 @@ impl<'a> Words<'a> {
             × (chars self.new.here.now ≡ [])) }
         ensures smaller { IfSome result (λ _. size self.new < size self.old) }
     {
-        // In its callers' loops the walk stays in registers, as in `next_piece`.
+        // The inlined body lets the loops of the callers keep the walk in registers, as `next_piece` does.
         if let Some(step) = self.step {
             return Some(self.take_step(step));
         }
@@ -65,7 +66,7 @@ impl<'a> Words<'a> {
         }
     }
 
-    /// The first word of the piece, if it has one.
+    /// Returns the first word of the piece, if it has one.
     fn begin(&mut self, next: PlacedPiece<'a>) -> Option<Said<'a>>
         requires lends { LendsText next.piece.kind }
         requires piece { IsUtf8 next.text.now }
@@ -105,7 +106,7 @@ impl<'a> Words<'a> {
         }
     }
 
-    /// The token of this step of the doc comment.
+    /// Returns the token of this step of the doc comment.
     fn take_step(&mut self, step: DocStep) -> Said<'a>
         ensures first { (here : List ℕ) (more : List Placed)
             → placed_onto (doc_from step (chars self.old.doc.now)) here more
@@ -129,7 +130,7 @@ impl<'a> Words<'a> {
         }
     }
 
-    /// What the doc comment says.
+    /// Returns the text of the doc comment.
     fn doc_text(&self) -> &'a str
         ensures same { result.now ≡ self.now.doc.now }
         ensures utf8 { IsUtf8 result.now }

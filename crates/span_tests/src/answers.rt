@@ -1,4 +1,4 @@
-//! Asks a map, and compares what it answers with what a plain walk gives.
+//! Calls the look-ups of a map, and compares their results with those of a plain walk over the text.
 ghost use Rattle.pm_span.specs.Files.{Holds};
 
 use crate::plain::PlainFile;
@@ -9,7 +9,7 @@ use std::alloc::Global;
 use std::process::Abort;
 use std::test::Fail;
 
-/// What a span is asked.
+/// A kind of look-up of a span.
 #[derive(Clone, Copy, Debug)]
 pub enum LookUp {
     Bytes,
@@ -17,20 +17,20 @@ pub enum LookUp {
     Lines,
 }
 
-/// All of them.
+/// All kinds of look-ups.
 pub const LOOK_UPS: &[LookUp] = &[LookUp::Bytes, LookUp::Text, LookUp::Lines];
 
-/// All answers of a test, as one number.
+/// The results of a test, as one number.
 #[derive(Clone, Copy)]
 pub struct Digest {
-    /// FNV-1a of 64 bits, over all numbers and texts that were answered.
+    /// FNV-1a with 64 bits, over all numbers and texts that were returned.
     pub value: u64,
-    /// How many spans were asked.
+    /// The number of spans that were looked up.
     pub asked: u32,
 }
 
 impl Digest {
-    /// That of no answer.
+    /// The digest of no result.
     pub fn new() -> Digest {
         Digest {
             value: 0xcbf29ce484222325,
@@ -38,18 +38,18 @@ impl Digest {
         }
     }
 
-    /// One answer more.
+    /// Adds a number to the digest.
     fn add(&mut self, answer: u64) {
         self.value = (self.value ^ answer).wrapping_mul(0x100000001b3);
     }
 
-    /// A line and a column more.
+    /// Adds a line and a column to the digest.
     fn add_place(&mut self, place: LineColumn) {
         self.add(place.line as u64);
         self.add(place.column as u64);
     }
 
-    /// A text more.
+    /// Adds a text to the digest.
     fn add_text(&mut self, text: &str) {
         self.add(text.len() as u64);
         for byte in text.bytes() {
@@ -58,7 +58,7 @@ impl Digest {
     }
 }
 
-/// Asserts that the test of this name answered as the record says.
+/// Asserts that the digest of the test with this name is the recorded one.
 pub fn compare(rt: &impl Abort, name: &str, digest: Digest) -> Result<(), Fail> {
     let recorded = RECORDED.iter().find(|record| record.0 == name);
     let recorded = recorded.map(|record| record.1);
@@ -66,18 +66,18 @@ pub fn compare(rt: &impl Abort, name: &str, digest: Digest) -> Result<(), Fail> 
     Ok(())
 }
 
-/// A map, and its texts.
+/// A map, with its texts.
 #[derive(Drop)]
 pub struct Maps {
     alloc: Global,
     map: SourceMap,
     files: Vec<PlainFile>,
-    /// The last position of the last file.
+    /// The position at the end of the last file.
     pub last: u32,
 }
 
 impl Maps {
-    /// A map with no file but file 0.
+    /// Makes a map that has only file 0.
     pub fn new(alloc: Global) -> Maps {
         Maps {
             alloc,
@@ -87,7 +87,7 @@ impl Maps {
         }
     }
 
-    /// Adds the text, and says where it begins.
+    /// Adds the text, and returns the position at which it begins.
     pub fn add(&mut self, rt: &impl Abort, text: &str) -> Result<u32, Fail> {
         let Some(lo) = fits(&self.map, text) else {
             assert!(rt; false, "the text fits");
@@ -101,15 +101,15 @@ impl Maps {
         Ok(lo)
     }
 
-    /// Takes the files away.
+    /// Removes the files.
     pub fn invalidate(&mut self) {
         self.map.invalidate();
         self.files.clear();
         self.last = 0;
     }
 
-    /// Asserts that the map answers what a walk over the text gives, of the positions from `lo` up to `hi`, if a file
-    /// has them, and adds the answers to the digest.
+    /// Looks up the positions from `lo` to `hi`, and adds the results to the digest. It asserts that the map holds
+    /// the span exactly if a file has it, and that the results are those of a plain walk.
     pub fn ask(
         &mut self,
         rt: &impl Abort,
@@ -139,7 +139,7 @@ impl Maps {
     }
 }
 
-/// Asks for the bytes of a span.
+/// Looks up the bytes of a span.
 fn ask_bytes(
     rt: &impl Abort,
     digest: &mut Digest,
@@ -160,7 +160,7 @@ fn ask_bytes(
     assert_eq!(rt; bytes, plain, "of {lo}..{hi}");
 }
 
-/// Asks for the text of a span, copied and lent.
+/// Looks up the text of a span, copied and borrowed.
 fn ask_text(
     rt: &impl Abort,
     digest: &mut Digest,
@@ -181,7 +181,7 @@ fn ask_text(
     Ok(())
 }
 
-/// Asks for the lines and columns of a span.
+/// Looks up the lines and columns of a span.
 fn ask_lines(
     rt: &impl Abort,
     digest: &mut Digest,

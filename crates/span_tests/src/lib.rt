@@ -1,7 +1,7 @@
-//! Tests of pm_span: look-ups answer what a plain walk over the texts gives, and what they answered before.
+//! Tests of `pm_span`: look-ups return what a plain walk over the texts gives, and what they returned before.
 //!
-//! The walk (`plain`) knows nothing of indexes, of what was found before, or of the old code. The record (`recorded`)
-//! shows where answers change. What a map keeps for later look-ups is no answer, and nothing here asks for it.
+//! The walk (`plain`) uses no index and nothing of the tested code. The record (`recorded`) shows if results
+//! change. What a map keeps for later look-ups is not tested.
 #![tactic(auto)]
 
 #[cfg(test)]

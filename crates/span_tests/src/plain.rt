@@ -1,9 +1,9 @@
-//! What look-ups should answer, by a walk over all characters of a text each time.
+//! What look-ups should return, found by a walk over all characters of a text each time.
 use pm_span::LineColumn;
 use std::alloc::{AllocError, Global};
 use std::ops::Range;
 
-/// A text and the positions before its first character and after its last one.
+/// A text, with the positions before its first character and after its last one.
 #[derive(Drop)]
 pub struct PlainFile {
     text: String,
@@ -11,7 +11,7 @@ pub struct PlainFile {
     hi: u32,
 }
 
-/// An offset of a text: the characters and the bytes before it, its line and its column.
+/// An offset of a text: the numbers of characters and bytes before it, its line and its column.
 #[derive(Clone, Copy)]
 struct Place {
     chars: u32,
@@ -21,7 +21,7 @@ struct Place {
 }
 
 impl Place {
-    /// The offset after a character.
+    /// Returns the offset after one more character.
     fn after(self, c: char) -> Place {
         let is_feed = c == '\n';
         Place {
@@ -38,7 +38,7 @@ impl Place {
 }
 
 impl PlainFile {
-    /// The file of this text that begins at `lo`.
+    /// Makes the file of this text, which begins at `lo`.
     pub fn new(alloc: Global, text: &str, lo: u32) -> Result<PlainFile, AllocError> {
         let mut hi = lo;
         for _ in text.chars() {
@@ -51,17 +51,17 @@ impl PlainFile {
         })
     }
 
-    /// The position after its last character.
+    /// Returns the position after the last character.
     pub fn hi(&self) -> u32 {
         self.hi
     }
 
-    /// Whether it has all positions from `lo` up to `hi`.
+    /// Returns whether the file has all positions from `lo` to `hi`.
     pub fn has(&self, lo: u32, hi: u32) -> bool {
         self.lo <= lo && hi <= self.hi
     }
 
-    /// The place of one of its positions.
+    /// Returns the offset at one of the file's positions.
     fn place(&self, position: u32) -> Place {
         let offset = position.saturating_sub(self.lo);
         let mut place = Place {
@@ -79,20 +79,20 @@ impl PlainFile {
         place
     }
 
-    /// The line and column of one of its positions.
+    /// Returns the line and column at one of the file's positions.
     pub fn line_column(&self, position: u32) -> LineColumn {
         let Place { line, column, .. } = self.place(position);
         LineColumn { line, column }
     }
 
-    /// The bytes that its positions from `lo` up to `hi` take.
+    /// Returns the byte offsets of the positions `lo` and `hi`.
     pub fn byte_range(&self, lo: u32, hi: u32) -> Range<usize> {
         let start = self.place(lo).bytes;
         let end = self.place(hi).bytes;
         start..end
     }
 
-    /// Their text.
+    /// Returns the text between the positions `lo` and `hi`.
     pub fn text_between(&self, lo: u32, hi: u32) -> Option<&str> {
         self.text.as_str().get(self.byte_range(lo, hi))
     }

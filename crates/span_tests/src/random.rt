@@ -5,17 +5,17 @@ ghost use Rattle.std.specs.Prelude.{◌<◌, length};
 /// A source of random numbers.
 #[derive(Drop)]
 pub struct Random {
-    /// The last number, which isn't 0.
+    /// The last number, which is not 0.
     state: u64,
 }
 
 impl Random {
-    /// The numbers of this seed, which isn't 0.
+    /// Makes the source with this seed, which must not be 0.
     pub fn new(seed: u64) -> Random {
         Random { state: seed }
     }
 
-    /// A number below the bound, which isn't 0.
+    /// Returns a number below the bound, which must not be 0.
     pub fn below(&mut self, bound: u64) -> u64
         requires { 0 < bound }
         ensures { result < bound }
@@ -26,12 +26,12 @@ impl Random {
         self.state % bound
     }
 
-    /// A number up to this one.
+    /// Returns a number that is at most `most`.
     pub fn up_to(&mut self, most: u32) -> u32 {
         u32::try_from(self.below(most as u64 + 1)).unwrap_or(0)
     }
 
-    /// One of these values, of which there are some.
+    /// Returns one of these values. There must be at least one.
     pub fn one_of<T: Copy>(&mut self, values: &[T]) -> T
         requires { 0 < length values.now }
     {

@@ -5,10 +5,10 @@ use crate::texts::random_text;
 use std::process::Abort;
 use std::test::Fail;
 
-/// How many maps are made.
+/// The number of maps that are made.
 const MAPS: u32 = 150;
 
-/// Asks of a random span, which begins anywhere or near the one before, and says where it begins.
+/// Looks up a random span, which begins anywhere or near the one before, and returns where it begins.
 fn ask_some(
     rt: &(impl Abort + AllocGlobal),
     random: &mut Random,

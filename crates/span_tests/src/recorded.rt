@@ -1,7 +1,7 @@
-//! What look-ups answered when this was last remade: all answers of each test, as one number.
+//! The results of all look-ups of each test, as one number, when the record was last made.
 //!
-//! It detects change and proves nothing right. `checks/record_spans` remakes it; the commit that does so says which
-//! answers moved, and why.
+//! The record detects changes; it does not show that results are right. `checks/record_spans` makes it again. A
+//! commit that does so says which results changed, and why.
 
 /// Each test with its number.
 pub const RECORDED: &[(&str, u64)] = &[

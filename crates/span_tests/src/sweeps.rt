@@ -1,10 +1,10 @@
-//! Maps and look-ups by system, on both sides of each threshold.
+//! Systematic maps and look-ups, on both sides of each threshold.
 use crate::answers::{Digest, LOOK_UPS, LookUp, Maps, compare};
 use crate::texts::{lines, wide_line};
 use std::process::Abort;
 use std::test::Fail;
 
-/// Asks of one line of characters of one byte to four: from an offset on, one that stands so far, and one so far back.
+/// Looks up spans from an offset of one line on, and up to `far` characters after and before it.
 fn ask_far(
     rt: &(impl Abort + AllocGlobal),
     digest: &mut Digest,
@@ -38,7 +38,7 @@ fn walks_of_each_length_answer_as_they_did(rt: HostRuntime) -> Result<(), Fail> 
     compare(&rt, "walks", digest)
 }
 
-/// Asks of each position of a text of lines.
+/// Looks up spans at each position of a text.
 fn ask_each(
     rt: &(impl Abort + AllocGlobal),
     digest: &mut Digest,

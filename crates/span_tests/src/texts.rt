@@ -1,11 +1,11 @@
-//! Texts to look up spans in.
+//! Texts in which spans are looked up.
 use crate::random::Random;
 use std::alloc::{AllocError, Global};
 
-/// Characters of one byte to four.
+/// Characters that take one to four bytes.
 const WIDE: &[char] = &['a', '\u{e9}', '\r', '\u{20ac}', 'z', '\u{1f600}', ' '];
 
-/// One line of so many characters, of one byte to four in turn.
+/// Makes one line of `count` characters, which take one to four bytes in turn.
 pub fn wide_line(alloc: Global, count: u32) -> Result<String, AllocError> {
     let mut text = String::new(alloc);
     for number in 0..count {
@@ -14,7 +14,7 @@ pub fn wide_line(alloc: Global, count: u32) -> Result<String, AllocError> {
     Ok(text)
 }
 
-/// So many lines, of which every so many-th isn't ASCII; none where it is 0.
+/// Makes `count` lines, of which every `wide`-th isn't ASCII, or none if `wide` is 0.
 pub fn lines(alloc: Global, count: u32, wide: u32) -> Result<String, AllocError> {
     let mut text = String::new(alloc);
     for number in 0..count {
@@ -27,7 +27,7 @@ pub fn lines(alloc: Global, count: u32, wide: u32) -> Result<String, AllocError>
     Ok(text)
 }
 
-/// A random text of up to so many characters: ASCII, or with lines of both kinds.
+/// Makes a random text of at most `most` characters, with lines of ASCII, or with lines of both kinds.
 pub fn random_text(alloc: Global, random: &mut Random, most: u32) -> Result<String, AllocError> {
     let mut text = String::new(alloc);
     let count = random.up_to(most);

@@ -1,5 +1,5 @@
-//! The laws of parsed and printed streams, asked of many texts, of each beginning of each, and of the two parts into
-//! which each of its byte offsets cuts it.
+//! Tests the laws of parsed and printed streams on many texts, on each beginning of each text, and on the two parts
+//! before and after each of its byte offsets.
 
 use crate::checks::{parsed, repeated};
 use pm_span::parts::bounds;
@@ -204,7 +204,8 @@ const FAULTY: &[&str] = &[
     "''''",
 ];
 
-/// Whether a parsed stream is well spaced, and comes back from its printed text, which is then printed the same.
+/// Whether a parsed stream is well spaced, and its printed text parses to the same tokens and is printed the same
+/// again.
 fn comes_back(alloc: Global, stream: &TokenStream) -> Result<bool, ParseError> {
     let text = format!(in alloc; "{stream}")?;
     let again = parsed(alloc, text.as_str())?;
@@ -213,8 +214,8 @@ fn comes_back(alloc: Global, stream: &TokenStream) -> Result<bool, ParseError> {
     Ok(same && stream.is_well_spaced() && again_text == text)
 }
 
-/// Asserts that the text parses to a stream that comes back from its printed text, or else has a fault at one of its
-/// byte offsets; and whether it parses, where that is known.
+/// Asserts that the text parses to a stream that comes back from its printed text, or that it has a fault at one of its
+/// positions. If `parses` is given, also asserts whether the text parses.
 fn check_text(rt: &(impl Abort + AllocGlobal), text: &str, parses: Option<bool>) {
     let stream = parsed(rt.alloc(), text);
     if let Some(parses) = parses {
@@ -240,7 +241,7 @@ fn gives_both(alloc: Global, text: &str, streams: [TokenStream; 2]) -> Result<bo
     Ok(parsed(alloc, text)?.same_tokens(&both))
 }
 
-/// Asserts that the two texts with a line feed between them have the trees of both, where each parses and the second
+/// Asserts that the two texts with a line feed between them have the trees of both, if each parses and the second
 /// doesn't begin with U+FEFF.
 fn check_joined(rt: &(impl Abort + AllocGlobal), first: &str, second: &str) {
     if second.starts_with('\u{feff}') {
@@ -258,7 +259,7 @@ fn joined(alloc: Global, first: &str, second: &str) -> Result<String, AllocError
     format!(in alloc; "{first}\n{second}")
 }
 
-/// Asserts the laws of the text, of each of its beginnings, and of the two parts at each of its byte offsets.
+/// Asserts the laws for the text, for each of its beginnings, and for the two parts at each of its byte offsets.
 fn check_beginnings(rt: &(impl Abort + AllocGlobal), text: &str, parses: bool) {
     check_text(rt, text, Some(parses));
     check_joined(rt, text, "");

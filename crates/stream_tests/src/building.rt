@@ -1,4 +1,4 @@
-// Streams that are built of trees, of other streams and of tokens.
+// Tests of streams that are built from trees, other streams and tokens.
 use crate::checks::{displays, parsed, shows};
 use pm_span::parts::span_of;
 use pm_stream::parts::group;
@@ -10,7 +10,7 @@ use std::alloc::{AllocError, Global};
 use std::process::Abort;
 use std::test::Fail;
 
-/// The identifier `x`, which stands in no file.
+/// The identifier `x`, which is in no file.
 fn x(alloc: Global) -> Result<Ident, IdentError> {
     Ident::new(alloc, "x", Span::call_site())
 }
@@ -20,7 +20,7 @@ fn only_x(alloc: Global) -> Result<TokenStream, IdentError> {
     Ok(TokenStream::from_tree(alloc, TokenTree::Ident(x(alloc)?))?)
 }
 
-/// The group of this stream, which stands in no file.
+/// The group of this stream, which is in no file.
 fn grouped(delimiter: Delimiter, stream: TokenStream) -> Group {
     group(delimiter, stream, Span::call_site())
 }
@@ -114,7 +114,7 @@ fn tokens_of_each_kind_are_put_in(rt: HostRuntime) -> Result<(), Fail> {
     Ok(())
 }
 
-/// The stream of nothing, of what another has, and of `-3i32`.
+/// The stream of an empty stream, of the other stream, and of `-3i32`.
 fn three_streams(alloc: Global, other: &TokenStream) -> Result<TokenStream, Fail> {
     let again = other.clone()?;
     let minus = TokenStream::from_tree(alloc, TokenTree::Literal(minus_three(alloc)?))?;
@@ -122,7 +122,7 @@ fn three_streams(alloc: Global, other: &TokenStream) -> Result<TokenStream, Fail
     Ok(TokenStream::from_streams(alloc, [nothing, again, minus])?)
 }
 
-/// Adds what another stream has twice.
+/// Appends the trees of the other stream twice.
 fn add_twice(stream: &mut TokenStream, other: &TokenStream) -> Result<(), Fail> {
     stream.extend_streams([other.clone()?, other.clone()?])?;
     Ok(())
@@ -179,7 +179,7 @@ fn two_trees(alloc: Global) -> Result<Vec<TokenTree>, Fail> {
     Ok(trees)
 }
 
-/// The stream of these trees twice, as std collects it.
+/// The stream of the trees `x` and `-3i32` twice, as std collects it.
 fn collected(alloc: Global) -> Result<TokenStream, Fail> {
     let stream: TokenStream = two_trees(alloc)?.into_iter().collect(alloc)?;
     let streams = vec![in alloc; stream.clone()?, stream]?;

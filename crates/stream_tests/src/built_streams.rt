@@ -1,4 +1,4 @@
-// Streams that no text gives: groups without delimiters, trees that stand in no file.
+// Tests of streams that no text parses to: with groups without delimiters, or trees that are in no file.
 ghost use Rattle.std.specs.Prelude.{IfOk};
 ghost use Rattle.pm_stream.specs.Trees.{GoesInside};
 
@@ -24,7 +24,7 @@ fn plus(spacing: Spacing) -> TokenTree
     TokenTree::Punct(punct('+', spacing, Span::call_site()))
 }
 
-/// The group of this stream, which stands at the span.
+/// The group of this stream, with this span.
 pub fn grouped(delimiter: Delimiter, stream: TokenStream, span: Span) -> TokenTree
     ensures { GoesInside result }
 {
@@ -55,7 +55,7 @@ fn three(
     stream(alloc, vec![in alloc; first, second, third]?)
 }
 
-/// The group of no tree, which stands in no file.
+/// The group without trees, which is in no file.
 pub fn empty_group(alloc: Global, delimiter: Delimiter) -> TokenTree
     ensures { GoesInside result }
 {
@@ -113,7 +113,7 @@ fn a_mark_with_no_span_is_shown_on_lines(rt: HostRuntime) -> Result<(), AllocErr
     Ok(())
 }
 
-/// So many brackets inside one another, each level with marks before and after it.
+/// Bracket groups inside one another, `levels` deep, with marks before and after each.
 fn deep(alloc: Global, levels: u32) -> Result<TokenStream, AllocError> {
     let mut stream = TokenStream::new(alloc);
     for _ in 0..levels {

@@ -1,4 +1,4 @@
-// Which bytes spans take on lines that aren't ASCII, asked for in many orders: no look-up changes the next.
+// Tests which bytes spans take on lines that aren't ASCII, in many orders. No look-up changes the result of the next.
 use crate::checks::held;
 use pm_span::parts::{add_file, fits};
 use proc_macro2::SourceMap;
@@ -21,7 +21,7 @@ const TOKENS: [((u32, u32), (usize, usize)); 3] = [
     ((8, 9), (11, 12)),
 ];
 
-/// Adds the text, which begins at the position that is answered.
+/// Adds the text to the map, and returns the position where it begins.
 fn add(rt: &impl Abort, map: &mut SourceMap, text: &str) -> Result<u32, AllocError> {
     let lo = fits(map, text);
     assert!(rt; lo.is_some(), "the text fits");
@@ -53,7 +53,7 @@ fn check(
     Ok(())
 }
 
-/// Asserts the bytes of these parts in this order, where so many `é` stand before and after the text.
+/// Asserts the bytes of these parts in this order, with `margin` times `é` before and after the text.
 fn check_in_order<const N: usize>(
     rt: &impl Abort,
     alloc: Global,
@@ -122,13 +122,13 @@ fn any_order_of_three_spans_gives_the_same_bytes(rt: HostRuntime) -> Result<(), 
     Ok(())
 }
 
-/// A number below `end`, by the next step of a fixed sequence.
+/// Returns a number below `end`, by the next step of a fixed sequence.
 fn draw(seed: &mut u32, end: u32) -> u32 {
     *seed = seed.wrapping_mul(1664525).wrapping_add(1013904223);
     (*seed >> 8) % end.max(1)
 }
 
-/// A text of so many characters of one to four bytes, and the bytes before each of its characters.
+/// Returns a text of `count` characters of one to four bytes, and the byte offsets of its characters and of its end.
 fn random_text(
     alloc: Global,
     seed: &mut u32,
@@ -150,7 +150,7 @@ fn random_text(
     Ok((text, offsets))
 }
 
-/// Asserts the bytes of a span between two offsets that are drawn.
+/// Asserts the bytes of a span between two random offsets.
 fn check_drawn(
     rt: &impl Abort,
     map: &mut SourceMap,

@@ -1,6 +1,6 @@
-//! Assertions that the rows of the tests share, each about one text that is parsed.
+//! Assertions that the tests share, each about one text that is parsed.
 //!
-//! They stand in functions of their own, since a long function is dear to prove.
+//! They are functions of their own, because a long function takes long to prove.
 ghost use Rattle.pm_span.specs.Files.{Holds};
 
 use pm_span::parts::span_of;
@@ -9,12 +9,12 @@ use std::alloc::{AllocError, Global};
 use std::fmt::{Debug, Display};
 use std::process::Abort;
 
-/// The stream of the text, as the first of a map.
+/// The stream of the text, which is the first file of a new map.
 pub fn parsed(alloc: Global, text: &str) -> Result<TokenStream, ParseError> {
     TokenStream::from_str(text, &mut SourceMap::new(alloc))
 }
 
-/// The parts one after the other, each so many times.
+/// The parts one after the other, each the given number of times.
 pub fn repeated(alloc: Global, parts: &[(&str, u32)]) -> Result<String, AllocError> {
     let mut text = String::new(alloc);
     for (part, count) in parts {
@@ -42,13 +42,13 @@ pub fn check_same(rt: &(impl Abort + AllocGlobal), text: &str, other: &str, same
     assert_eq!(rt; found, same, "of {text:?} and {other:?}");
 }
 
-/// Asserts that the stream of `text`, as the next text of the map, is shown as `want`.
+/// Asserts that Debug shows `want` for the stream of `text`, which becomes the next text of the map.
 pub fn check_shown(rt: &(impl Abort + AllocGlobal), map: &mut SourceMap, text: &str, want: &str) {
     let found = shown(rt.alloc(), map, text).expect(rt, text);
     assert_eq!(rt; found.as_str(), want, "of {text:?}");
 }
 
-/// The text that the stream of `text`, parsed in a new map, is printed as.
+/// The printed text of the stream of `text`, which is parsed in a new map.
 pub fn printed(alloc: Global, text: &str) -> Result<String, ParseError> {
     let stream = parsed(alloc, text)?;
     Ok(format!(in alloc; "{stream}")?)
@@ -59,14 +59,14 @@ pub fn parses_well_spaced(alloc: Global, text: &str) -> Result<bool, ParseError>
     Ok(parsed(alloc, text)?.is_well_spaced())
 }
 
-/// Whether the two texts, each parsed in a new map, give the same tokens, asked from both sides.
+/// Whether the two texts, each parsed in a new map, give the same tokens, compared in both directions.
 fn are_same(alloc: Global, text: &str, other: &str) -> Result<bool, ParseError> {
     let stream = parsed(alloc, text)?;
     let other = parsed(alloc, other)?;
     Ok(stream.same_tokens(&other) && other.same_tokens(&stream))
 }
 
-/// The text that the stream of `text` is shown as.
+/// What Debug shows for the stream of `text`.
 fn shown(alloc: Global, map: &mut SourceMap, text: &str) -> Result<String, ParseError> {
     let stream = TokenStream::from_str(text, map)?;
     Ok(format!(in alloc; "{stream:?}")?)
@@ -92,7 +92,7 @@ pub fn displays<T: Display>(
     Ok(())
 }
 
-/// Asserts that the value, which is given away, is displayed as this text.
+/// Asserts that the value is displayed as this text, and drops the value.
 pub fn prints<T: Display + Drop>(
     rt: &impl Abort,
     alloc: Global,
@@ -102,7 +102,7 @@ pub fn prints<T: Display + Drop>(
     displays(rt, alloc, &value, want)
 }
 
-/// Asserts that the value shows its parts as this text.
+/// Asserts that Debug shows the value as this text.
 pub fn shows<T: Debug>(
     rt: &impl Abort,
     alloc: Global,
@@ -114,7 +114,7 @@ pub fn shows<T: Debug>(
     Ok(())
 }
 
-/// Asserts that the value is displayed as this text, whatever width or precision is asked for.
+/// Asserts that the value is displayed as this text, whatever width or precision the format has.
 pub fn has_no_width<T: Display>(
     rt: &impl Abort,
     alloc: Global,

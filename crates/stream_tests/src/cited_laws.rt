@@ -1,5 +1,5 @@
-// What callers prove of streams by public items alone: by what the readers promise, and by the laws. None of
-// these functions has a proof file.
+// Facts about streams that callers can prove with public items alone: with the contracts of the readers, and with the
+// laws. None of these functions has a proof file.
 ghost use Rattle.std.specs.Prelude.{◌≡◌, ◌≤◌, ◌↔◌, IfOk, IfSome, IsTrue};
 ghost use Rattle.proc_macro2.specs.Built.{IsBuiltToken};
 ghost use Rattle.proc_macro2.specs.Forest.{IsBuilt};
@@ -16,7 +16,7 @@ use proc_macro2::{
 };
 use std::test::Fail;
 
-/// The stream of a text. It comes back from its printed text.
+/// Parses a text. The stream comes back from its printed text.
 fn read(text: &str, map: &mut SourceMap) -> Result<TokenStream, ParseError>
     ensures { IfOk result (λ stream. Gives 0 (printed stream) stream) }
 {
@@ -25,7 +25,7 @@ fn read(text: &str, map: &mut SourceMap) -> Result<TokenStream, ParseError>
     Ok(stream)
 }
 
-/// Whoever made the stream, it comes back where it is well spaced, and prints a text.
+/// However the stream was made, it comes back from its printed text if it is well spaced, and what it prints is a text.
 fn comes_back(stream: &TokenStream)
     ensures back { IsWellSpaced stream.now → Gives 0 (printed stream.now) stream.now }
     ensures text { IsText (printed stream.now) }
@@ -34,7 +34,7 @@ fn comes_back(stream: &TokenStream)
     laws::printed_comes_back();
 }
 
-/// So does the stream of a group.
+/// The stream of a group comes back from its printed text if it is well spaced.
 fn inside_comes_back(group: &Group)
     ensures { IsWellSpaced group.now.stream → Gives 0 (printed group.now.stream) group.now.stream }
 {
@@ -42,7 +42,7 @@ fn inside_comes_back(group: &Group)
     laws::printed_comes_back();
 }
 
-/// Whether the stream comes back from its printed text: it is asked by one call.
+/// Whether the stream comes back from its printed text. One call decides this.
 fn prints_faithfully(stream: &TokenStream) -> bool
     ensures { IsTrue result ↔ Gives 0 (printed stream.now) stream.now }
 {
@@ -76,7 +76,7 @@ fn each_is_built(stream: &TokenStream) {
     }
 }
 
-/// What an identifier is.
+/// An identifier is a token of the grammar, and its span doesn't end before it begins.
 fn ident_is_built(ident: &Ident)
     ensures token { IsBuiltToken (name_token ident.now) }
     ensures ordered { ident.now.span.lo ≤ ident.now.span.hi }
@@ -84,7 +84,7 @@ fn ident_is_built(ident: &Ident)
     let _ = ident.span();
 }
 
-/// What a mark is.
+/// A mark is a token of the grammar, and its span doesn't end before it begins.
 fn punct_is_built(punct: &Punct)
     ensures token { IsBuiltToken (mark_token punct.now) }
     ensures ordered { punct.now.span.lo ≤ punct.now.span.hi }
@@ -92,7 +92,7 @@ fn punct_is_built(punct: &Punct)
     let _ = punct.span();
 }
 
-/// What a literal is.
+/// A literal has the text of a literal, and its span doesn't end before it begins.
 fn literal_is_built(literal: &Literal)
     ensures text { IsLiteralText literal.now.text }
     ensures ordered { literal.now.span.lo ≤ literal.now.span.hi }
@@ -100,7 +100,7 @@ fn literal_is_built(literal: &Literal)
     let _ = literal.span();
 }
 
-/// What the tree is, by its kind.
+/// Shows what is true of the tree, by its kind.
 fn kind_is_built(tree: &TokenTree) {
     match tree {
         TokenTree::Group(group) => inside_comes_back(group),

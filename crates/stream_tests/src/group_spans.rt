@@ -6,9 +6,10 @@ use proc_macro2::{Delimiter, Group, ParseError, SourceMap, TokenStream, TokenTre
 use std::alloc::{AllocError, Global};
 use std::process::Abort;
 
-/// Where a whole group stands, where it opens and where it closes.
+/// The spans of a whole group, of its opener and of its closer.
 type GroupSpans = ((u32, u32), (u32, u32), (u32, u32));
 
+/// The spans of the group, of its opener and of its closer.
 fn spans_of(group: &Group) -> GroupSpans {
     (
         bounds(group.span()),
@@ -25,7 +26,7 @@ fn spans_of_delimiters(span: DelimSpan) -> GroupSpans {
     )
 }
 
-/// Asserts where the group and its delimiters stand.
+/// Asserts the spans of the group and its delimiters.
 fn check_spans(rt: &impl Abort, group: &Group, want: GroupSpans) {
     assert_eq!(rt; spans_of(group), want, "of the group");
     assert_eq!(rt;
@@ -35,7 +36,7 @@ fn check_spans(rt: &impl Abort, group: &Group, want: GroupSpans) {
     );
 }
 
-/// Asserts where the first tree of the text, which has to be a group, stands in a new map.
+/// Asserts the spans of the first tree of the text in a new map. The tree must be a group.
 fn check_first(
     rt: &(impl Abort + AllocGlobal),
     text: &str,
@@ -80,7 +81,7 @@ fn the_spans_of_delimiters_are_shown_as_the_whole(rt: HostRuntime) -> Result<(),
     Ok(())
 }
 
-/// A group of the group `[]`, which stands at 1..3.
+/// A group of the group `[]`, whose span is 1..3.
 fn nested(alloc: Global) -> Result<TokenTree, ParseError> {
     let mut map = SourceMap::new(alloc);
     let inside = TokenStream::from_str("[]", &mut map)?;

@@ -1,4 +1,4 @@
-// Groups and trees that are made by hand.
+// Tests of groups and trees that are made by hand.
 use crate::checks::{displays, parsed, prints, shows};
 use proc_macro2::{Delimiter, Group, Ident, Literal, Punct, Spacing, Span, TokenStream, TokenTree};
 use std::alloc::Global;

@@ -1,4 +1,5 @@
-// Display fails only where its writer does: no clause can say so, since the trait has no word for a write that fails.
+// Tests that Display fails only if its writer does. No contract can say so, because the trait has no word for a write
+// that fails.
 use crate::checks::{parsed, repeated};
 use pm_stream::TokenTree;
 use std::fmt::Display;
@@ -12,8 +13,8 @@ fn is_written<D: Display>(rt: &(impl Abort + AllocGlobal), value: &D, text: &str
     assert!(rt; found.as_str() == text);
 }
 
-/// Asserts that the text is one tree, and that the stream, this tree, and the tree as a group where it is one, are
-/// written as the text.
+/// Asserts that the text is one tree, and that the stream, this tree, and the tree as a group if it is one, are written
+/// as the text.
 fn one_tree_is_written(rt: &(impl Abort + AllocGlobal), text: &str) -> Result<(), Fail> {
     let stream = parsed(rt.alloc(), text)?;
     is_written(rt, &stream, text);

@@ -1,6 +1,6 @@
-// Streams of random trees: each comes back from its printed text exactly where it is well spaced.
+// Tests of streams of random trees: each comes back from its printed text exactly if it is well spaced.
 //
-// `bench/twin/random_lists.rs` makes the same lists of the same seed, in the same steps, for the Rust crate.
+// `bench/twin/random_lists.rs` makes the same lists from the same seed, in the same steps, for the Rust crate.
 ghost use Rattle.std.specs.Prelude.{◌<◌, length};
 
 use proc_macro2::{
@@ -11,12 +11,12 @@ use std::alloc::{AllocError, Global};
 use std::process::Abort;
 use std::test::Fail;
 
-/// How many streams are made, and how many of them come back. The Rust crate counts the same.
+/// How many streams are made, and how many of them come back. The Rust crate gives the same numbers.
 const STREAMS: u32 = 20000;
 
 const COME_BACK: u32 = 11419;
 
-/// Names that may be plain: also those that begin literals, keywords, and one past ASCII.
+/// Names that may be plain, including prefixes of literals, keywords, and a name that isn't ASCII.
 const NAMES: &[&str] = &[
     "a", "b", "c", "r", "br", "cr", "_", "x1", "e5", "u8", "f64", "fn", "self", "_a", "E", "\u{e9}",
 ];
@@ -30,7 +30,7 @@ const MARKS: &[char] = &[
     '^', '|', '~',
 ];
 
-/// What groups stand between.
+/// The delimiters of groups.
 const DELIMITERS: &[Delimiter] = &[
     Delimiter::Parenthesis,
     Delimiter::Bracket,
@@ -85,7 +85,7 @@ const LITERALS: &[&str] = &[
 /// A source of random trees.
 #[derive(Drop)]
 struct RandomTrees {
-    /// The last number, which isn't 0.
+    /// The last random number, which isn't 0.
     state: u64,
 }
 
@@ -110,7 +110,7 @@ impl RandomTrees {
         Ok(grouped(rt.alloc(), delimiter, inside)?)
     }
 
-    /// Up to 3 trees, whose groups have no groups.
+    /// Up to 3 trees. Their groups have no groups in them.
     fn shallow_trees(&mut self, rt: &(impl Abort + AllocGlobal)) -> Result<Vec<TokenTree>, Fail> {
         let mut trees = Vec::new(rt.alloc());
         for _ in 0..self.below(4) {
@@ -119,7 +119,7 @@ impl RandomTrees {
         Ok(trees)
     }
 
-    /// A tree; if it is a group it has no groups.
+    /// A tree. If it is a group, it has no groups in it.
     fn shallow_tree(&mut self, rt: &(impl Abort + AllocGlobal)) -> Result<TokenTree, Fail> {
         let kind = self.below(13);
         if kind < 11 {
@@ -183,14 +183,14 @@ impl RandomTrees {
         }
     }
 
-    /// One of these values, of which there are some.
+    /// Returns one of these values, of which there must be at least one.
     fn one_of<T: Copy>(&mut self, values: &[T]) -> T
         requires { 0 < length values.now }
     {
         values[self.below(values.len() as u64) as usize]
     }
 
-    /// A number below the bound, which isn't 0.
+    /// Returns a number below the bound, which isn't 0.
     fn below(&mut self, bound: u64) -> u64
         requires { 0 < bound }
         ensures { result < bound }
@@ -222,7 +222,7 @@ fn comes_back(alloc: Global, stream: &TokenStream) -> Result<bool, ParseError> {
     }
 }
 
-/// Asserts that the stream comes back exactly where it is well spaced, and answers whether it does.
+/// Asserts that the stream comes back exactly if it is well spaced, and returns whether it comes back.
 fn check_spacing(
     rt: &(impl Abort + AllocGlobal),
     stream: &TokenStream,

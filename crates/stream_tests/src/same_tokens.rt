@@ -1,4 +1,4 @@
-// Which texts give the same tokens.
+// Tests which texts give the same tokens.
 use crate::checks::check_same;
 
 /// Two texts, and whether they give the same tokens.
@@ -21,7 +21,7 @@ const TEXTS: &[(&str, &str, bool)] = &[
     ("\"\\n\"", "\"\n\"", false),
     ("/// d", "#[doc = \" d\"]", true),
     ("a", "\"a\"", false),
-    // A line is broken between two pieces, or behind a mark or a number, which may be read otherwise.
+    // A line break between two pieces, or after a mark or a number, which may give other tokens.
     ("x // c\ny", "x y", true),
     ("+\n+", "+ +", true),
     ("+\n+", "++", false),

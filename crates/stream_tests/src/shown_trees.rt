@@ -1,4 +1,4 @@
-// What streams and trees show of themselves, and what an empty stream prints.
+// Tests of how Debug shows streams and trees, and of what an empty stream prints.
 use crate::built_streams::{empty_group, grouped, one};
 use crate::checks::{displays, has_no_width, parsed, shows};
 use proc_macro2::{Delimiter, Ident, Span, TokenStream, TokenTree};
@@ -14,7 +14,7 @@ fn an_empty_stream_is_printed_as_nothing(rt: HostRuntime) -> Result<(), AllocErr
     shows(&rt, alloc, &made, "TokenStream []")
 }
 
-/// The stream of a raw identifier that stands in no file.
+/// The stream of a raw identifier that is in no file.
 fn raw_name(alloc: Global, name: &str) -> Result<TokenStream, Fail> {
     let ident = Ident::new_raw(alloc, name, Span::call_site())?;
     Ok(one(alloc, TokenTree::Ident(ident))?)
@@ -41,7 +41,7 @@ fn a_group_at_0_to_0_shows_no_span(rt: HostRuntime) -> Result<(), Fail> {
     Ok(())
 }
 
-/// The stream of the text in a new map, as it is shown on lines.
+/// How Debug shows the stream of the text in a new map, on several lines.
 fn shown_on_lines(alloc: Global, text: &str) -> Result<String, Fail> {
     let stream = parsed(alloc, text)?;
     Ok(format!(in alloc; "{stream:#?}")?)
@@ -70,7 +70,7 @@ fn a_stream_is_shown_on_lines(rt: HostRuntime) -> Result<(), Fail> {
     Ok(())
 }
 
-/// Asserts that each tree of the text is displayed as these, whatever width is asked for.
+/// Asserts that the trees of the text are displayed as these texts, whatever width the format has.
 fn trees_have_no_width(
     rt: &impl Abort,
     alloc: Global,

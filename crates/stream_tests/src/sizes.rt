@@ -1,9 +1,9 @@
-// How many bytes a tree takes, since a long text is many trees.
+// Tests how many bytes a tree takes, because a long text has many trees.
 use proc_macro2::{Group, TokenStream, TokenTree};
 use std::mem::size_of;
 use std::process::Abort;
 
-/// Asserts that the values of a type take so many bytes each.
+/// Asserts that a value of a type takes `want` bytes.
 fn take(rt: &impl Abort, name: &str, bytes: usize, want: usize) {
     assert_eq!(rt; bytes, want, "of {name:?}");
 }

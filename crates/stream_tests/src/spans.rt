@@ -1,4 +1,4 @@
-// What spans give back, of texts that were parsed into one map.
+// Tests of the look-ups of spans, in texts that were parsed into one map.
 use crate::checks::{held, repeated};
 use pm_span::parts::{bounds, span_of};
 use proc_macro2::{LineColumn, SourceMap, Span, TokenStream};
@@ -24,7 +24,7 @@ fn check_look_ups(
     assert_eq!(rt; found, want, "of {positions:?}");
 }
 
-/// Asserts which text the span has, copied and lent.
+/// Asserts the text of the span, copied and borrowed.
 fn check_text(
     rt: &impl Abort,
     map: &mut SourceMap,
@@ -63,7 +63,7 @@ fn check_join(
     assert_eq!(rt; joined.map(bounds), want, "of {first:?} and {lo}..{hi}");
 }
 
-/// Asserts where the trees of `text` stand, as the next text of the map.
+/// Asserts the spans of the trees of `text`, which becomes the next text of the map.
 fn check_spans(
     rt: &(impl Abort + AllocGlobal),
     map: &mut SourceMap,
@@ -91,7 +91,7 @@ fn check_rows(
     Ok(())
 }
 
-/// Parses `x` and `é` so many times in turn, each at the next two positions.
+/// Parses `x` and `é` in turn, `times` times, each at the next two positions.
 fn check_many(
     rt: &(impl Abort + AllocGlobal),
     map: &mut SourceMap,
@@ -265,7 +265,7 @@ fn a_map_shows_its_files(rt: HostRuntime) -> Result<(), Fail> {
     Ok(())
 }
 
-/// A line that is a name of 98 characters, of which the first takes two bytes.
+/// A line with a name of 98 characters, of which the first takes two bytes.
 const LONG_LINE: &str = "\u{e9}bcdefghijklmnopqrstuvwxyzabcdefghijklmnopqrstuvw\
     abcdefghijklmnopqrstuvwxyzabcdefghijklmnopqrstuvw\n";
 

@@ -1,8 +1,8 @@
-// Groups that nest deep.
+// Tests of groups that nest deep.
 use crate::checks::{check_same, count_trees, parses_well_spaced, printed, repeated};
 use std::test::Fail;
 
-/// So many brackets inside one another, around a plus sign.
+/// Brackets inside one another, around a plus sign.
 const DEEP: &[(&str, u32)] = &[("[", 100_000), ("+", 1), ("]", 100_000)];
 
 const DEEPER: &[(&str, u32)] = &[("[", 100_001), ("+", 1), ("]", 100_001)];

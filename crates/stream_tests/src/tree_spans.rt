@@ -1,10 +1,10 @@
-//! Callers of the look-ups of spans, which need neither a test nor a proof that the map holds them.
+//! Callers of the look-ups of spans. They need neither a check nor a proof that the map holds the spans.
 ghost use Rattle.pm_stream.specs.HeldSpans.{HoldsTree};
 
 use proc_macro2::{LineColumn, Literal, ParseError, SourceMap, TokenStream, TokenTree};
 use std::test::Fail;
 
-/// Where the last tree of the text begins that stands in no group.
+/// Where the last tree of the text begins that is in no group.
 fn start_of_last(text: &str, map: &mut SourceMap) -> Result<Option<LineColumn>, ParseError> {
     let stream = TokenStream::from_str(text, map)?;
     let mut last = None;
@@ -14,7 +14,7 @@ fn start_of_last(text: &str, map: &mut SourceMap) -> Result<Option<LineColumn>, 
     Ok(last)
 }
 
-/// Where the last tree of the text begins that stands in at most one group.
+/// Where the last tree of the text begins that is in at most one group.
 fn start_of_last_inside(text: &str, map: &mut SourceMap) -> Result<Option<LineColumn>, ParseError> {
     let stream = TokenStream::from_str(text, map)?;
     let mut last = None;
@@ -24,7 +24,7 @@ fn start_of_last_inside(text: &str, map: &mut SourceMap) -> Result<Option<LineCo
     Ok(last)
 }
 
-/// Where the tree begins, or the last tree in it.
+/// Where the tree begins, or the last tree right inside it if it has one.
 fn start_of_last_in(tree: &TokenTree, map: &SourceMap) -> LineColumn
     requires { HoldsTree map.now tree.now }
 {

@@ -16,7 +16,7 @@ use Rattle.pm_stream.specs.Parsing.{ParsesTo}
 use Rattle.pm_stream.proofs.DocLemmas.{doc_name_built}
 use Rattle.pm_stream.proofs.PieceLemmas.{token_built}
 
--- each token is built and ends no earlier than it begins, and no event comes before one that is before it
+-- whether each token is built and does not end before it begins, and the events ascend
 abbrev Rising : ℕ → List Event → Type 0
 Rising at [] = Unit {0}
 Rising at (One token lo hi ∷ es) = IsBuiltToken token × (at ≤ lo) × (lo ≤ hi) × Rising lo es
@@ -102,7 +102,7 @@ parsed_built base source stream all h =
     (rising_flat stream [] base (subst (Rising base) (sym h.expands)
     (rising_pieces true base h.pieces [] h.covers.stand (subst IsText h.covers.whole all)))).built
 
--- as that of a text of bytes
+-- a text in bytes parses to a built stream
 pub parsed_text_built : (base : ℕ) (text : List ℕ) (stream : Forest) → IsUtf8 text
     → ParsesTo base (chars text) stream → IsBuilt stream
 parsed_text_built base text stream utf8 h = parsed_built base (chars text) stream (scalars-chars text utf8) h

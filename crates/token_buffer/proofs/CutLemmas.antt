@@ -18,7 +18,7 @@ use Rattle.lexical.proofs.CommentKindLemmas.{doc_front, doc_said}
 use Rattle.lexical.proofs.TextLemmas.{ascii_bytes, seam_boundary, seam_bytes, seam_utf8, seam_rest, seam_take}
 use Rattle.token_buffer.specs.Entries.{cut_chars, IsCut}
 
--- the text may be cut from lo to hi, where these characters stand
+-- whether these characters are the text from lo to hi
 pub record IsCutAs (text characters : List ℕ) (lo hi : ℕ) : Type 0 where
   pub within : IsCut lo hi text
   pub says : cut_chars lo hi text ≡ characters
@@ -71,7 +71,7 @@ name_bytes first source piece raw name found is =
           ∙ length-append (encode_utf8_all (raw_front raw)) name.now),
     )
 
--- it has no more bytes than its piece
+-- a name has at most as many bytes as its piece
 pub name_fits : (first : Bool) (source : List ℕ) (piece : Piece) (raw : Bool) (name : Bor (List ℕ))
     → IsPieceAt first source piece → piece.kind ≡ kinds.Name raw name → length name.now ≤ piece.bytes
 name_fits first source piece raw name found is =
@@ -107,7 +107,7 @@ closing_small p r =
     cond_both (begins_with (codes "/*") p) (codes "*/") _ IsSmall (λ e. block)
     (λ e. cond_both (ends_with 13 p && begins_with (codes "\n") r) (13 ∷ []) [] IsSmall (λ f. returned) (λ f. none))
 
--- how a doc comment is made of three characters, its text and what closes it
+-- the parts of a doc comment: three characters, its text and the closing characters
 pub record DocParts (text : List ℕ) (p r : List ℕ) : Type 0 where
   pub front : List ℕ
   pub whole : p ≡ front ++ (text ++ closing p r)

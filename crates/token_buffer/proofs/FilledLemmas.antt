@@ -1,4 +1,4 @@
--- What was put into a buffer, with one step more, and how it ends.
+-- The entries of a buffer after one more step, and at the end of the text.
 use Rattle.std.proofs.Common.{◌≡◌, ℕ, ◌+◌, ◌-◌, ◌<◌, ◌≤◌, ◌^◌, Bool, true, false, List, [], ◌∷◌, ◌++◌, codes, length}
 use Rattle.std.proofs.Common.{refl, sym, ap, ap₂, ◌∙◌, subst, arith, append_assoc, append-nil, length-append}
 use Rattle.std.proofs.Math.ListN.{set}
@@ -87,7 +87,7 @@ fills_by old new more taken step h =
     subst (λ text. HasEntries text.now new.entries.items taken) (sym step.text)
     (subst (λ all. HasEntries old.text.now all taken) (sym step.entries) h)
 
--- the entries of trees
+-- the entries of complete trees are added
 pub fills_trees : (old new : Filling) (taken : Taken OpenGroup) (front : List ℕ) (more : List Entry) (f : Forest)
     → Fills old taken → Puts old new more → Holds old.text.now more f
     → Fills new (past taken front taken.opened (flattening f))
@@ -106,7 +106,7 @@ pub fills_nothing : (filling : Filling) (taken : Taken OpenGroup) (front : List 
 fills_nothing filling taken front h =
     fills_trees filling filling taken front [] nil h (puts_nothing filling) (holds-nil filling.text.now)
 
--- an opener
+-- an opener is added
 pub fills_open : (old new : Filling) (taken : Taken OpenGroup) (front : List ℕ) (x : OpenGroup) → Fills old taken
     → Puts old new (entries.Open x.delimiter x.lo 0 ∷ []) → x.index ≡ length old.entries.items
     → Fills new (past taken front (x ∷ taken.opened) (Opens x.delimiter x.lo ∷ []))
@@ -134,7 +134,7 @@ module _ (old : Filling) (taken : Taken OpenGroup) (x : OpenGroup) (outer : List
   abbrev pub split : AreEntries old.text.now (x ∷ outer) old.entries.items
   split = subst (λ groups. AreEntries old.text.now groups old.entries.items) was h.entries
 
-  -- where the opener of the innermost group stands
+  -- the index of the innermost group's opener
   pub index_fits : x.index + 1 + length split.1 ≡ length old.entries.items
   index_fits = omega (
     arith,
@@ -177,7 +177,7 @@ module _ (old : Filling) (taken : Taken OpenGroup) (x : OpenGroup) (outer : List
         events = events;
       }))
 
--- a doc comment, of whose text this is the entry
+-- the entries of a doc comment, where `entry` is that of its text
 holds_doc : (inner : Bool) (text said : List ℕ) (entry : Entry) (at end : ℕ)
     → event_of text entry ≡ One (Literal (string_text said)) at end → count_of entry ≡ 0 → IsWithin text entry
     → Holds text (doc_entries inner entry at end) (doc_trees at end inner said)
@@ -206,7 +206,7 @@ module _ (old : Filling) (lexed : Lexed) (to : IsTakenTo Fills old lexed) where
   begins : chars text ≡ to.before.passed ++ chars lexed.text.now
   begins = sym to.takes.source ∙ to.source
 
-  -- where the piece stands among the bytes
+  -- the bytes before the piece
   pub bytes_fit : (length (encode_utf8_all to.before.passed) + length lexed.text.now ≡ length text)
       × (lexed.piece.bytes ≤ length lexed.text.now)
   bytes_fit = (
@@ -214,7 +214,7 @@ module _ (old : Filling) (lexed : Lexed) (to : IsTakenTo Fills old lexed) where
     (piece_boundary to.is.first lexed.text.now lexed.piece to.is.utf8 to.is.found).0,
   )
 
-  -- how a doc comment is made
+  -- the parts of a doc comment
   pub doc_made : (inner : Bool) (said : Bor (List ℕ)) → lexed.piece.kind ≡ kinds.Doc inner said
       → DocParts (chars said.now) front to.is.found.rest
       × (length (encode_utf8_all (chars said.now)) ≡ length said.now)
@@ -232,7 +232,7 @@ module _ (old : Filling) (lexed : Lexed) (to : IsTakenTo Fills old lexed) where
       let bytes = to.is.found.bytes in
       (omega (arith, made.0.all_bytes, made.1, bytes), omega (arith, made.0.all_bytes, made.0.few, made.1, bytes))
 
-  -- a token
+  -- a token is added
   pub fills_token : (new : Filling) (entry : Entry) (token : Token) → Puts old new (entry ∷ [])
       → event_of text entry ≡ One token lexed.at (lexed.at + length front) → count_of entry ≡ 0 → IsWithin text entry
       → Fills new (past to.before front to.before.opened (One token lexed.at (lexed.at + length front) ∷ []))
@@ -240,7 +240,7 @@ module _ (old : Filling) (lexed : Lexed) (to : IsTakenTo Fills old lexed) where
       fills_trees old new to.before front (entry ∷ []) (leaf token lexed.at (lexed.at + length front) nil) to.takes
       step (holds-leaf text entry token lexed.at (lexed.at + length front) is none within)
 
-  -- one whose text is cut from the source
+  -- a token with a text that is cut out of the source is added
   fills_cut : (new : Filling) (entry : Entry) (token : Token) → Puts old new (entry ∷ [])
       → event_of text entry ≡ One token lexed.at (lexed.at + length (token_text token)) → count_of entry ≡ 0
       → (end_of (event_of text entry) < 2 ^ 32 → IsWithin text entry) → front ≡ token_text token

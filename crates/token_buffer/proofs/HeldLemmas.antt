@@ -1,4 +1,4 @@
--- Entries one after another are the tokens of trees one after another.
+-- Joined entries are the tokens of joined trees.
 use Rattle.std.proofs.Common.{◌≡◌, ℕ, List, [], ◌∷◌, ◌++◌, length, refl, sym, ap, ap₂, ◌∙◌, subst, arith}
 use Rattle.lexical.specs.Token.{Token}
 use Rattle.pm_token.specs.declared.delimiters.Delimiter.{Delimiter}
@@ -84,7 +84,7 @@ holds-group text inner d lo hi n f h size = record {
   within = (tt, within-append text inner (entries.Close d hi ∷ []) h.within (tt, tt));
 }
 
--- ---- a flattening spells the trees that it came from
+-- ---- the events of trees give these trees
 
 pub joined_nil : (f : Forest) → joined f nil ≡ f
 joined_nil nil = refl

@@ -1,4 +1,4 @@
--- A lone quote and the name after it.
+-- A lifetime: a lone quote and the name after it.
 use Rattle.std.proofs.Common.{◌≡◌, true, false, Option, Some, None, MatchOption, ap, ◌∙◌}
 use Rattle.std.specs.Str.{chars}
 use Rattle.lexical.specs.Token as tokens

@@ -25,13 +25,13 @@ built_back nil k h = h
 built_back (leaf t lo hi f) k h = built_back f k h.2
 built_back (group d lo hi f g) k h = built_back g k h.2
 
--- the trees of the innermost group are built if all are
+-- the trees of the innermost group are built if all trees are
 built_within : (groups : List OpenTrees) (trees : Forest) → IsBuilt (whole_of groups trees) → IsBuilt trees
 built_within [] trees h = h
 built_within (outer ∷ groups) trees h =
     (built_back (forest outer.before.items) _ (built_within groups _ h)).1
 
--- the trees that were made, those of the innermost group and what is left of it, are all
+-- whether the made trees, those of the open groups and the remaining ones are all trees
 abbrev pub AreAll : List OpenTrees → List TokenTree → Forest → Forest → Type 0
 AreAll groups trees here all = whole_of groups (joined (forest trees) here) ≡ all
 
@@ -48,7 +48,7 @@ pub built_here : (groups : List OpenTrees) (trees : List TokenTree) (here all : 
     → ∥ IsBuilt all ∥₁ → IsBuilt here
 built_here groups trees here all h built = built_back (forest trees) here (both_built groups trees here all h built)
 
--- one tree more
+-- one more tree is made
 pub made_more : (groups : List OpenTrees) (trees items : List TokenTree) (tree : TokenTree) (here rest all : Forest)
     → AreAll groups trees here all → here ≡ before tree rest → items ≡ trees ++ tree ∷ []
     → AreAll groups items rest all
@@ -58,7 +58,7 @@ made_more groups trees items tree here rest all h first push =
     ∙ (ap (whole_of groups) (joined_joined (forest trees) (alone tree) rest)
     ∙ (ap (λ f. whole_of groups (joined (forest trees) f)) (joined-before tree nil rest ∙ sym first) ∙ h)))
 
--- the innermost group has its tree, after those before it
+-- the innermost group is made, and follows the trees before it
 pub made_group : (groups inner : List OpenTrees) (outer : OpenTrees) (trees items : List TokenTree) (tree : TokenTree)
     (here all : Forest)
     → AreAll inner trees here all → here ≡ nil → inner ≡ outer ∷ groups
@@ -72,14 +72,14 @@ made_group groups inner outer trees items tree here all h done popped is push =
     ∙ (ap (λ f. whole_of inner (joined (forest trees) f)) (sym done) ∙ h)))
     (ap (λ t. before t (left outer.after)) (sym is)) push
 
--- all trees were made
+-- all trees are made
 pub made_all : (groups : List OpenTrees) (trees : List TokenTree) (here all : Forest) → AreAll groups trees here all
     → here ≡ nil → groups ≡ [] → forest trees ≡ all
 made_all groups trees here all h done none =
     sym (joined_nil (forest trees)) ∙ (ap (joined (forest trees)) (sym done)
     ∙ (ap (λ gs. whole_of gs (joined (forest trees) here)) (sym none) ∙ h))
 
--- ---- fewer steps are left
+-- ---- the number of steps
 
 pub fewer_leaf : (groups : List OpenTrees) (token : Token) (lo hi : ℕ) (here rest : Forest)
     → here ≡ leaf token lo hi rest → steps_left groups rest < steps_left groups here
@@ -94,7 +94,7 @@ fewer_group [] inner outer d lo hi here inside is push =
 fewer_group (x ∷ groups) inner outer d lo hi here inside is push =
     omega (arith, ap count is, ap (λ gs. steps_left gs inside) push)
 
--- a group more that is open, the innermost
+-- one more group is open, as the innermost
 pub reverse_push : (groups : List OpenTrees) (outer : OpenTrees)
     → reverse (groups ++ outer ∷ []) ≡ outer ∷ reverse groups
 reverse_push groups outer = reverse-append groups (outer ∷ [])

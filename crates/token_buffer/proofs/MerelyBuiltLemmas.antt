@@ -1,4 +1,4 @@
--- What is merely known to be built is built, since whether it is can be found out.
+-- Whether trees are built can be tested, so trees that are merely known to be built are built.
 use Rattle.std.proofs.Common.{◌≡◌, ◌⊎◌, ℕ, Bool, true, false, List, [], ◌∷◌, Some, None, IsTrue, refl, sym}
 use Rattle.std.proofs.Common.{ap, ◌∙◌, subst, append-nil, inl, inr}
 use Rattle.std.proofs.Math.Logic.{∥∥₁_elim, ∥∥₁_map}
@@ -20,7 +20,7 @@ use Rattle.lexical.proofs.RuleLemmas.{exact}
 use Rattle.pm_token.specs.Built.{IsBuiltToken}
 use Rattle.pm_stream.specs.Forest.{Forest, nil, leaf, group, IsBuilt}
 
--- what a finder finds is all of the text, or the text is no piece of the form
+-- the finder finds the whole text, or the text does not have the form
 all_or_none : (f : Finder) (A : Form) → Finds f A → (text : List ℕ) (answer : Answer) → f text ≡ answer
     → (A text [] → ⊥) ⊎ A text []
 all_or_none f A h text None e = inl (λ is.

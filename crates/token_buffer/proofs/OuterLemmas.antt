@@ -1,4 +1,4 @@
--- Trees that are made without what is inside their groups.
+-- Trees without most of those inside groups.
 use Rattle.std.proofs.Common.{◌≡◌, ◌<◌, List, [], ◌∷◌, ◌++◌, refl, sym, ap, ◌∙◌, subst, arith}
 use Rattle.pm_span.specs.Extent.{Extent}
 use Rattle.pm_stream.specs.Forest.{Forest, nil, joined, IsBuilt}
@@ -21,7 +21,7 @@ outer_first (texts.Punct mark spacing) span rest = refl
 outer_first (texts.Literal literal) span rest = refl
 outer_first (texts.Group delimiter inside) span rest = refl
 
--- the first tree is made
+-- one more tree is made
 pub outer_more : (trees items : List TokenTree) (tree : TokenTree) (text : TokenText) (span : Extent)
     (here rest all : Forest) → joined (forest trees) (outer here) ≡ outer all → here ≡ first_onto text span rest
     → alone tree ≡ outer (first_onto text span nil) → items ≡ trees ++ tree ∷ []
@@ -33,7 +33,7 @@ outer_more trees items tree text span here rest all h first made push =
     ∙ (ap (λ f. joined (forest trees) (joined f (outer rest))) made
     ∙ (ap (joined (forest trees)) (sym (outer_first text span rest) ∙ ap outer (sym first)) ∙ h))))
 
--- all trees were made
+-- all trees are made
 pub outer_all : (trees : List TokenTree) (here all : Forest) → joined (forest trees) (outer here) ≡ outer all
     → here ≡ nil → forest trees ≡ outer all
 outer_all trees here all h done =

@@ -1,4 +1,4 @@
--- What is said without where it stands.
+-- The contents of entries, without their positions.
 use Rattle.std.proofs.Common.{◌≡◌, ◌↔◌, ◌==◌, ℕ, Bool, false, IsTrue, List, [], ◌∷◌, ◌++◌, length, refl, sym, ap}
 use Rattle.std.proofs.Common.{◌∙◌, append-nil, arith, ne_eqb}
 use Rattle.pm_stream.specs.Events.{Event, One, Opens, Closes}
@@ -19,7 +19,7 @@ use Rattle.token_buffer.specs.declared.entry.Entry.{Entry}
 use Rattle.token_buffer.specs.declared.part.Part.{Part}
 use Rattle.token_buffer.proofs.HeldLemmas.{unflattened_flattening}
 
--- ---- what is printed
+-- ---- the printed text
 
 pub event_text-unplaced : (gap : Bool) (e : Event) → event_text gap (unplaced e) ≡ event_text gap e
 event_text-unplaced gap (One token lo hi) = refl
@@ -35,20 +35,20 @@ pub all_printed : (text : List ℕ) (all : List Entry) → Holds text all (trees
     → events_text false (events_of text all) ≡ printed (trees_of text all)
 all_printed text all h = ap (events_text false) h.events ∙ events_text-flattening (trees_of text all)
 
--- one entry and then the others
+-- one entry is printed, and then the others
 pub printed_first : (text : List ℕ) (es : List Entry) (e : Entry) (rest : List Entry) (part : Part) (gap now : Bool)
     → es ≡ e ∷ rest → part_event part ≡ unplaced (event_of text e) → now ≡ gap_after_event (part_event part)
     → event_text gap (part_event part) ++ events_text now (events_of text rest) ≡ events_text gap (events_of text es)
 printed_first text es e rest part gap now whole is after =
     rw (whole, after, is, event_text-unplaced gap (event_of text e), gap_after-unplaced (event_of text e)) refl
 
--- and nothing after the last
+-- after the last entry nothing is printed
 pub printed_last : (text : List ℕ) (es : List Entry) (gap : Bool) (done all : List ℕ) → length es ≡ 0
     → done ++ events_text gap (events_of text es) ≡ all → done ≡ all
 printed_last text [] gap done all none e = sym (append-nil done) ∙ e
 printed_last text (x ∷ es) gap done all none e = absurd (omega (arith, none))
 
--- ---- what is the same
+-- ---- sameness
 
 all_unplaced-flat_onto : (f : Forest) (es : List Event)
     → all_unplaced (flat_onto f es) ≡ flat_onto (erased f) (all_unplaced es)
@@ -66,11 +66,11 @@ same_unplaced f g = (
       ∙ unflattened_flattening (erased g)),
 )
 
--- what the entries say, without where it stands
+-- the events of the entries, with their positions set to 0
 abbrev pub said : List ℕ → List Entry → List Event
 said text all = all_unplaced (events_of text all)
 
--- the trees are the same where the entries say the same
+-- trees are the same up to spans exactly if the contents of their entries are
 pub same_said : (text other : List ℕ) (all others : List Entry) → Holds text all (trees_of text all)
     → Holds other others (trees_of other others)
     → Same (trees_of text all) (trees_of other others) ↔ (said text all ≡ said other others)
@@ -80,9 +80,9 @@ same_said text other all others h k =
       λ e. same.1 (sym (ap all_unplaced h.events) ∙ (e ∙ ap all_unplaced k.events)),
     )
 
--- ---- what two cursors' answer is
+-- ---- the result of a comparison
 
--- one has an entry more
+-- one cursor has one more entry
 pub longer_said : (text other : List ℕ) (es os : List Entry) (e : Entry) (rest : List Entry) → es ≡ e ∷ rest
     → length os ≡ 0 → IsTrue false ↔ (said text es ≡ said other os)
 longer_said text other es [] e rest whole none = (
@@ -91,7 +91,7 @@ longer_said text other es [] e rest whole none = (
 )
 longer_said text other es (o ∷ os) e rest whole none = absurd (omega (arith, none))
 
--- their first entries differ
+-- the first entries differ
 pub other_said : (text other : List ℕ) (es os : List Entry) (e o : Entry) (rest rests : List Entry) (p q : Part)
     (r : Bool)
     → es ≡ e ∷ rest → os ≡ o ∷ rests → part_event p ≡ unplaced (event_of text e)
@@ -107,7 +107,7 @@ other_said text other es os e o rest rests p q r whole wholes is also alike diff
       absurd cc,
 )
 
--- the first has no entry left
+-- the first cursor has no entry left
 pub ends_said : (text other : List ℕ) (es os : List Entry) (r : Bool) → length es ≡ 0 → r ≡ (length os == 0)
     → IsTrue r ↔ (said text es ≡ said other os)
 ends_said text other [] [] r none is = (λ h. refl, λ h. is)

@@ -1,4 +1,4 @@
--- What the first entry of a cursor says of the trees that are left.
+-- The first entry of a cursor gives its first tree.
 use Rattle.std.proofs.Common.{◌≡◌, ℕ, ◌+◌, ◌<◌, ◌≤◌, List, [], ◌∷◌, ◌++◌, length, take, drop, get_or, refl, sym, ap}
 use Rattle.std.proofs.Common.{ap₂, ◌∙◌}
 use Rattle.std.proofs.Common.{subst, append_assoc, arith, length-append, zero, suc, Bool, false, ◌==◌, ne_eqb}
@@ -35,7 +35,7 @@ after_one text e es token lo hi (group d l r g k) h is =
     let clash : event_of text e ∷ events_of text es ≡ Opens d l ∷ flat_onto g (Closes d r ∷ flattening k) = h.events in
     cc
 
--- the trees that are left are the token and those of the other entries
+-- the remaining trees are the token and the trees of the other entries
 pub begins_one : (text : List ℕ) (e : Entry) (es : List Entry) (token : Token) (lo hi : ℕ)
     → event_of text e ≡ One token lo hi → trees_of text (e ∷ es) ≡ leaf token lo hi (trees_of text es)
 begins_one text e es token lo hi is = ap (λ event. unflattened (event ∷ events_of text es)) is
@@ -91,7 +91,7 @@ counts_onto-length (group d lo hi f k) ns es e =
     let rest = counts_onto-length k ns es e in
     omega (arith, counts_onto-length f (0 ∷ counts_onto k ns) (Closes d hi ∷ flat_onto k es) (omega (arith, rest)))
 
--- an opener stands before the entries of its group, as many as it says, a closer, and those of the trees after it
+-- an opener, as many entries as it counts, the closer, and the entries of the trees after the group
 pub record GroupAt (text : List ℕ) (d : Delimiter) (at n : ℕ) (es : List Entry) : Type 0 where
   pub hi : ℕ
   pub trees : trees_of text (entries.Open d at n ∷ es)
@@ -165,7 +165,7 @@ group_at text d at n es (group e l r g k) h =
     ∙ ap (λ x. flattening g ++ (Closes x r ∷ flattening k)) delimiter))
     (numbers ∙ sym (counts_onto-append g [] (0 ∷ counts k))) size
 
--- what is inside of a group, and what is after it, is built
+-- the trees in a group and those after it are built
 pub built_in : (text : List ℕ) (d : Delimiter) (at n : ℕ) (es : List Entry) → GroupAt text d at n es
     → ∥ IsBuilt (trees_of text (entries.Open d at n ∷ es)) ∥₁ → ∥ IsBuilt (trees_of text (take n es)) ∥₁
 built_in text d at n es h all =
@@ -176,7 +176,7 @@ pub built_past : (text : List ℕ) (d : Delimiter) (at n : ℕ) (es : List Entry
 built_past text d at n es h all =
     ∥∥₁_map all (λ (built : IsBuilt (trees_of text (entries.Open d at n ∷ es))). (subst IsBuilt h.trees built).2)
 
--- no closer comes first
+-- a closer does not come first
 pub closer_first : (text : List ℕ) (d : Delimiter) (hi : ℕ) (es : List Entry) (f : Forest)
     → Holds text (entries.Close d hi ∷ es) f → ⊥
 closer_first text d hi es nil h =
@@ -186,7 +186,7 @@ closer_first text d hi es (leaf t l r g) h =
 closer_first text d hi es (group e l r g k) h =
     let clash : Closes d hi ∷ events_of text es ≡ Opens e l ∷ flat_onto g (Closes e r ∷ flattening k) = h.events in cc
 
--- ---- what a cursor's reader learns
+-- ---- the results of a cursor's calls
 
 pub record AfterToken (text : List ℕ) (all es : List Entry) (token : Token) (lo hi : ℕ) : Type 0 where
   pub trees : trees_of text all ≡ leaf token lo hi (trees_of text es)
@@ -229,7 +229,7 @@ after_group text all es d at n whole h built =
       closer = group.closer;
     }
 
--- no entry is left exactly where no tree is
+-- no entry is left exactly if no tree is left
 pub is_nil-empty : (text : List ℕ) (all : List Entry) (empty : Bool) → Holds text all (trees_of text all)
     → empty ≡ (length all == 0) → empty ≡ is_nil (trees_of text all)
 is_nil-empty text [] empty h is = is
@@ -242,7 +242,7 @@ is_nil-empty text (e ∷ es) empty h is =
     not_nil (leaf t lo hi f) k = refl
     not_nil (group d lo hi f g) k = refl
 
--- ---- where the first tree stands
+-- ---- the span of the first tree
 
 pub leaf_ordered : (trees rest : Forest) (token : Token) (lo hi : ℕ) → ∥ IsBuilt trees ∥₁
     → trees ≡ leaf token lo hi rest → lo ≤ hi
@@ -264,7 +264,7 @@ closer_is text d hi (entries.Close delimiter end) is = cc
 closer_is text d hi (entries.DocName at end) is = cc
 closer_is text d hi (entries.DocText closing lo to at) is = cc
 
--- the closer of a group stands behind its entries
+-- the closer of a group comes after the entries inside
 pub closer_at : (text : List ℕ) (d : Delimiter) (hi n : ℕ) (es : List Entry) (other : Entry) → n < length es
     → drop n (events_of text es) ≡ Closes d hi ∷ drop (n + 1) (events_of text es)
     → closer_end (get_or es n other) ≡ hi

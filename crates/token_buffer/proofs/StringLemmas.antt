@@ -12,7 +12,7 @@ use Rattle.pm_token.proofs.ValueLawLemmas.{strings_come_back}
 use Rattle.token_buffer.specs.Strings.{escape_text}
 use Rattle.token_buffer.specs.declared.string.Escape.{Escape}
 
--- texts with the same literal are the same
+-- texts with the same string literal are the same
 string_text-inj : (s t : List ℕ) → IsText s → IsText t → string_text s ≡ string_text t → s ≡ t
 string_text-inj s t is also same =
     let one = strings_come_back s is in
@@ -31,7 +31,7 @@ pub content_past : (text rest : List ℕ) (c : ℕ) → IsUtf8 text → text ≡
     ≡ written 34 written_char c (chars rest) ++ content 34 written_char (chars rest)
 content_past text rest c utf8 split = ap (content 34 written_char) (chars_past_char text rest c utf8 split)
 
--- what is left to be written begins with how its first character is written
+-- the remaining text is written as its first character and then the rest
 pub string_on : (text rest said : List ℕ) (c : ℕ) (escape : Escape) → IsUtf8 text → text ≡ encode_utf8 c ++ rest
     → said ≡ rest → escape_text escape ≡ written 34 written_char c (chars said)
     → content 34 written_char (chars text) ++ codes "\""
@@ -42,7 +42,7 @@ string_on text rest said c escape utf8 split same is =
     ∙ ap (λ x. x ++ (content 34 written_char (chars rest) ++ codes "\""))
     (sym (is ∙ ap (λ s. written 34 written_char c (chars s)) same)))
 
--- nothing is left but the quote
+-- at the end only the quote is left
 pub string_end : (rest : List ℕ) → length rest ≡ 0
     → content 34 written_char (chars rest) ++ codes "\"" ≡ codes "\""
 string_end [] none = ap (λ x. content 34 written_char x ++ codes "\"") chars-nil
@@ -52,7 +52,7 @@ chars-quote : chars (34 ∷ []) ≡ 34 ∷ []
 unfolding chars
 chars-quote = refl
 
--- ---- texts that are the same
+-- ---- equal texts
 
 pub same_texts : (s t : List ℕ) (r : Bool) → IsUtf8 s → IsUtf8 t → r ≡ pointwise nat_eq s t
     → IsTrue r ↔ (chars s ≡ chars t)
@@ -68,7 +68,7 @@ same_strings s t r utf8 utf8-other is =
     let same = same_texts s t r utf8 utf8-other is in
     (λ h. ap string_text (same.0 h), λ e. same.1 (same_literals s t utf8 utf8-other e))
 
--- the quote alone is left
+-- only the quote is left
 pub quote_left : (left rest : List ℕ) (r : Bool) → IsUtf8 left → length rest ≡ 0 → r ≡ pointwise nat_eq left (34 ∷ [])
     → IsTrue r ↔ (chars left ≡ content 34 written_char (chars rest) ++ codes "\"")
 unfolding lib.Utf8.encode

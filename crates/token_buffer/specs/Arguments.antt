@@ -1,4 +1,4 @@
--- Where generic arguments end.
+-- The end of generic arguments.
 use Rattle.std.specs.Prelude.{ℕ, suc, ◌==◌, ◌-◌, ◌^◌, nat_lt, ◌&&◌, Bool, false, not, Option, Some, None}
 use Rattle.std.specs.Prelude.{if◌then◌else◌}
 use Rattle.lexical.specs.Token.{Token, Name, Mark, Literal}
@@ -13,13 +13,13 @@ is_token_mark mark (Name raw text) = false
 is_token_mark mark (Mark c joint) = c == mark
 is_token_mark mark (Literal text) = false
 
--- whether it is the mark `-` (45), Joint
+-- whether the token is a Joint `-` (45)
 abbrev pub begins_arrow : Token → Bool
 begins_arrow (Name raw text) = false
 begins_arrow (Mark c joint) = (c == 45) && joint
 begins_arrow (Literal text) = false
 
--- the same of a tree's text
+-- whether the tree is this mark
 abbrev pub is_text_mark : ℕ → TokenText → Bool
 is_text_mark mark (texts.Ident name) = false
 is_text_mark mark (texts.Punct c spacing) = c == mark
@@ -32,8 +32,8 @@ text_begins_arrow (texts.Punct c spacing) = (c == 45) && is_joint spacing
 text_begins_arrow (texts.Literal literal) = false
 text_begins_arrow (texts.Group d inside) = false
 
--- what is left after the `>` (62) that closes a `<` (60) before the trees, where so many others are open. A `>` that
--- stands right after the `-` of an arrow closes none. At most 2 ^ 32 - 1 are open
+-- the trees after the `>` (62) that closes a `<` (60) before the trees, if `depth` others are open inside of it. A
+-- `>` right after the `-` of an arrow closes none. At most 2 ^ 32 - 1 can be open
 abbrev pub past_arguments : ℕ → Bool → Forest → Option Forest
 past_arguments depth arrow nil = None
 past_arguments depth arrow (leaf token lo hi rest) =
@@ -44,25 +44,25 @@ past_arguments depth arrow (leaf token lo hi rest) =
     else past_arguments depth (begins_arrow token) rest
 past_arguments depth arrow (group d lo hi inside rest) = past_arguments depth false rest
 
--- what is left after the generic arguments that come first
+-- the trees after the generic arguments that come first
 abbrev pub after_arguments : Forest → Option Forest
 after_arguments nil = None
 after_arguments (leaf token lo hi rest) = if is_token_mark 60 token then past_arguments 0 false rest else None
 after_arguments (group d lo hi inside rest) = None
 
--- whether it is the mark `:` (58), Joint
+-- whether the token is a Joint `:` (58)
 abbrev pub is_joint_colon : Token → Bool
 is_joint_colon (Name raw text) = false
 is_joint_colon (Mark c joint) = (c == 58) && joint
 is_joint_colon (Literal text) = false
 
--- the same after a `:`, if it comes first
+-- the trees after a `:` and generic arguments that come first
 abbrev pub past_colon : Forest → Option Forest
 past_colon nil = None
 past_colon (leaf token lo hi rest) = if is_token_mark 58 token then after_arguments rest else None
 past_colon (group d lo hi inside rest) = None
 
--- what is left after the turbofish that comes first: `::` and generic arguments
+-- the trees after the turbofish that comes first: `::` and generic arguments
 abbrev pub after_turbofish : Forest → Option Forest
 after_turbofish nil = None
 after_turbofish (leaf token lo hi rest) = if is_joint_colon token then past_colon rest else None

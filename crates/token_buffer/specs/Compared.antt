@@ -1,4 +1,4 @@
--- Whether cursors have the same trees left.
+-- Equality of cursors.
 use Rattle.std.proofs.Common.{◌≡◌, ◌↔◌, Bool, true, false, ◌&&◌, nat_eq, refl, sym, ap, ap₂, ◌∙◌, eqb-true, eq-eqb}
 use Rattle.std.specs.Cmp.{IsEquivalence}
 use Rattle.std.proofs.lemmas.Bool.{and_from, and_parts}
@@ -8,7 +8,7 @@ use Rattle.pm_stream.specs.Same.{Same, erased}
 use Rattle.token_buffer.specs.Reads.{left}
 use Rattle.token_buffer.specs.declared.cursor.Cursor.{Cursor}
 
--- whether the logic stores two values alike
+-- whether two values are equal, given their codes
 abbrev pub code_eq : Gv → Gv → Bool
 code_eq gnil gnil = true
 code_eq gnil (gnum n) = false
@@ -20,11 +20,11 @@ code_eq (gcons a b) gnil = false
 code_eq (gcons a b) (gnum n) = false
 code_eq (gcons a b) (gcons c d) = code_eq a c && code_eq b d
 
--- whether both have the same trees left, but for spans
+-- whether both cursors have the same trees left, up to spans
 abbrev pub cursor_eq : Cursor → Cursor → Bool
 cursor_eq a b = code_eq (forest_code (erased (left a))) (forest_code (erased (left b)))
 
--- ---- it answers that, and so is an equivalence
+-- ---- this is a test of `Same`, and so an equivalence
 
 code_eq-sound : (x y : Gv) → code_eq x y ≡ true → x ≡ y
 code_eq-sound gnil gnil e = refl

@@ -1,4 +1,4 @@
--- What was put into a buffer while its text is read.
+-- The entries of a buffer while its text is read.
 use Rattle.std.specs.Prelude.{ℕ, Bool, true, false, ◌≡◌, ◌<◌, ◌^◌, List, [], ◌∷◌, ◌++◌, length}
 use Rattle.std.specs.Str.{chars, IsUtf8}
 use Rattle.pm_token.specs.declared.delimiters.Delimiter.TheVariants.{Bracket}
@@ -10,24 +10,24 @@ use Rattle.token_buffer.specs.declared.entry.Entry.TheVariants as entries
 use Rattle.token_buffer.specs.declared.filling.Filling.{Filling}
 use Rattle.token_buffer.specs.declared.filling.OpenGroup.{OpenGroup}
 
--- the entries are the tokens of trees, if they are few enough that each count is right
+-- whether the entries are the tokens of trees, if they are few enough that each count is right
 abbrev pub AreTrees : List ℕ → List Entry → Type 0
 AreTrees text all = length all < 2 ^ 32 → HoldsOwn text all
 
--- the entries are some before the group, its opener, which has no count yet, and those of the trees inside
+-- whether the entries are those before the group, its opener, which has no count yet, and those of trees inside
 pub record IsInnermost (text : List ℕ) (group : OpenGroup) (all before inner : List Entry) : Type 0 where
   pub whole : all ≡ before ++ (entries.Open group.delimiter group.lo 0 ∷ inner)
   pub index : group.index ≡ length before
   pub trees : AreTrees text inner
 
--- the entries are those of trees and of the open groups among them, the innermost first
+-- whether the entries are those of trees and of the open groups among them, with the innermost group first
 abbrev pub AreEntries : List ℕ → List OpenGroup → List Entry → Type 0
 AreEntries text [] all = AreTrees text all
 AreEntries text (group ∷ groups) all =
     (before : List Entry) × (inner : List Entry) × IsInnermost text group all before inner
     × AreEntries text groups before
 
--- these are the entries of what was taken of the text
+-- whether these are the entries of the part of the text that was taken
 pub record HasEntries (text : List ℕ) (all : List Entry) (taken : Taken OpenGroup) : Type 0 where
   pub source : taken.source ≡ chars text
   pub utf8 : IsUtf8 text
@@ -35,16 +35,16 @@ pub record HasEntries (text : List ℕ) (all : List Entry) (taken : Taken OpenGr
   pub entries : AreEntries text taken.opened all
   pub events : events_of text all ≡ taken.events
 
--- the buffer has the entries of what was taken
+-- whether the buffer has the entries of the part that was taken
 abbrev pub Fills : Filling → Taken OpenGroup → Type 0
 Fills filling taken = HasEntries filling.text.now filling.entries.items taken
 
--- the step put in these entries, and no others
+-- whether a step added exactly these entries
 pub record Puts (old new : Filling) (more : List Entry) : Type 0 where
   pub text : new.text ≡ old.text
   pub entries : new.entries.items ≡ old.entries.items ++ more
 
--- the entries of the group `[doc = ..]`, with that of its text
+-- the entries of the group `[doc = ..]`, where `text` is that of its literal
 abbrev pub doc_group_entries : Entry → ℕ → ℕ → List Entry
 doc_group_entries text at end =
     entries.Open Bracket at 3

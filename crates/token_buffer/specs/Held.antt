@@ -1,4 +1,4 @@
--- When entries are the tokens of trees.
+-- Entries that are the tokens of trees.
 use Rattle.std.specs.Prelude.{◌≡◌, ℕ, ◌⊎◌, List, [], ◌∷◌, length}
 use Rattle.std.proofs.Common.{inl, inr, refl}
 use Rattle.std.specs.Coded.{Coded, Coded-set, code_by, coded_ℕ, coded_list, coded×, coded⊎}
@@ -14,7 +14,7 @@ use Rattle.token_buffer.specs.Entries.{events_of, counts_of, IsCut, IsWithin, Ar
 use Rattle.token_buffer.specs.declared.entry.Entry.{Entry}
 use Rattle.token_buffer.specs.declared.entry.Entry.TheVariants as entries
 
--- for each event of the flattening how many events are inside its group, and then others
+-- for each event of the trees, how many events are inside its group; and then other numbers
 abbrev pub counts_onto : Forest → List ℕ → List ℕ
 counts_onto nil more = more
 counts_onto (leaf token lo hi rest) more = 0 ∷ counts_onto rest more
@@ -24,13 +24,13 @@ counts_onto (group d lo hi inside rest) more =
 abbrev pub counts : Forest → List ℕ
 counts forest = counts_onto forest []
 
--- the entries are the trees' tokens, say how many entries are in each group, and may be cut from the text
+-- whether the entries are the trees' tokens, have the right counts, and their texts can be cut out of the source
 pub record Holds (text : List ℕ) (entries : List Entry) (trees : Forest) : Type 0 where
   pub events : events_of text entries ≡ flattening trees
   pub counted : counts_of entries ≡ counts trees
   pub within : AreWithin text entries
 
--- ---- it is one fact
+-- ---- all proofs of `Holds` are equal
 
 abbrev Packed : Type 0
 Packed = (Token × (ℕ × ℕ)) ⊎ ((Delimiter × ℕ) ⊎ (Delimiter × ℕ))

@@ -1,4 +1,4 @@
--- What buffers and cursors are seen as.
+-- What a contract says of a buffer or a cursor: its trees.
 use Rattle.std.specs.Prelude.{ℕ, List}
 use Rattle.pm_stream.specs.Forest.{Forest}
 use Rattle.token_buffer.specs.Entries.{events_of}
@@ -10,7 +10,7 @@ use Rattle.token_buffer.specs.declared.entry.Entry.{Entry}
 abbrev pub trees_of : List ℕ → List Entry → Forest
 trees_of text entries = unflattened (events_of text entries)
 
--- the entries are the tokens of their trees
+-- whether the entries are the tokens of their trees
 abbrev pub HoldsOwn : List ℕ → List Entry → Type 0
 HoldsOwn text entries = Holds text entries (trees_of text entries)
 

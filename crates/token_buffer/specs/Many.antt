@@ -4,7 +4,7 @@ use Rattle.lexical.specs.Cover.{CoversUpTo}
 use Rattle.lexical.specs.Piece.{Piece}
 use Rattle.pm_stream.specs.Events.{expansion}
 
--- pieces cover the source up to where the rest begins, and give too many events
+-- whether some first pieces of the source already give more events than a buffer can hold
 pub record HasManyTokens (base : ℕ) (source : List ℕ) : Type 0 where
   pub pieces : List Piece
   pub rest : List ℕ

@@ -1,4 +1,4 @@
--- What is said of a buffer that isn't made, and where its text has a fault.
+-- The texts and the spans of a buffer's errors.
 use Rattle.std.specs.Prelude.{ℕ, List, Option, None, codes}
 use Rattle.pm_span.specs.Extent.{Extent}
 use Rattle.pm_token.specs.Message as parsing
@@ -9,7 +9,7 @@ abbrev pub message : BufferError → List ℕ
 message (Parse error) = parsing.message error
 message TooLong = codes "text too long"
 
--- the span of the fault
+-- the span of a syntax error
 abbrev pub fault_span : BufferError → Option Extent
 fault_span (Parse error) = parsing.fault_span error
 fault_span TooLong = None

@@ -1,4 +1,4 @@
--- What an entry says, without where it stands.
+-- The content of an entry, without its position.
 use Rattle.std.specs.Prelude.{Bool, false, List, [], ◌∷◌}
 use Rattle.std.specs.Str.{chars}
 use Rattle.lexical.specs.Token.{Name, Mark, Literal}
@@ -7,7 +7,7 @@ use Rattle.token_buffer.specs.Reads.{literal_text}
 use Rattle.token_buffer.specs.declared.part.Part.{Part}
 use Rattle.token_buffer.specs.declared.part.Part.TheVariants as parts
 
--- the event as if it stood at 0
+-- the event, with its positions set to 0
 abbrev pub unplaced : Event → Event
 unplaced (One token lo hi) = One token 0 0
 unplaced (Opens d lo) = Opens d 0
@@ -17,7 +17,7 @@ abbrev pub all_unplaced : List Event → List Event
 all_unplaced [] = []
 all_unplaced (event ∷ events) = unplaced event ∷ all_unplaced events
 
--- the event that the part is, as if it stood at 0
+-- the event of a part, with its positions set to 0
 abbrev pub part_event : Part → Event
 part_event (parts.Ident name) = One (Name name.raw (chars name.text.now)) 0 0
 part_event (parts.Punct mark joint) = One (Mark mark joint) 0 0
@@ -25,7 +25,7 @@ part_event (parts.Literal literal) = One (Literal (literal_text literal)) 0 0
 part_event (parts.Open d) = Opens d 0
 part_event (parts.Close d) = Closes d 0
 
--- a space goes before the part, where one goes after what came last
+-- whether a space goes before the part, if `gap` tells whether one goes after the part before it
 abbrev pub gap_before : Part → Bool → Bool
 gap_before (parts.Ident name) gap = gap
 gap_before (parts.Punct mark joint) gap = gap

@@ -1,4 +1,4 @@
--- What a cursor's calls answer, by the trees that are left.
+-- What the calls of a cursor return, from its remaining trees.
 use Rattle.std.specs.Prelude.{ℕ, ◌≡◌, ◌==◌, ◌&&◌, Bool, true, false, List, Option, Some, None}
 use Rattle.std.specs.Str.{chars}
 use Rattle.lexical.specs.Token.{Token, Name, Mark, Literal}
@@ -23,16 +23,16 @@ abbrev pub literal_text : LiteralText → List ℕ
 literal_text (literals.Source text) = chars text.now
 literal_text (literals.Doc text) = string_text (chars text.now)
 
--- the token comes first, and then what the other cursor has
+-- whether the token comes first, and then the trees of the other cursor
 abbrev pub BeginsWith : Token → Cursor → Cursor → Type 0
 BeginsWith token cursor rest = (lo : ℕ) × (hi : ℕ) × (left cursor ≡ leaf token lo hi (left rest))
 
--- the group of what the second cursor has comes first, and then what the last one has
+-- whether the group of the second cursor's trees comes first, and then the trees of the last cursor
 abbrev pub BeginsWithGroup : Delimiter → Cursor → Cursor → Cursor → Type 0
 BeginsWithGroup d cursor inside after =
     (lo : ℕ) × (hi : ℕ) × (left cursor ≡ group d lo hi (left inside) (left after))
 
--- the token or group comes first, and the cursors are those after it and inside it
+-- whether the token or group comes first, and then the trees of the other cursor
 abbrev pub Begins : TokenText → Cursor → Cursor → Type 0
 Begins (texts.Ident name) cursor rest = BeginsWith (Name name.raw (chars name.text.now)) cursor rest
 Begins (texts.Punct mark spacing) cursor rest = BeginsWith (Mark mark (is_joint spacing)) cursor rest
@@ -59,13 +59,13 @@ abbrev pub lifetime_first : Forest → Bool
 lifetime_first (leaf (Mark c joint) lo hi rest) = (c == 39) && joint && name_first rest
 lifetime_first _ = false
 
--- the delimiter of the group that comes first, if one does
+-- the delimiter of the group that comes first, or `None`
 abbrev pub group_first : Forest → Option Delimiter
 group_first nil = None
 group_first (leaf token lo hi rest) = None
 group_first (group d lo hi inside rest) = Some d
 
--- the span of the first tree
+-- the span of the first tree, or `None`
 abbrev pub first_extent : Forest → Option Extent
 first_extent nil = None
 first_extent (leaf token lo hi rest) = Some (record { lo = lo; hi = hi })

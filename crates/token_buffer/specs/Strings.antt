@@ -6,14 +6,14 @@ use denote.Bor.{Bor}
 use Rattle.token_buffer.specs.declared.string.Escape.{Escape}
 use Rattle.token_buffer.specs.declared.string.Escape.TheVariants as escapes
 
--- what is written (92 is the backslash)
+-- how the character is written (92 is the backslash)
 abbrev pub escape_text : Escape → List ℕ
 escape_text (escapes.Bare c) = c ∷ []
 escape_text (escapes.Short c) = 92 ∷ c ∷ []
 escape_text escapes.LongZero = codes "\\x00"
 escape_text (escapes.Unicode c) = escape_unicode c
 
--- what follows the front of the text, and None if the text doesn't begin so
+-- whether the result is the text after this prefix, or `None` if the text doesn't begin with it
 abbrev pub IsAfter : List ℕ → List ℕ → Option (Bor (List ℕ)) → Type 0
 IsAfter front text result =
     MatchOption result ((rest : List ℕ) → text ≡ front ++ rest → ⊥) (λ rest. text ≡ front ++ chars rest.now)

@@ -1,14 +1,15 @@
--- The trees that a list of events spells, read from its end.
+-- The trees of a list of events, read from its end.
 use Rattle.std.specs.Prelude.{ℕ, List, [], ◌∷◌}
 use Rattle.pm_token.specs.declared.delimiters.Delimiter.{Delimiter}
 use Rattle.pm_stream.specs.Events.{Event, One, Opens, Closes}
 use Rattle.pm_stream.specs.Forest.{Forest, nil, leaf, group}
 
--- the trees up to the first closer that no opener matches; and for each such closer where it ends, and the trees after
+-- the trees up to the first closer without an opener; and for each such closer, where it ends and the trees after
+-- it
 abbrev pub Levels : Type 0
 Levels = Forest × List (ℕ × Forest)
 
--- with an opener before them
+-- the trees and levels with an opener before them
 abbrev pub opened : Delimiter → ℕ → Levels → Levels
 opened d lo (inside, []) = (nil, [])
 opened d lo (inside, (end ∷ outer)) = (group d lo end.0 inside end.1, outer)
@@ -19,6 +20,6 @@ levels (One token lo hi ∷ events) = let after = levels events in (leaf token l
 levels (Opens d lo ∷ events) = opened d lo (levels events)
 levels (Closes d hi ∷ events) = let after = levels events in (nil, ((hi, after.0) ∷ after.1))
 
--- the trees
+-- the trees of the events
 abbrev pub unflattened : List Event → Forest
 unflattened events = (levels events).0

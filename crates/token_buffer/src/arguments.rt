@@ -1,4 +1,4 @@
-//! Generic arguments, which stand between marks and in no group.
+//! Finds the end of generic arguments, which are between marks and in no group.
 ghost use Rattle.std.specs.Prelude.{◌≡◌, MatchOption, None, Some};
 ghost use Rattle.token_buffer.specs.Arguments.{is_text_mark, text_begins_arrow};
 
@@ -9,11 +9,13 @@ impl<'a> Cursor<'a> {
     ghost use Rattle.token_buffer.specs.Arguments.{after_arguments, after_turbofish};
     ghost use Rattle.token_buffer.specs.Reads.{left};
 
-    /// The trees after the generic arguments that come first, `<` and all up to its `>`, if they do. A `>` closes the
-    /// last `<` that is open, but for the one of `->`; where more than 4294967295 are open there is no end. It takes
-    /// time in proportion to how many trees it passes.
+    /// Returns the trees after the generic arguments that come first, or `None` if none come first.
     ///
-    /// Of `<Vec<T>, fn() -> T> (x)` it is `(x)`. Of `< (x)` there is none.
+    /// Generic arguments are a `<` and all trees up to its `>`. A `>` closes the last open `<`, unless it is that
+    /// of `->`. If more than 4294967295 are open, the result is `None`. The time is proportional to the number of
+    /// trees passed.
+    ///
+    /// `<Vec<T>, fn() -> T> (x)` gives `(x)`. `< (x)` gives `None`.
     pub fn generic_arguments(self) -> Option<Cursor<'a>>
         ensures { MatchOption result (after_arguments (left self.entry) ≡ None)
             (λ rest. after_arguments (left self.entry) ≡ Some (left rest)) }
@@ -40,10 +42,10 @@ impl<'a> Cursor<'a> {
         None
     }
 
-    /// The trees after the turbofish that comes first, `::` and [`generic_arguments`](Cursor::generic_arguments), if
-    /// one does.
+    /// Returns the trees after the turbofish that comes first, or `None` if none does. A turbofish is `::` and
+    /// [`generic_arguments`](Cursor::generic_arguments).
     ///
-    /// Of `::<T>(x)` it is `(x)`. Of `::f` there is none.
+    /// `::<T>(x)` gives `(x)`. `::f` gives `None`.
     pub fn turbofish(self) -> Option<Cursor<'a>>
         ensures { MatchOption result (after_turbofish (left self.entry) ≡ None)
             (λ rest. after_turbofish (left self.entry) ≡ Some (left rest)) }
@@ -58,14 +60,14 @@ impl<'a> Cursor<'a> {
     }
 }
 
-/// Whether it is this mark.
+/// Returns whether the tree is this mark.
 fn is_mark(text: TokenText<'_>, mark: char) -> bool
     ensures { result ≡ is_text_mark mark text.entry }
 {
     matches!(text, TokenText::Punct(found, _) if found == mark)
 }
 
-/// Whether it is the mark `-`, Joint.
+/// Returns whether the tree is a `Joint` `-`.
 fn begins_arrow(text: TokenText<'_>) -> bool
     ensures { result ≡ text_begins_arrow text.entry }
 {

@@ -1,4 +1,4 @@
-//! A text's tokens, one after another.
+//! The tokens of a text, one after another.
 ghost use Rattle.std.specs.Prelude.{◌≡◌, ◌≤◌, ◌+◌, ◌<◌, ◌^◌, ◌↔◌, ◌⊎◌, IfOk, IfErr, length};
 ghost use Rattle.std.specs.Str.{chars};
 ghost use Rattle.pm_span.specs.Files.{Fits, new_map, next_lo};
@@ -19,10 +19,10 @@ use pm_token::ParseError;
 use std::alloc::Global;
 use std::marker::Model;
 
-/// The tokens of a text, for [`Cursor`](crate::Cursor)s to read.
+/// The tokens of a text, which [`Cursor`](crate::Cursor)s read.
 ///
-/// It takes 16 bytes a token, and as many for each beginning and each end of a group. Each token's text stays in the
-/// source.
+/// The buffer takes 16 bytes for each token, and for each start and each end of a group. The text of each token
+/// stays in the source.
 #[derive(Drop)]
 pub struct TokenBuffer<'a> {
     text: &'a str,
@@ -50,12 +50,14 @@ impl<'a> Model for TokenBuffer<'a> {
 }
 
 impl<'a> TokenBuffer<'a> {
-    /// The tokens of a text: those of the stream that it parses to (`parses-to`).
+    /// Reads the tokens of a text, which are those of the stream that it parses to (`parses-to`).
     ///
-    /// Positions, and faults, are those of a new map, where the text begins at 1, as `TokenStream::parse_unmapped` has
-    /// them. `TooLong` is answered of a text with more than 4294967295 bytes, and of one without a fault that has more
-    /// tokens, each end of a group counted as one; of a shorter one `Parse(MapFull)` exactly where it has too many
-    /// characters for a new map (`fits`).
+    /// Positions are those of a new map, in which the text begins at 1. Syntax errors are those of
+    /// `TokenStream::parse_unmapped`.
+    ///
+    /// `TooLong` comes if the text has more than 4294967295 bytes, or is valid and has more tokens than that; each
+    /// end of a group counts as a token. A text with fewer bytes gives `Parse(MapFull)` exactly if it has too many
+    /// characters for a new map (`fits`). `Parse(Memory)` comes if memory runs out.
     ///
     /// `a += (b)` has the identifier `a`, the marks `+` and `=`, and the group of `b`.
     pub fn new(alloc: Global, text: &'a str) -> Result<TokenBuffer<'a>, BufferError>
@@ -79,7 +81,7 @@ impl<'a> TokenBuffer<'a> {
         };
         let mut filling = Filling {
             text,
-            // A token of code has some four bytes, with the white characters after it.
+            // In source code a token has about four bytes, with the white space after it.
             entries: Vec::with_capacity(alloc, text.len() / 4)?,
         };
         read(alloc, lo, text, &mut filling)?;
@@ -90,7 +92,7 @@ impl<'a> TokenBuffer<'a> {
         Ok(TokenBuffer { text, entries })
     }
 
-    /// A cursor over all its trees.
+    /// Returns a cursor over all trees of the buffer.
     pub fn begin(&self) -> Cursor<'_>
         ensures { left result ≡ self.now }
     {

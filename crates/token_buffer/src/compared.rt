@@ -1,4 +1,4 @@
-//! Whether two cursors have the same trees left.
+//! Equality of cursors.
 ghost use Rattle.std.specs.Prelude.{◌≡◌, ◌↔◌, IsTrue};
 ghost use Rattle.std.specs.Cmp.{partial_equiv_from_equiv};
 ghost use Rattle.pm_stream.specs.Same.{Same};
@@ -10,15 +10,16 @@ use crate::cursor::{Cursor, LiteralText};
 use crate::part::{Part, part_of};
 use crate::string::{is_same, is_string_of};
 
-/// Two cursors are equal if they have the `same` trees left but for their spans, whatever texts they are in.
+/// Two cursors are equal if their remaining trees are the `same` up to spans. They may be in different texts.
 impl<'a> PartialEq for Cursor<'a> {
     ghost eq = { cursor_eq };
 
     ghost laws = { partial_equiv_from_equiv cursor_eq_equiv };
 
-    /// It takes no memory, and time in proportion to the entries and texts of the one that has less.
+    /// Returns whether the remaining trees of both are the same. This allocates nothing, and takes time in
+    /// proportion to the entries and texts of the shorter rest.
     ///
-    /// What is left of `/// a` and of `# [doc = " a"]` is equal. `+ =` and `+=` are not.
+    /// The rests `/// a` and `# [doc = " a"]` are equal. `+ =` and `+=` are not.
     fn eq(&self, other: &Cursor<'a>) -> bool
         ensures value { result ≡ cursor_eq self.now other.now }
         ensures same { IsTrue result ↔ Same (left self.now) (left other.now) }
@@ -45,7 +46,7 @@ impl<'a> Eq for Cursor<'a> {
     ghost laws = { cursor_eq_equiv };
 }
 
-/// Whether both are the same.
+/// Returns whether both parts are the same.
 fn are_same(part: Part<'_>, other: Part<'_>) -> bool
     ensures { IsTrue result ↔ (part_event part.entry ≡ part_event other.entry) }
 {
@@ -63,7 +64,7 @@ fn are_same(part: Part<'_>, other: Part<'_>) -> bool
     }
 }
 
-/// Whether both literals have the same text.
+/// Returns whether both literals have the same text.
 fn are_same_literals(literal: LiteralText<'_>, other: LiteralText<'_>) -> bool
     ensures { IsTrue result ↔ (literal_text literal.entry ≡ literal_text other.entry) }
 {

@@ -1,4 +1,4 @@
-//! A place among the tokens of a buffer.
+//! Cursors over the trees of a buffer.
 ghost use Rattle.std.specs.Prelude.{◌≡◌, ◌≢◌, MatchOption, IfSome, IfNone, false, true};
 ghost use Rattle.std.specs.Str.{chars};
 ghost use Rattle.pm_token.specs.Leaf.{is_joint};
@@ -12,10 +12,11 @@ use pm_span::Span;
 use pm_span::parts::{char_count, span_of};
 use pm_token::{Delimiter, Spacing};
 
-/// The trees of a buffer, or of a group in it, from one on. It is copied freely, and lends the texts of its tokens.
+/// The remaining trees of a buffer, or of a group in it. A cursor is cheap to copy, and lends the texts of its
+/// tokens.
 ///
-/// What reads trees goes on by the cursors that the calls answer, and backs up by an older one. Each call takes the
-/// same time whatever is left, and no memory, but those that say otherwise.
+/// A reader goes on with the cursors that the calls return, and backs up with an older one. Each call takes
+/// constant time and allocates nothing, unless its comment says otherwise.
 #[derive(Clone, Copy)]
 pub struct Cursor<'a> {
     pub(crate) text: &'a str,
@@ -29,7 +30,7 @@ pub struct Cursor<'a> {
 pub struct Name<'a> {
     /// Whether it is written with `r#`.
     pub raw: bool,
-    /// Its name, without `r#`.
+    /// The name, without `r#`.
     pub text: &'a str,
 }
 
@@ -38,11 +39,12 @@ pub struct Name<'a> {
 pub enum LiteralText<'a> {
     /// The literal as it is written.
     Source(&'a str),
-    /// What a doc comment says. The literal is the string of it (`string-text`), which isn't written anywhere.
+    /// The text of a doc comment. The literal is the string of this text (`string-text`), which is not in the
+    /// source.
     Doc(&'a str),
 }
 
-/// A tree, by its text.
+/// A token by its text, or a group.
 #[derive(Clone, Copy)]
 pub enum TokenText<'a> {
     /// An identifier.
@@ -51,7 +53,7 @@ pub enum TokenText<'a> {
     Punct(char, Spacing),
     /// A literal.
     Literal(LiteralText<'a>),
-    /// A group, and its trees.
+    /// A group, and a cursor over its trees.
     Group(Delimiter, Cursor<'a>),
 }
 
@@ -61,7 +63,7 @@ impl<'a> Cursor<'a> {
     ghost use Rattle.token_buffer.specs.Reads.{name_first, mark_first, literal_first, lifetime_first, group_first};
     ghost use Rattle.token_buffer.specs.Reads.{first_extent};
 
-    /// The cursor over the trees of these entries.
+    /// Makes the cursor over the trees of these entries.
     pub(crate) fn over(text: &'a str, entries: &'a [Entry]) -> Cursor<'a>
         requires holds { HoldsOwn text.now entries.now }
         requires built { IsBuilt (trees_of text.now entries.now) }
@@ -70,16 +72,16 @@ impl<'a> Cursor<'a> {
         Cursor { text, entries }
     }
 
-    /// Whether no tree is left.
+    /// Returns whether no tree is left.
     pub fn eof(self) -> bool
         ensures { result ≡ is_nil (left self.entry) }
     {
         self.entries.is_empty()
     }
 
-    /// The first tree and those after it. None at the end.
+    /// Returns the first tree and a cursor over the trees after it, or `None` at the end.
     ///
-    /// Of `a (b)` it is the identifier `a`, and what is left is the group.
+    /// In `a (b)` the first tree is the identifier `a`, and the group is left.
     #[inline(always)]
     pub fn next(self) -> Option<(TokenText<'a>, Cursor<'a>)>
         ensures { MatchOption result (left self.entry ≡ nil) (λ found. Begins found.0 self.entry found.1) }
@@ -161,7 +163,7 @@ impl<'a> Cursor<'a> {
         }
     }
 
-    /// The trees after the first one, which may be a group. None at the end.
+    /// Returns a cursor over the trees after the first one, or `None` at the end. The first tree may be a group.
     pub fn skip(self) -> Option<Cursor<'a>>
         ensures none { IfNone result (left self.entry ≡ nil) }
         ensures some { IfSome result (λ rest. (first : TokenText) × Begins first self.entry rest) }
@@ -170,10 +172,11 @@ impl<'a> Cursor<'a> {
         Some(rest)
     }
 
-    /// Where the first tree stands, in characters, a group with its delimiters. None at the end.
+    /// Returns the span of the first tree, or `None` at the end.
     ///
-    /// It takes time proportional to the length of its text where that is an identifier or a literal. Of a text `(b)`
-    /// it is 1..4.
+    /// The span is in characters, and that of a group includes its delimiters. The time is proportional to the
+    /// text's length if the tree is an identifier or a literal, and else constant. In a text `(b)` the span is
+    /// 1..4.
     pub fn span(self) -> Option<Span>
         ensures { result ≡ first_extent (left self.entry) }
     {
@@ -228,7 +231,7 @@ impl<'a> Cursor<'a> {
         }
     }
 
-    /// The identifier that comes first, if one does, and the trees after it.
+    /// Returns the identifier that comes first and the trees after it, or `None` if none comes first.
     pub fn ident(self) -> Option<(Name<'a>, Cursor<'a>)>
         ensures { MatchOption result (name_first (left self.entry) ≡ false)
             (λ found. BeginsWith (tokens.Name found.0.raw (chars found.0.text.now)) self.entry found.1) }
@@ -239,7 +242,7 @@ impl<'a> Cursor<'a> {
         }
     }
 
-    /// The mark that comes first, if one does, with its spacing, and the trees after it.
+    /// Returns the mark that comes first, its spacing and the trees after it, or `None` if none comes first.
     pub fn punct(self) -> Option<(char, Spacing, Cursor<'a>)>
         ensures { MatchOption result (mark_first (left self.entry) ≡ false)
             (λ found. BeginsWith (tokens.Mark found.0 (is_joint found.1)) self.entry found.2) }
@@ -250,7 +253,7 @@ impl<'a> Cursor<'a> {
         }
     }
 
-    /// The literal that comes first, if one does, and the trees after it.
+    /// Returns the literal that comes first and the trees after it, or `None` if none comes first.
     pub fn literal(self) -> Option<(LiteralText<'a>, Cursor<'a>)>
         ensures { MatchOption result (literal_first (left self.entry) ≡ false)
             (λ found. BeginsWith (tokens.Literal (literal_text found.0)) self.entry found.1) }
@@ -261,8 +264,9 @@ impl<'a> Cursor<'a> {
         }
     }
 
-    /// The name of the lifetime that comes first, if one does, and the trees after it: of `'a` the mark `'`, Joint,
-    /// and the identifier `a`.
+    /// Returns the name of the lifetime that comes first and the trees after it, or `None` if none comes first.
+    ///
+    /// The lifetime `'a` is the mark `'`, which is `Joint`, and the identifier `a`.
     pub fn lifetime(self) -> Option<(Name<'a>, Cursor<'a>)>
         ensures { MatchOption result (lifetime_first (left self.entry) ≡ false)
             (λ found. (name : Cursor) × BeginsWith (tokens.Mark 39 true) self.entry name
@@ -274,7 +278,8 @@ impl<'a> Cursor<'a> {
         }
     }
 
-    /// The trees in the group that comes first, if one does that is delimited so, and the trees after it.
+    /// Returns the trees in the group that comes first and the trees after it, or `None` if no group with this
+    /// delimiter comes first.
     pub fn group(self, delimiter: Delimiter) -> Option<(Cursor<'a>, Cursor<'a>)>
         ensures { MatchOption result (group_first (left self.entry) ≢ Some delimiter)
             (λ found. BeginsWithGroup delimiter self.entry found.0 found.1) }
@@ -285,7 +290,8 @@ impl<'a> Cursor<'a> {
         }
     }
 
-    /// The delimiter and the trees of the group that comes first, if one does, and the trees after it.
+    /// Returns the delimiter and the trees of the group that comes first and the trees after it, or `None` if none
+    /// comes first.
     pub fn any_group(self) -> Option<(Delimiter, Cursor<'a>, Cursor<'a>)>
         ensures { MatchOption result (group_first (left self.entry) ≡ None)
             (λ found. BeginsWithGroup found.0 self.entry found.1 found.2) }
@@ -297,7 +303,7 @@ impl<'a> Cursor<'a> {
     }
 }
 
-/// The position where the group of a closer ends, and 0 of what is no closer.
+/// Returns the position at which a closer's group ends, or 0 for any other entry.
 fn closer_end(entry: Entry) -> u32
     ensures { result ≡ closer_end entry }
 {
@@ -310,7 +316,7 @@ fn closer_end(entry: Entry) -> u32
     }
 }
 
-/// The spacing of a mark.
+/// Returns the spacing of a mark.
 fn spacing(joint: bool) -> Spacing
     ensures { is_joint result ≡ joint }
 {

@@ -1,4 +1,4 @@
-//! What is printed of the trees that a cursor has left, with no trees made of them.
+//! Prints the remaining trees of a cursor, without making trees of them.
 ghost use Rattle.std.specs.Prelude.{◌≡◌, ◌++◌};
 ghost use Rattle.std.specs.Fmt.{WritesOnOk};
 ghost use Rattle.std.specs.Str.{chars, encode_utf8_all};
@@ -15,10 +15,12 @@ use crate::string::{write_one, write_string, write_text};
 use pm_token::Delimiter;
 use std::fmt;
 
-/// The trees that are left by the rule `printed`, as their stream is displayed. It takes no memory, and time in
-/// proportion to what is written. Fails only where the writer does; the text may be written in part then.
+/// Prints the remaining trees as their stream would be printed (`printed`).
 ///
-/// Of `a+=(b)` after `a` it is `+= (b)`.
+/// This allocates nothing, and the time is proportional to the text that is written. An error comes only from the
+/// writer; some of the text may have been written then.
+///
+/// In `a+=(b)`, a cursor after the `a` prints `+= (b)`.
 impl<'a> fmt::Display for Cursor<'a> {
     ghost use Rattle.std.specs.Prelude.{Some};
     ghost use Rattle.pm_stream.specs.Printed.{printed};
@@ -40,7 +42,7 @@ impl<'a> fmt::Display for Cursor<'a> {
     }
 }
 
-/// Prints a part, after a space if gap and it isn't the end of a group.
+/// Prints a part. If `gap` is set, a space is before it, unless the part is the end of a group.
 fn print_part<W: fmt::Write>(part: Part<'_>, gap: bool, f: &mut fmt::Formatter<W>) -> fmt::Result
     ensures { WritesOnOk W.write_str_gives f.old result
         (encode_utf8_all (event_text gap (part_event part.entry))) f.new }
@@ -56,7 +58,7 @@ fn print_part<W: fmt::Write>(part: Part<'_>, gap: bool, f: &mut fmt::Formatter<W
     }
 }
 
-/// Prints a space if gap.
+/// Prints a space if `gap` is set.
 fn print_space<W: fmt::Write>(gap: bool, f: &mut fmt::Formatter<W>) -> fmt::Result
     ensures { WritesOnOk W.write_str_gives f.old result (encode_utf8_all (space gap)) f.new }
 {
@@ -75,7 +77,7 @@ fn print_name<W: fmt::Write>(name: Name<'_>, f: &mut fmt::Formatter<W>) -> fmt::
     write_text(name.text, f)
 }
 
-/// Whether a space goes before the part, where one goes after what came last.
+/// Returns whether a space goes before the part, if `gap` tells whether one goes after the part before it.
 fn gap_before(part: Part<'_>, gap: bool) -> bool
     ensures { result ≡ gap_before part.entry gap }
 {
@@ -85,7 +87,7 @@ fn gap_before(part: Part<'_>, gap: bool) -> bool
     }
 }
 
-/// Whether a space goes after the part.
+/// Returns whether a space goes after the part.
 fn gap_after(part: Part<'_>) -> bool
     ensures { result ≡ gap_after_event (part_event part.entry) }
 {
@@ -96,7 +98,7 @@ fn gap_after(part: Part<'_>) -> bool
     }
 }
 
-/// What a group begins with.
+/// Returns the text that a group begins with.
 fn opener(delimiter: Delimiter) -> &'static str
     ensures { result.now ≡ opening delimiter }
 {
@@ -108,7 +110,7 @@ fn opener(delimiter: Delimiter) -> &'static str
     }
 }
 
-/// What a group ends with, and in a Brace the space before it.
+/// Returns the text that a group ends with, with a space before a closing brace.
 fn closer(delimiter: Delimiter) -> &'static str
     ensures { result.now ≡ ending delimiter }
 {

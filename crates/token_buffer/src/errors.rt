@@ -1,4 +1,4 @@
-//! Why a buffer isn't made.
+//! The errors of a buffer that can't be made.
 ghost use Rattle.std.specs.Prelude.{◌≡◌};
 ghost use Rattle.pm_token.specs.declared.errors.ParseError.TheVariants.{Memory};
 ghost use Rattle.token_buffer.specs.declared.errors.BufferError.TheVariants.{Parse};
@@ -9,19 +9,19 @@ use std::alloc::{AllocError, AllocFailed};
 use std::error::Error;
 use std::fmt;
 
-/// Why a buffer was not made.
+/// The reason why a buffer was not made.
 #[derive(Debug, Drop, PartialEq)]
 pub enum BufferError {
-    /// The text wasn't read.
+    /// The text could not be read.
     Parse(ParseError),
-    /// The text has more than 4294967295 bytes, or more tokens.
+    /// The text has more than 4294967295 bytes, or more than 4294967295 tokens.
     TooLong,
 }
 
 impl BufferError {
     ghost use Rattle.token_buffer.specs.Message.{fault_span};
 
-    /// Where the fault of the text stands, as [`ParseError::span`] has it; `None` if the text has no fault.
+    /// Returns the span of a syntax error, as [`ParseError::span`] does, or `None` for the other errors.
     pub fn span(&self) -> Option<Span>
         ensures { result ≡ fault_span self.now }
     {

@@ -1,4 +1,4 @@
-//! From the tokens of a text to the entries of its buffer.
+//! Makes the entries of a buffer from the tokens of its text.
 ghost use Rattle.std.specs.Prelude.{◌≡◌, ◌+◌, [], ◌∷◌, OnOk, false, length};
 ghost use Rattle.std.specs.Str.{encode_utf8_all};
 ghost use Rattle.pm_stream.specs.Taken.{IsTakenTo};
@@ -10,26 +10,26 @@ use pm_stream::reading::{Lexed, TokenSink};
 use pm_token::Delimiter;
 use std::alloc::AllocError;
 
-/// One more than the largest count of entries that an opener can keep.
+/// One more than the largest number of entries that an opener can count.
 const COUNTS: usize = u32::MAX as usize + 1;
 
-/// What was put into a buffer so far.
+/// A buffer while its text is read.
 #[derive(Drop)]
 pub struct Filling<'t> {
     /// The whole text.
     pub text: &'t str,
-    /// The entries of all tokens.
+    /// The entries of all tokens so far.
     pub entries: Vec<Entry>,
 }
 
 /// A group whose closer is still to come.
 #[derive(Drop)]
 pub struct OpenGroup {
-    /// What stands around it.
+    /// The delimiter of the group.
     delimiter: Delimiter,
     /// The position of its opener.
     lo: u32,
-    /// How many entries stand before that of its opener.
+    /// The index of its opener's entry.
     index: usize,
 }
 
@@ -129,7 +129,7 @@ impl<'t> TokenSink for Filling<'t> {
         self.entries[group.index] = Entry::Open {
             delimiter,
             at: group.lo,
-            // The count of a longer group is wrong, but no buffer is made of so many entries.
+            // The count of a longer group is wrong, but a buffer with so many entries is never returned.
             count: (inside % COUNTS) as u32,
         };
         self.push(Entry::Close {
@@ -140,7 +140,7 @@ impl<'t> TokenSink for Filling<'t> {
 }
 
 impl<'t> Filling<'t> {
-    /// Puts in an entry.
+    /// Adds an entry.
     #[inline(always)]
     fn push(&mut self, entry: Entry) -> Result<(), AllocError>
         ensures { OnOk result (Puts self.old self.new (entry ∷ [])) }
@@ -149,8 +149,9 @@ impl<'t> Filling<'t> {
         Ok(())
     }
 
-    /// Puts in a doc comment: the mark `#`, the mark `!` if it is inner, and the group of its text.
-    // Out of line, since few pieces are doc comments. A `Lexed` passed to it would lie in memory for every piece.
+    /// Adds a doc comment: the mark `#`, the mark `!` if it is inner, and the group with its text.
+    // Out of line, since few pieces are doc comments. If it took a `Lexed`, that of every piece would be put in
+    // memory.
     #[inline(never)]
     fn push_doc(&mut self, inner: bool, text: Entry, at: u32, end: u32) -> Result<(), AllocError>
         ensures { OnOk result (Puts self.old self.new (doc_entries inner text at end)) }
@@ -173,7 +174,7 @@ impl<'t> Filling<'t> {
         })
     }
 
-    /// The byte offsets where a piece begins and where it ends.
+    /// Returns the byte offsets at which a piece begins and ends.
     #[inline(always)]
     fn bytes(&self, lexed: Lexed<'_>) -> (u32, u32)
         requires { IsTakenTo Fills self.now lexed }
@@ -186,7 +187,7 @@ impl<'t> Filling<'t> {
     }
 }
 
-/// A mark that isn't Joint.
+/// Makes the entry of a mark that isn't `Joint`.
 fn alone(mark: char, at: u32, end: u32) -> Entry
     ensures { result ≡ Entry.Mark false mark at end }
 {

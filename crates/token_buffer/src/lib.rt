@@ -1,8 +1,11 @@
-//! A text's tokens in a flat buffer, and a cursor over them.
+//! The tokens of a text in one flat buffer, and cursors over them.
 //!
-//! A buffer takes 16 bytes a token, and room for one for each four bytes of text. It lends each token's text from the
-//! source. A cursor is copied freely: what reads tokens goes on by a new cursor, and backs up by an old one. A rule is
-//! named by its label in backquotes, such as `parses-to`; `docs/GRAMMAR.md` has all of them.
+//! A buffer takes 16 bytes a token, and reserves room for one token per four bytes of text. The text of each token
+//! stays in the source. A cursor is cheap to copy: a reader goes on with a new cursor, and backs up with an old
+//! one.
+//!
+//! A word in backquotes that names no item, such as `parses-to`, is the label of a rule. `docs/GRAMMAR.md` defines
+//! all rules.
 #![tactic(auto)]
 
 mod arguments;

@@ -1,4 +1,4 @@
-//! What an entry says, without where it stands.
+//! The content of an entry, without its position.
 ghost use Rattle.std.specs.Prelude.{◌≡◌};
 ghost use Rattle.token_buffer.specs.Entries.{event_of, IsWithin};
 ghost use Rattle.token_buffer.specs.Parts.{part_event, unplaced};
@@ -7,22 +7,22 @@ use crate::cursor::{LiteralText, Name};
 use crate::entry::Entry;
 use pm_token::Delimiter;
 
-/// A token, or where a group begins or ends.
+/// The content of an entry: a token, or the start or the end of a group.
 #[derive(Clone, Copy)]
 pub enum Part<'a> {
     /// An identifier.
     Ident(Name<'a>),
-    /// A mark, and whether it is Joint.
+    /// A mark, and whether it is `Joint`.
     Punct(char, bool),
     /// A literal.
     Literal(LiteralText<'a>),
-    /// A group begins.
+    /// The start of a group.
     Open(Delimiter),
-    /// A group ends.
+    /// The end of a group.
     Close(Delimiter),
 }
 
-/// What an entry says of its text.
+/// Returns the content of an entry.
 #[inline(always)]
 pub fn part_of(text: &str, entry: Entry) -> Part<'_>
     requires { IsWithin text.now entry }

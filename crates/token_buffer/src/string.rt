@@ -1,4 +1,4 @@
-//! The string literal of what a doc comment says, which is written nowhere.
+//! The string literal of a doc comment's text, which is not in the source.
 ghost use Rattle.std.specs.Prelude.{◌≡◌, ◌∷◌, ◌↔◌, [], IfSome, IsTrue, OnOk};
 ghost use Rattle.std.specs.Fmt.{WritesOnOk};
 ghost use Rattle.std.specs.Str.{chars, encode_utf8_all, IsUtf8};
@@ -12,13 +12,13 @@ use std::fmt;
 /// How a character is written in a string literal.
 #[derive(Clone, Copy)]
 enum Escape {
-    /// The character stands for itself.
+    /// The character itself.
     Bare(char),
-    /// A backslash, and this character.
+    /// A backslash and this character.
     Short(char),
     /// `\x00`.
     LongZero,
-    /// The character's number, as `\u{1f}`.
+    /// The character's number, such as `\u{1f}`.
     Unicode(char),
 }
 
@@ -48,7 +48,7 @@ pub fn write_one<W: fmt::Write>(c: char, f: &mut fmt::Formatter<W>) -> fmt::Resu
     f.write_char(c)
 }
 
-/// Whether the texts are the same, and so are their string literals.
+/// Returns whether both texts are the same. Their string literals are the same exactly then.
 pub fn is_same(text: &str, other: &str) -> bool
     ensures texts { IsTrue result ↔ (chars text.now ≡ chars other.now) }
     ensures strings { IsTrue result ↔ (string_text (chars text.now) ≡ string_text (chars other.now)) }
@@ -56,7 +56,7 @@ pub fn is_same(text: &str, other: &str) -> bool
     text == other
 }
 
-/// Whether the literal is the string literal of the text.
+/// Returns whether `literal` is the string literal of `text`.
 pub fn is_string_of(literal: &str, text: &str) -> bool
     ensures { IsTrue result ↔ (chars literal.now ≡ string_text (chars text.now)) }
 {
@@ -73,7 +73,7 @@ pub fn is_string_of(literal: &str, text: &str) -> bool
     left == "\""
 }
 
-/// Writes a character as this says.
+/// Writes a character in this way.
 fn write_escape<W: fmt::Write>(escape: Escape, f: &mut fmt::Formatter<W>) -> fmt::Result
     ensures { WritesOnOk W.write_str_gives f.old result (encode_utf8_all (escape_text escape)) f.new }
 {
@@ -88,7 +88,7 @@ fn write_escape<W: fmt::Write>(escape: Escape, f: &mut fmt::Formatter<W>) -> fmt
     }
 }
 
-/// Writes the character by its number, as `\u{1f}`.
+/// Writes the character as its number, such as `\u{1f}`.
 fn write_unicode<W: fmt::Write>(c: char, f: &mut fmt::Formatter<W>) -> fmt::Result
     ensures { WritesOnOk W.write_str_gives f.old result (encode_utf8_all (escape_unicode c)) f.new }
 {
@@ -98,7 +98,7 @@ fn write_unicode<W: fmt::Write>(c: char, f: &mut fmt::Formatter<W>) -> fmt::Resu
     Ok(())
 }
 
-/// What follows a character that is written as this says, if the text begins so.
+/// Returns the text after a character that is written in this way, or `None` if the text doesn't begin with that.
 fn after_escape(text: &str, escape: Escape) -> Option<&str>
     ensures after { IsAfter (escape_text escape) (chars text.now) result }
     ensures utf8 { IfSome result (λ rest. IsUtf8 rest.now) }
@@ -111,7 +111,7 @@ fn after_escape(text: &str, escape: Escape) -> Option<&str>
     }
 }
 
-/// What follows the number of the character, as `\u{1f}`, if the text begins so.
+/// Returns the text after the character's number, such as `\u{1f}`, or `None` if the text doesn't begin with that.
 fn after_unicode(text: &str, c: char) -> Option<&str>
     ensures after { IsAfter (escape_unicode c) (chars text.now) result }
     ensures utf8 { IfSome result (λ rest. IsUtf8 rest.now) }
@@ -123,7 +123,7 @@ fn after_unicode(text: &str, c: char) -> Option<&str>
     Some(rest)
 }
 
-/// What follows the character, if the text begins with it.
+/// Returns the text after the character, or `None` if the text doesn't begin with it.
 fn after(text: &str, c: char) -> Option<&str>
     ensures after { IsAfter (c ∷ []) (chars text.now) result }
     ensures utf8 { IfSome result (λ rest. IsUtf8 rest.now) }
@@ -135,7 +135,7 @@ fn after(text: &str, c: char) -> Option<&str>
     }
 }
 
-/// How a character is written where the rest of the text follows.
+/// Returns how the character is written in a string literal, if `rest` follows it.
 fn escape_of(c: char, rest: &str) -> Escape
     ensures { escape_text result ≡ written 34 written_char c (chars rest.now) }
 {

@@ -1,4 +1,4 @@
-//! From what a cursor has left to a stream of trees.
+//! Makes trees of what a cursor has left.
 ghost use Rattle.std.specs.Prelude.{◌≡◌, IfOk, MatchOption};
 ghost use Rattle.std.specs.Str.{bytes_eq, chars, encode_utf8_all};
 ghost use Rattle.pm_stream.specs.Forest.{IsBuilt, nil};
@@ -20,34 +20,34 @@ use std::alloc::{AllocError, Global};
 /// A group whose trees are being made.
 #[derive(Drop)]
 struct OpenTrees<'a> {
-    /// The trees before it, in the group around it.
+    /// The trees before the group, in the group around it.
     before: Vec<TokenTree>,
-    /// What stands around its trees.
+    /// The delimiter of the group.
     delimiter: Delimiter,
-    /// Where it stands.
+    /// The span of the group.
     span: Span,
-    /// What is left after it.
+    /// The trees after the group.
     after: Cursor<'a>,
 }
 
 /// The tree that a cursor begins with.
 #[derive(Clone, Copy)]
 struct FirstTree<'a> {
-    /// Its text.
+    /// The text of the tree.
     text: TokenText<'a>,
-    /// Where it stands.
+    /// The span of the tree.
     span: Span,
-    /// What is left after it.
+    /// The trees after it.
     after: Cursor<'a>,
 }
 
 impl<'a> Cursor<'a> {
-    /// The trees that are left, as a stream, with their spans. Fails where memory runs out.
+    /// Returns the remaining trees as a stream, with their spans. Out of memory is the only error.
     ///
-    /// Spans are those of [`span`](Cursor::span): positions in a new map, whose first file the text would be. It takes
-    /// time and memory in proportion to what is left, and little stack however deep groups nest.
+    /// Spans are those of [`span`](Cursor::span): positions in a new map that has the text as its first file. Time
+    /// and memory are proportional to what is left, and deeply nested groups need little stack.
     ///
-    /// Of `a (b) c` after `a` it is the stream of `(b) c`.
+    /// In `a (b) c`, a cursor after the `a` gives the stream of `(b) c`.
     pub fn to_stream(self, alloc: Global) -> Result<TokenStream, AllocError>
         ensures { IfOk result (λ stream. stream ≡ left self.entry) }
     {
@@ -102,15 +102,15 @@ impl<'a> Cursor<'a> {
         }
     }
 
-    /// The trees that are left, with almost all groups empty: who reads items doesn't need what is inside. Fails where
-    /// memory runs out.
+    /// Returns the remaining trees without most of those inside groups, for readers that need only the outer ones.
+    /// Out of memory is the only error.
     ///
-    /// Groups in braces and in brackets have no trees. A group in parentheses keeps its trees if they are one
-    /// identifier or begin with `in`, which all that restrict `pub` do, and else has none. A group without delimiters
-    /// keeps its trees. Spans are those of [`to_stream`](Cursor::to_stream). It takes time and memory in proportion to
-    /// the trees that it answers, whatever is left out.
+    /// A group in braces or brackets has no trees. A group in parentheses keeps its trees only if they are one
+    /// identifier or begin with `in`, as all restrictions of `pub` do. A group without delimiters keeps its trees.
+    /// Spans are those of [`to_stream`](Cursor::to_stream). Time and memory are proportional to the returned trees,
+    /// whatever is left out.
     ///
-    /// Of `pub(crate) fn f(a: u8) {}` they are `pub`, the group of `crate`, `fn`, `f` and two empty groups.
+    /// `pub(crate) fn f(a: u8) {}` gives `pub`, the group of `crate`, `fn`, `f` and two empty groups.
     pub fn outer_trees(self, alloc: Global) -> Result<Vec<TokenTree>, AllocError>
         ensures { IfOk result (λ trees. forest trees.items ≡ outer (left self.entry)) }
     {
@@ -123,7 +123,7 @@ impl<'a> Cursor<'a> {
         Ok(trees)
     }
 
-    /// The first tree, where it stands, and the trees after it. None at the end.
+    /// Returns the first tree, its span and the trees after it, or `None` at the end.
     fn first(self) -> Option<FirstTree<'a>>
         ensures { MatchOption result (left self.entry ≡ nil)
             (λ first. left self.entry ≡ first_onto first.text first.span (left first.after)) }
@@ -134,7 +134,7 @@ impl<'a> Cursor<'a> {
     }
 }
 
-/// The tree of this text at this span. A group keeps few of its trees.
+/// Makes the tree of this text with this span. If it is a group, it keeps few of its trees.
 fn outer_tree(alloc: Global, text: TokenText<'_>, span: Span) -> Result<TokenTree, AllocError>
     requires { IsBuilt (first_onto text span nil) }
     ensures { IfOk result (λ tree. alone tree ≡ outer (first_onto text.entry span nil)) }
@@ -150,7 +150,7 @@ fn outer_tree(alloc: Global, text: TokenText<'_>, span: Span) -> Result<TokenTre
     }
 }
 
-/// What a group keeps of its trees.
+/// Returns the stream of the trees that a group keeps.
 fn outer_stream(
     alloc: Global,
     delimiter: Delimiter,
@@ -165,7 +165,7 @@ fn outer_stream(
     }
 }
 
-/// Whether the trees are one identifier, or begin with `in`.
+/// Returns whether the trees are one identifier, or begin with `in`.
 fn may_restrict(inside: Cursor<'_>) -> bool
     ensures { result ≡ may_restrict (left inside.entry) }
 {
@@ -175,14 +175,14 @@ fn may_restrict(inside: Cursor<'_>) -> bool
     }
 }
 
-/// Whether both are the same.
+/// Returns whether both texts are the same.
 fn is_text(text: &str, other: &str) -> bool
     ensures { result ≡ bytes_eq (encode_utf8_all (chars text.now)) other.now }
 {
     text == other
 }
 
-/// The literal of this text.
+/// Makes the literal of this text. Out of memory is the only error.
 fn literal_at(alloc: Global, text: LiteralText<'_>, span: Span) -> Result<Literal, AllocError>
     requires { IsBuiltToken (tokens.Literal (literal_text text)) }
     ensures ok { IfOk result (λ literal. literal ≡ record { text = literal_text text.entry; span = span }) }

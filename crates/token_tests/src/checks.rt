@@ -1,22 +1,22 @@
-//! The assertions that the tests share.
+//! Assertions that the tests share.
 use pm_span::{SourceMap, Span};
 use pm_token::{Ident, IdentError, Literal, ParseError};
 use std::alloc::{AllocError, Global};
 use std::fmt::{Debug, Display};
 use std::process::Abort;
 
-/// Asserts that the answer at a row of a test, which is printed if it fails, is the wanted one.
+/// Asserts that the result in a row of a test is the expected one. The row is printed if it fails.
 pub fn check_same<T: PartialEq + Debug>(rt: &impl Abort, row: &str, answer: &T, want: &T) {
     assert_eq!(rt; answer, want, "at {row:?}");
 }
 
-/// The literal of the text, as the first text of a new map.
+/// Reads the literal of the text, as the first text of a new map.
 pub fn read(alloc: Global, text: &str) -> Result<Literal, ParseError> {
     let mut map = SourceMap::new(alloc);
     Literal::from_str(text, &mut map)
 }
 
-/// The identifier of the name, which stands in no file.
+/// Makes the identifier of the name, with the span 0..0.
 pub fn made(alloc: Global, name: &str, raw: bool) -> Result<Ident, IdentError> {
     if raw {
         Ident::new_raw(alloc, name, Span::call_site())
@@ -25,7 +25,7 @@ pub fn made(alloc: Global, name: &str, raw: bool) -> Result<Ident, IdentError> {
     }
 }
 
-/// The text of the literal, if it was made.
+/// Returns the text of the literal, if it was made.
 fn text_of(literal: &Result<Literal, AllocError>) -> Option<&str> {
     match literal {
         Ok(literal) => Some(literal.text()),
@@ -33,12 +33,12 @@ fn text_of(literal: &Result<Literal, AllocError>) -> Option<&str> {
     }
 }
 
-/// Asserts that the literal was made, and is written as this text.
+/// Asserts that the literal was made, and has this text.
 pub fn is_written(rt: &impl Abort, literal: Result<Literal, AllocError>, want: &str) {
     check_same(rt, want, &text_of(&literal), &Some(want));
 }
 
-/// Asserts that the value is displayed as this text.
+/// Asserts the `Display` text of a value.
 pub fn displays<T: Display>(
     rt: &impl Abort,
     alloc: Global,
@@ -50,7 +50,7 @@ pub fn displays<T: Display>(
     Ok(())
 }
 
-/// Asserts that the value shows its parts as this text.
+/// Asserts the `Debug` text of a value.
 pub fn shows<T: Debug>(
     rt: &impl Abort,
     alloc: Global,
@@ -62,7 +62,7 @@ pub fn shows<T: Debug>(
     Ok(())
 }
 
-/// Asserts what each value of the table shows of itself.
+/// Asserts the `Debug` text of each value of the table.
 pub fn are_shown<T: Debug>(
     rt: &impl Abort,
     alloc: Global,
@@ -74,7 +74,7 @@ pub fn are_shown<T: Debug>(
     Ok(())
 }
 
-/// Asserts what each value of the table is displayed as.
+/// Asserts the `Display` text of each value of the table.
 pub fn are_displayed<T: Display>(
     rt: &impl Abort,
     alloc: Global,
@@ -86,7 +86,7 @@ pub fn are_displayed<T: Display>(
     Ok(())
 }
 
-/// Asserts that each value of the table is equal to itself, and to no other of them.
+/// Asserts that each value of the table is equal to itself, and to none of the others.
 pub fn are_distinct<T: PartialEq + Debug>(rt: &impl Abort, values: &[T]) {
     for (at, value) in values.iter().enumerate() {
         is_distinct(rt, values, at, value);

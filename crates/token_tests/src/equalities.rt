@@ -1,4 +1,4 @@
-// Values are equal exactly where they are of one kind and have equal parts.
+// Values are equal exactly if they are the same variant and have equal parts.
 use crate::checks::are_distinct;
 use literal_escaper::EscapeError;
 use pm_token::{ConversionErrorKind, Delimiter, Spacing};

@@ -1,28 +1,28 @@
-// A text of at most 22 bytes stands in its token, and a longer one behind a pointer. Both are kept and copied.
+// A text of at most 22 bytes is kept in its token, and a longer one in memory. Both are kept unchanged and copied.
 use crate::checks::{check_same, made};
 use pm_token::{Ident, IdentError, Literal};
 use std::alloc::{AllocError, Global};
 use std::process::Abort;
 use std::test::Fail;
 
-/// A copy of the identifier of the name.
+/// Copies the identifier of the name.
 fn copied(alloc: Global, name: &str, raw: bool) -> Result<Ident, IdentError> {
     Ok(made(alloc, name, raw)?.clone()?)
 }
 
-/// A copy of the string literal of the text.
+/// Copies the string literal of the text.
 fn copied_literal(alloc: Global, text: &str) -> Result<Literal, AllocError> {
     let literal = Literal::string(alloc, text)?;
     literal.clone()
 }
 
-/// What a copy of the identifier of the name is written as.
+/// Returns how a copy of the identifier of the name is written.
 fn written(alloc: Global, name: &str, raw: bool) -> Result<String, IdentError> {
     let copy = copied(alloc, name, raw)?;
     Ok(format!(in alloc; "{copy}")?)
 }
 
-/// What a copy of the string literal of the text is written as.
+/// Returns how a copy of the string literal of the text is written.
 fn written_literal(alloc: Global, text: &str) -> Result<String, AllocError> {
     let copy = copied_literal(alloc, text)?;
     format!(in alloc; "{copy}")
@@ -50,7 +50,7 @@ fn is_quoted(rt: &impl Abort, alloc: Global, text: &str) -> Result<(), AllocErro
     Ok(())
 }
 
-/// A text of 100,000 bytes.
+/// Makes a text of 100,000 bytes.
 fn long_text(alloc: Global) -> Result<String, AllocError> {
     let mut text = String::new(alloc);
     for _ in 0..10_000 {

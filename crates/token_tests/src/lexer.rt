@@ -163,7 +163,7 @@ fn no_piece_stands(rt: HostRuntime) {
     );
 }
 
-/// Asserts how many bytes the name has that the text begins with.
+/// Asserts how many bytes the name at the start of the text has.
 fn check_name(rt: &impl Abort, text: &str, bytes: Option<usize>) {
     check_same(rt, text, &name_at(text), &bytes);
 }

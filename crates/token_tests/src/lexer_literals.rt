@@ -2,7 +2,7 @@ use crate::piece_checks::{check_literal_length, check_no_pieces, check_pieces};
 use lexical::PieceKind;
 use std::process::Abort;
 
-/// Asserts that each text begins with a literal of so many bytes and characters.
+/// Asserts that each text begins with a literal, with this number of bytes and of characters.
 fn check_literals(rt: &impl Abort, rows: &[(&str, usize, usize)]) {
     check_pieces(rt, PieceKind::Literal, rows);
     for &(text, bytes, _) in rows {

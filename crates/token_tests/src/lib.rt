@@ -1,7 +1,7 @@
-//! Tests of the lexer, of contents, of tokens, of spans and of the source map, by texts and answers from outside, where
-//! the recorded answers of `conformance` show nothing.
+//! Tests of the lexer, of contents, of tokens, of spans and of the source map. The expected results come from
+//! outside. They cover what the recorded answers of `conformance` do not.
 //!
-//! They stand in a crate of their own, since a crate that has tests is proved once more with them.
+//! The tests are in a crate of their own, because a crate that has tests is proved once more with them.
 #![tactic(auto)]
 
 #[cfg(test)]

@@ -10,7 +10,7 @@ fn line_column((line, column): (usize, usize)) -> LineColumn {
     LineColumn { line, column }
 }
 
-/// Asserts how each line with a column is compared with the one beside it, by each operator.
+/// Asserts how each pair of line and column compares with the one beside it, for each operator.
 fn are_compared(rt: &impl Abort, rows: &[((usize, usize), (usize, usize), Ordering)]) {
     for &(first, second, order) in rows {
         let (a, b) = (line_column(first), line_column(second));
@@ -20,7 +20,7 @@ fn are_compared(rt: &impl Abort, rows: &[((usize, usize), (usize, usize), Orderi
     }
 }
 
-/// How many of them differ, for a map that hashes them and one that orders them.
+/// Returns how many of them differ, for a map that hashes them and one that orders them.
 fn count(
     alloc: Global,
     numbers: &[(usize, usize)],

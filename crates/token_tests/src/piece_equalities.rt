@@ -1,4 +1,4 @@
-// Values are equal exactly where they are of one kind and have equal parts.
+// Values are equal exactly if they are the same variant and have equal parts.
 use crate::checks::are_distinct;
 use lexical::{Piece, PieceKind};
 use literal_escaper::{EscapeError, MixedUnit, Mode, NonZeroChar, NonZeroU8};
@@ -108,7 +108,7 @@ fn kinds_of_pieces_are_equal_by_their_parts(rt: HostRuntime) {
     are_distinct(&rt, &kinds);
 }
 
-/// A piece that is a gap or a literal.
+/// Makes a piece that is a gap or a literal.
 fn piece(is_gap: bool, bytes: usize, chars: usize) -> Piece<'static> {
     let kind = if is_gap {
         PieceKind::Gap

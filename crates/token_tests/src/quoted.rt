@@ -1,4 +1,4 @@
-// What is written for bytes that are no text. What is written for texts is among the recorded answers of `conformance`.
+// The literals of bytes that are no text. The literals of texts are among the recorded answers of `conformance`.
 use crate::checks::is_written;
 use pm_token::Literal;
 

@@ -1,4 +1,4 @@
-// What errors show of themselves, and what they say.
+// The `Debug` and `Display` texts of errors.
 use crate::checks::{are_displayed, are_shown, displays, shows};
 use literal_escaper::EscapeError;
 use pm_span::parts::span_of;
@@ -8,7 +8,7 @@ use pm_token::{ConversionErrorKind, IdentError, Literal, ParseError};
 use std::alloc::{AllocError, Global};
 use std::process::Abort;
 
-/// Asserts what the error of a text that is no literal shows of itself.
+/// Asserts the `Debug` text of the error for a text that is no literal.
 fn is_refused_as(rt: &impl Abort, alloc: Global, text: &str, want: &str) -> Result<(), AllocError> {
     let mut map = SourceMap::new(alloc);
     let refused = Literal::from_str(text, &mut map).err();

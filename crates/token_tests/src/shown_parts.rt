@@ -1,4 +1,4 @@
-// What the parts of tokens show of themselves, and tokens without a span.
+// The `Debug` texts of the parts of tokens, and of tokens without a span.
 use crate::checks::{are_shown, check_same, read, shows};
 use pm_span::parts::span_of;
 use pm_span::{LineColumn, SourceMap, Span};
@@ -25,7 +25,7 @@ fn a_spacing_shows_its_name(rt: HostRuntime) -> Result<(), AllocError> {
     are_shown(&rt, rt.alloc(), &rows)
 }
 
-/// Asserts what the raw identifier of the name shows of itself.
+/// Asserts the `Debug` text of the raw identifier with the name.
 fn raw_shows(
     rt: &impl Abort,
     alloc: Global,
@@ -67,7 +67,7 @@ fn a_mark_without_a_place_shows_no_span(rt: HostRuntime) -> Result<(), AllocErro
     are_shown(&rt, rt.alloc(), &rows)
 }
 
-/// Asserts what the literal shows of itself, if it was made.
+/// Asserts the `Debug` text of the literal, if it was made.
 fn made_shows(
     rt: &impl Abort,
     alloc: Global,
@@ -78,7 +78,7 @@ fn made_shows(
     shows(rt, alloc, &literal, want)
 }
 
-/// Asserts what the literal of the text shows of itself.
+/// Asserts the `Debug` text of the literal that is read from the text.
 fn read_shows(rt: &impl Abort, alloc: Global, text: &str, want: &str) -> Result<(), ParseError> {
     let literal = read(alloc, text)?;
     shows(rt, alloc, &literal, want)?;
@@ -121,7 +121,7 @@ fn a_place_shows_its_line_and_column(rt: HostRuntime) -> Result<(), AllocError> 
     shows(&rt, rt.alloc(), &value, "LineColumn { line: 3, column: 0 }")
 }
 
-/// What a map of these texts, with the limit 100, shows of itself.
+/// Returns the `Debug` text of a map of these texts, with the limit 100.
 fn map_shown(alloc: Global, texts: &[&str]) -> Result<String, AllocError> {
     let mut map = SourceMap::with_limit(alloc, 100);
     for text in texts {

@@ -1,4 +1,4 @@
-// How many bytes a token takes, since a long text is many tokens.
+// The sizes of tokens in bytes. They matter because a long text has many tokens.
 use crate::checks::check_same;
 use pm_span::Span;
 use pm_token::{Ident, Literal, Punct};

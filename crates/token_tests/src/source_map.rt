@@ -5,7 +5,7 @@ use std::alloc::{AllocError, Global};
 use std::process::Abort;
 use std::test::Fail;
 
-/// Adds the text if it fits, and says where it begins.
+/// Adds the text if it fits, and returns the position at which it begins.
 fn add(map: &mut SourceMap, text: &str) -> Result<Option<u32>, AllocError> {
     match fits(map, text) {
         None => Ok(None),
@@ -16,13 +16,13 @@ fn add(map: &mut SourceMap, text: &str) -> Result<Option<u32>, AllocError> {
     }
 }
 
-/// Asserts that the text begins here when it is added.
+/// Asserts that the text begins at `lo` when it is added.
 fn is_added(rt: &impl Abort, map: &mut SourceMap, text: &str, lo: u32) -> Result<(), AllocError> {
     check_same(rt, text, &add(map, text)?, &Some(lo));
     Ok(())
 }
 
-/// Asserts where an empty text begins that is added after `abcd`, under the limit.
+/// Asserts where an empty text begins if it is added after `abcd`, with this limit.
 fn second_is(
     rt: &impl Abort,
     alloc: Global,
@@ -36,7 +36,7 @@ fn second_is(
     Ok(())
 }
 
-/// Where the span starts, if the map holds it.
+/// Returns where the span starts, if the map holds it.
 fn start(map: &SourceMap, span: Span) -> Option<LineColumn> {
     if map.holds(span) {
         Some(span.start(map))
@@ -45,7 +45,7 @@ fn start(map: &SourceMap, span: Span) -> Option<LineColumn> {
     }
 }
 
-/// Asserts that the map holds the empty span at each `lo`, which starts at the line and the column.
+/// Asserts that the map holds the empty span at each `lo`, and that it starts at this line and column.
 fn start_at(rt: &impl Abort, map: &SourceMap, rows: &[(u32, usize, usize)]) {
     for &(lo, line, column) in rows {
         let answers = (lo, start(map, span_of(lo, lo)));
@@ -54,7 +54,7 @@ fn start_at(rt: &impl Abort, map: &SourceMap, rows: &[(u32, usize, usize)]) {
     }
 }
 
-/// Asserts whether the map holds each span, from `lo` to `hi`.
+/// Asserts whether the map holds each span from `lo` to `hi`.
 fn are_held(rt: &impl Abort, map: &SourceMap, rows: &[(u32, u32, bool)]) {
     for &(lo, hi, held) in rows {
         let answers = (lo, hi, lo <= hi && map.holds(span_of(lo, hi)));

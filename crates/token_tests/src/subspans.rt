@@ -10,7 +10,7 @@ use std::process::Abort;
 /// Two bounds, and the positions of the part between them.
 type Row = (Bound<usize>, Bound<usize>, Option<(u32, u32)>);
 
-/// Asserts where the part of the literal stands that the bounds of each row name.
+/// Asserts the span of the part of the literal that the bounds of each row name.
 fn parts_are(rt: &impl Abort, literal: &Literal, rows: &[Row]) {
     for (row, &(start, end, want)) in rows.iter().enumerate() {
         let found = literal.subspan(start, end).map(bounds);

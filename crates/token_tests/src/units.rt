@@ -1,4 +1,4 @@
-// What a content is made of. Which items each content has is among the recorded answers of `conformance`.
+// The units of contents. The items of each content are among the recorded answers of `conformance`.
 use crate::checks::check_same;
 use literal_escaper::{EscapeError, Mode, NonZeroChar, NonZeroU8, unescape_str};
 use std::process::Abort;
@@ -13,7 +13,7 @@ fn the_value_zero_is_refused(rt: HostRuntime) {
     check_same(&rt, "the byte 0xFF", &byte, &Some(0xFF));
 }
 
-/// Asserts whether the contents of this kind stand in double quotes, and after which letter.
+/// Asserts whether contents of this kind are in double quotes, and after which prefix.
 fn check_prefix(rt: &impl Abort, mode: Mode, quoted: bool, prefix: &str) {
     let answers = (mode, mode.in_double_quotes(), mode.prefix_noraw());
     check_same(rt, "quotes and prefix", &answers, &(mode, quoted, prefix));

@@ -2,8 +2,8 @@ use crate::checks::check_same;
 use lexical::{PieceKind, PieceWalk, pieces};
 use std::process::Abort;
 
-/// Asserts that the text has pieces of these kinds and texts, one right after the other, the first at byte 0; that no
-/// piece is left then, however often it is asked, and that this is the rest.
+/// Asserts that the text has pieces of these kinds and texts, one directly after another, the first at byte 0.
+/// After them each call returns no piece, and this is the rest.
 fn check_walk(rt: &impl Abort, text: &str, rows: &[(PieceKind<'_>, &str)], rest: &str) {
     let mut walk = pieces(text);
     let mut byte_offset: usize = 0;
@@ -17,7 +17,7 @@ fn check_walk(rt: &impl Abort, text: &str, rows: &[(PieceKind<'_>, &str)], rest:
     check_same(rt, text, &walk.rest(), &rest);
 }
 
-/// Asserts where the next piece stands, its kind and its text.
+/// Asserts the byte offset, the kind and the text of the next piece.
 fn check_next(
     rt: &impl Abort,
     walk: &mut PieceWalk<'_>,
@@ -30,7 +30,7 @@ fn check_next(
     assert_eq!(rt; answer, want);
 }
 
-/// The kind of a mark.
+/// Returns the kind of a mark.
 fn mark_of(mark: char, joint: bool) -> PieceKind<'static> {
     PieceKind::Mark { joint, mark }
 }
@@ -79,9 +79,9 @@ fn the_pieces_end_at_a_fault(rt: HostRuntime) {
         &[(mark_of('+', false), "+"), (PieceKind::Gap, " ")],
         "\"a",
     );
-    // U+FEFF is a piece at the very front alone.
+    // U+FEFF is a piece only at the start of a text.
     check_walk(&rt, " \u{FEFF}", &[(PieceKind::Gap, " ")], "\u{FEFF}");
-    // A NUL, which may not stand in a C string, is no fault of one that ends before it.
+    // A NUL, which a C string can't contain, is no error after the end of one.
     let rows = &[(PieceKind::Literal, "cr\"a\"")];
     check_walk(&rt, "cr\"a\"\0", rows, "\0");
 }
@@ -91,7 +91,7 @@ fn an_empty_text_has_no_pieces(rt: HostRuntime) {
     check_walk(&rt, "", &[], "");
 }
 
-/// Asserts which white characters come next, which piece after them, and which text follows them.
+/// Asserts the white characters that come next, the piece after them, and the text after that.
 fn check_spaced(
     rt: &impl Abort,
     walk: &mut PieceWalk<'_>,

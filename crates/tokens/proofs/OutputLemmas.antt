@@ -1,4 +1,4 @@
--- Lemmas on line and column of an input's fault.
+-- Lemmas about the line and column of an input's syntax error.
 use Rattle.std.proofs.Common.{◌≡◌, ◌↔◌, ℕ, ◌+◌, ◌-◌, List, Err, if◌then◌else◌, refl, subst, arith}
 use Rattle.std.specs.Str.{chars, IsUtf8}
 use Rattle.std.specs.Prelude.{alloc_error}
@@ -17,7 +17,7 @@ use Rattle.tokens.specs.declared.errors.RunError.{RunError}
 use Rattle.tokens.specs.declared.errors.RunError.TheVariants as run
 use Rattle.tokens.specs.Output.{HasFaultAt}
 
--- where the fault of the one text that a map has read begins, the input's fault begins
+-- the input's error is where the error of the only text in the map begins
 HasFaultAt-read : (new : Files) (input : List ℕ) (fault : Extent) (start : LineColumn) → IsUtf8 input
     → new ≡ with_file new_map (chars input) → fault.lo ≡ fault.hi → FaultAt 1 (chars input) fault.lo
     → StartsAt new fault start → HasFaultAt input start
@@ -31,7 +31,7 @@ HasFaultAt-read new input fault start text read empty stands starts =
       at = fault_starts new_map new (chars input) fault start read (empty, stands) starts;
     }
 
--- an error with line and column has those of the fault
+-- an error with line and column has those of the input's syntax error
 pub HasFaultAt-refused : (new : Files) (input : List ℕ) (error : ParseError) (why : RunError) (start : LineColumn)
     → IsUtf8 input
     → IfLex error (λ fault. (fault.lo ≡ fault.hi) × FaultAt (next_lo new_map) (chars input) fault.lo)

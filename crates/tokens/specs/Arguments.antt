@@ -1,4 +1,4 @@
--- The words that the program was given.
+-- The words of the command line.
 use Rattle.std.specs.Prelude.{ℕ, Bool, true, false, List, [], drop, map, if◌then◌else◌, Result, Ok, Err, String}
 use Rattle.std.specs.Prelude.{string_bytes, alloc_error}
 use Rattle.std.specs.IoError.{error_kind}
@@ -14,12 +14,13 @@ use Rattle.std.specs.declared.vec.IntoIter.{IntoIter}
 abbrev pub Arguments : Type 0
 Arguments = IntoIter (String Global) Global
 
--- whether arguments weren't had since they are no text
+-- whether the reason why there are no arguments is that one of them isn't text
 abbrev pub is_no_text : ErrorKind → Bool
 is_no_text InvalidData = true
 is_no_text _ = false
 
--- the words after the program's name, none where the arguments are no text; else there was no memory for the arguments
+-- the words after the program's name, none if an argument isn't text; an error means that there was no memory for the
+-- arguments
 abbrev pub words : Result Arguments Error → Result (List (List ℕ)) AllocError
 words (Ok arguments) = Ok (map string_bytes (drop 1 (into_iter_items arguments)))
 words (Err error) = if is_no_text (error_kind error) then Ok [] else Err alloc_error

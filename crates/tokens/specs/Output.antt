@@ -1,4 +1,4 @@
--- What is written for an input, and why it is refused.
+-- The output for an input, and its errors.
 use Rattle.std.specs.Prelude.{ℕ, ◌+◌, ◌≡◌, List, ◌++◌, length, codes, flat_map, string_bytes}
 use Rattle.std.specs.Str.{chars, IsUtf8, encode_utf8_all}
 use Rattle.proc_macro2.specs.declared.LineColumn.{LineColumn}
@@ -14,13 +14,13 @@ use Rattle.tokens.specs.declared.output.RunOutput.{RunOutput}
 use Rattle.tokens.specs.declared.output.RunOutput.TheVariants.{Text, Trees}
 use Rattle.tokens.specs.Spans.{span_line, tree_line}
 
--- what is written of a stream that the source parses to, in bytes: for `print` its printed text and a line feed, for
--- `spans` a line for each tree, each group before those inside it
+-- the bytes that are written for a stream to which the source parses: with `Print` its printed text and a line feed,
+-- with `Spans` a line for each tree, where a group comes before the trees inside it
 abbrev pub written : OutputMode → List ℕ → Forest → List ℕ
 written Print source stream = encode_utf8_all (printed stream) ++ codes "\n"
 written Spans source stream = flat_map (span_line source) (in_order stream)
 
--- `output`: the bytes are what is written of the stream that the input parses to
+-- `output`: the bytes are what is written for the stream to which the input parses
 pub record IsOutput (mode : OutputMode) (input bytes : List ℕ) : Type 0 where
   pub text : IsUtf8 input
   pub stream : Forest
@@ -32,23 +32,23 @@ abbrev pub output_bytes : RunOutput → List ℕ
 output_bytes (Text text) = string_bytes text
 output_bytes (Trees trees) = flat_map tree_line trees.items
 
--- the output is what is written of the stream that the source parses to
+-- the output is what is written for the stream to which the source parses
 pub record IsOutputOf (mode : OutputMode) (source : List ℕ) (output : RunOutput) : Type 0 where
   pub stream : Forest
   pub parses : ParsesTo (next_lo new_map) source stream
   pub writes : output_bytes output ≡ written mode source stream
 
--- the input is too long for a new map
+-- the input is text that is too long for a new map
 pub record IsTooLong (input : List ℕ) : Type 0 where
   pub text : IsUtf8 input
   pub long : ¬ Fits new_map (length (chars input))
 
--- the input is a text that fits a new map
+-- the input is text that fits a new map
 pub record IsReadable (input : List ℕ) : Type 0 where
   pub text : IsUtf8 input
   pub fits : Fits new_map (length (chars input))
 
--- the input's fault stands here, after so many of its characters
+-- the input's syntax error is at this line and column, after `before` of its characters
 pub record HasFaultAt (input : List ℕ) (start : LineColumn) : Type 0 where
   pub text : IsUtf8 input
   pub before : ℕ

@@ -10,16 +10,16 @@ use Rattle.tokens.specs.Answer.{is_io, is_on_input}
 use Rattle.tokens.specs.Known.{IsReadOut, AppendsFront}
 use Rattle.tokens.specs.Output.{IsOutput, IsTooLong, HasFaultAt}
 
--- what is seen of a run's source and sink
+-- what is known about a run's source and sink
 pub record Seen : Type 0 where
-  -- the bytes that the source has left, where it tells them
+  -- the bytes that the source has left, if they are known
   pub left : Option (List ℕ)
   pub read_failed : Bool
-  -- the bytes that the sink holds, where it tells them
+  -- the bytes that the sink holds, if they are known
   pub held : Option (List ℕ)
   pub write_failed : Bool
 
--- it of a source and a sink
+-- what is known about a source and a sink, by the functions of their traits
 abbrev pub seen_by : {R W : Type 0} → (R → Option (List ℕ)) → (R → Bool) → (W → Option (List ℕ)) → (W → Bool)
     → R → W → Seen
 seen_by left read_failed held write_failed reader writer =
@@ -30,13 +30,13 @@ seen_by left read_failed held write_failed reader writer =
       write_failed = write_failed writer;
     }
 
--- the sink got an output of the input
+-- the output for the input was appended to the sink
 pub record WritesOutput (mode : OutputMode) (old new : Seen) (input : List ℕ) : Type 0 where
   pub output : List ℕ
   pub is : IsOutput mode input output
   pub appends : Appends old.held new.held output
 
--- the sink got a beginning of an output of the input
+-- a prefix of the output for the input was appended to the sink
 pub record WritesFront (mode : OutputMode) (old new : Seen) (input : List ℕ) : Type 0 where
   pub output : List ℕ
   pub is : IsOutput mode input output
@@ -48,14 +48,15 @@ pub record FailsToRead (old new : Seen) : Type 0 where
   pub write_failed : new.write_failed ≡ old.write_failed
   pub kept : Keeps old.held new.held
 
--- all was read, a write failed or took nothing, and a beginning of the output was written
+-- the whole input was read, a write failed or took no bytes, and a prefix of the output was written
 pub record FailsToWrite (mode : OutputMode) (old new : Seen) : Type 0 where
   pub read : IsReadOut old.left new.left
   pub read_failed : new.read_failed ≡ old.read_failed
   pub failed : IsTrue new.write_failed
   pub front : IfSome old.left (WritesFront mode old new)
 
--- the source's bytes, where it tells them, decide the answer, what is written, and what is seen after it
+-- the source's bytes, if they are known, decide the result, what is written, and what is known about source and sink
+-- afterwards
 pub record Runs (mode : OutputMode) (old : Seen) (answer : Result Unit RunError) (new : Seen) : Type 0 where
   pub ok : OnOk answer (IfSome old.left (WritesOutput mode old new))
   pub io : IsTrue (is_io answer) → FailsToRead old new ⊎ FailsToWrite mode old new

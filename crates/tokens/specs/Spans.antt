@@ -1,4 +1,4 @@
--- What is written of where trees stand.
+-- The lines that say where trees are.
 use Rattle.std.specs.Prelude.{ℕ, ◌-◌, List, ◌++◌, codes, decimal}
 use Rattle.proc_macro2.specs.Files.{new_map, next_lo}
 use Rattle.proc_macro2.specs.CharOffset.{line_column}
@@ -18,20 +18,20 @@ kind (Ident i) = codes "ident"
 kind (Punct p) = codes "punct"
 kind (Literal l) = codes "literal"
 
--- a line and a column, as `1:0`
+-- a line and a column, as in `1:0`
 abbrev pub line_column_text : LineColumn → List ℕ
 line_column_text at = decimal at.line ++ (codes ":" ++ decimal at.column)
 
--- the line between two lines and columns that ends with a word
+-- the line of the output with two positions and a word
 abbrev pub line_text : LineColumn → LineColumn → List ℕ → List ℕ
 line_text start end word =
     line_column_text start ++ (codes "-" ++ (line_column_text end ++ (codes " " ++ (word ++ codes "\n"))))
 
--- line and column in the source of a position of a new map
+-- the line and column in the source of a position in a new map
 abbrev pub line_column_of : List ℕ → ℕ → LineColumn
 line_column_of source position = line_column source (position - next_lo new_map)
 
--- the line of a tree of the source
+-- the line of the output for a tree of the source
 abbrev pub span_line : List ℕ → TokenTree → List ℕ
 span_line source tree =
     line_text (line_column_of source (extent_of tree).lo) (line_column_of source (extent_of tree).hi) (kind tree)
@@ -43,11 +43,11 @@ kind_word kinds.Ident = codes "ident"
 kind_word kinds.Punct = codes "punct"
 kind_word kinds.Literal = codes "literal"
 
--- a place, as `1:0`
+-- the text of a place, as in `1:0`
 abbrev pub place_text : Place → List ℕ
 place_text place = line_column_text (record { line = place.line; column = place.column })
 
--- the line of a tree with its places
+-- the line of the output for a tree whose places are known
 abbrev pub tree_line : PlacedTree → List ℕ
 tree_line tree =
     place_text tree.start ++ (codes "-" ++ (place_text tree.end ++ (codes " " ++ (kind_word tree.kind ++ codes "\n"))))

@@ -1,4 +1,4 @@
-//! The words that the program was given.
+//! The words of the command line.
 ghost use Rattle.std.specs.Prelude.{◌≡◌, ◌↔◌, Err, IfErr, IfOk, IsFalse, Ok, alloc_error, map, string_bytes};
 ghost use Rattle.std.specs.IoError.{error_kind};
 ghost use Rattle.tokens.specs.Arguments.{is_no_text, words};
@@ -7,10 +7,10 @@ use std::alloc::{AllocError, Global};
 use std::env::Args;
 use std::io;
 
-/// The words after the program's name, which is the first of its arguments.
+/// Returns the words after the program's name, which is the first of its arguments.
 ///
-/// Arguments that are no text are no words, since they ask for nothing. It fails where they weren't
-/// had for any other reason, which is taken as memory that ran out, and where there is none for the list.
+/// There are no words if an argument isn't text. Returns an error if memory runs out for the list, or if the arguments
+/// could not be had for another reason, which counts as running out of memory.
 pub fn words(alloc: Global, arguments: io::Result<Args>) -> Result<Vec<String>, AllocError>
     ensures ok { IfOk result (λ list. words arguments ≡ Ok (map string_bytes list.items)) }
     ensures refused { IfErr arguments (λ error.
@@ -23,7 +23,7 @@ pub fn words(alloc: Global, arguments: io::Result<Args>) -> Result<Vec<String>, 
     }
 }
 
-/// Whether arguments weren't had since they are no text.
+/// Whether the reason why there are no arguments is that one of them isn't text.
 fn is_no_text(kind: io::ErrorKind) -> bool
     ensures { result ≡ is_no_text kind }
 {
@@ -36,7 +36,7 @@ mod tests {
     use std::process::Abort;
     use std::test::Fail;
 
-    /// How many words the arguments have.
+    /// Returns how many words the arguments have.
     fn count(alloc: Global, arguments: io::Result<Args>) -> Option<usize> {
         match words(alloc, arguments) {
             Ok(words) => Some(words.len()),
@@ -59,7 +59,7 @@ mod tests {
         Ok(())
     }
 
-    /// Asserts how many words there are where the arguments weren't had.
+    /// Asserts how many words there are if the arguments could not be had for this reason.
     fn check_kind(rt: &(impl Abort + AllocGlobal), kind: io::ErrorKind, want: Option<usize>) {
         let had = count(rt.alloc(), Err(io::Error::from(kind)));
         assert_eq!(rt; had, want, "at {kind:?}");

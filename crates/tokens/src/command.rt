@@ -1,4 +1,4 @@
-//! The command line: which run the words ask for, what is said of it, and the status.
+//! The command line: which run it demands, which message the run leaves, and the exit status.
 ghost use Rattle.std.specs.Prelude.{◌≡◌, map, Result, Err, OnErr, IfOk, IfNone, IfSome, alloc_error, string_bytes};
 ghost use Rattle.tokens.specs.Command.{mode_named, mode_of, usage, message, status};
 ghost use Rattle.tokens.specs.Known.{Says};
@@ -16,13 +16,12 @@ use std::alloc::{AllocError, Global};
 #[cfg(test)]
 mod tests;
 
-/// Does what the words after the program's name ask for, says on `errors` why it can't, and answers
-/// the program's status.
+/// Does the run that the words demand, writes to `errors` why it failed, and returns the exit status.
 ///
-/// The words that are known are `print` and `spans`, one of them alone. The status is 0 where all
-/// was written, 1 where the input has a fault, and 2 where the words ask for nothing, a read or a
-/// write failed, the input isn't UTF-8 or too long, or memory was refused; after each of these a
-/// line on `errors` says so. A line that can't be written changes no status.
+/// The known words are `print` and `spans`, and there must be exactly one. The status is 0 if everything was written
+/// and 1 if the input has a syntax error. It is 2 if the words are wrong, if a read or a write failed, if the input
+/// isn't UTF-8 or is too long, or if memory ran out. After each failure a line on `errors` says what happened. The
+/// status stays the same if that line cannot be written.
 pub fn command<R: ByteSource, W: ByteSink, E: ByteSink>(
     alloc: Global,
     words: &[String],
@@ -48,8 +47,8 @@ pub fn command<R: ByteSource, W: ByteSink, E: ByteSink>(
     conclude(run(alloc, mode, reader, writer), errors)
 }
 
-/// Does what `command` does for the words, where there was memory for them. Else nothing is read or
-/// written, the line on `errors` says that there was none, and the status is 2.
+/// Does what `command` does, if there was memory for the words. Otherwise it reads and writes nothing, except for a
+/// line on `errors` that says so, and returns the status 2.
 pub fn answer<R: ByteSource, W: ByteSink, E: ByteSink>(
     alloc: Global,
     words: Result<Vec<String>, AllocError>,
@@ -78,7 +77,7 @@ pub fn answer<R: ByteSource, W: ByteSink, E: ByteSink>(
     }
 }
 
-/// Says on `errors` why a run was refused, and answers the program's status after it.
+/// Writes to `errors` why a run failed, if it did, and returns the exit status after it.
 fn conclude<E: ByteSink>(answer: Result<(), RunError>, errors: &mut E) -> u8
     ensures status { result ≡ status answer }
     ensures says { Says (E.held errors.old) (E.held errors.new) (E.has_failed errors.new)
@@ -88,7 +87,7 @@ fn conclude<E: ByteSink>(answer: Result<(), RunError>, errors: &mut E) -> u8
     status(&answer)
 }
 
-/// The mode that the words ask for: the one that the only word names.
+/// Returns the mode that the words demand, if they are one known word.
 fn mode_of(words: &[String]) -> Option<OutputMode>
     ensures { result ≡ mode_of (map string_bytes words.now) }
 {
@@ -98,7 +97,7 @@ fn mode_of(words: &[String]) -> Option<OutputMode>
     }
 }
 
-/// The mode that a word names.
+/// Returns the mode of that name, if there is one.
 fn mode_named(word: &str) -> Option<OutputMode>
     ensures { result ≡ mode_named word.now }
 {
@@ -109,7 +108,7 @@ fn mode_named(word: &str) -> Option<OutputMode>
     }
 }
 
-/// The program's status after a run.
+/// Returns the exit status after a run.
 fn status(answer: &Result<(), RunError>) -> u8
     ensures { result ≡ status answer.now }
 {

@@ -1,4 +1,4 @@
-//! A run: from the bytes of a source to the bytes of a sink.
+//! A run, which goes from the bytes of a source to the bytes of a sink.
 ghost use Rattle.std.specs.Prelude.{◌≡◌, ◌≢◌, ◌↔◌, IfErr, IfOk, IsFalse, alloc_error, length};
 ghost use Rattle.std.specs.Str.{IsUtf8, chars};
 ghost use Rattle.proc_macro2.specs.declared.LineColumn.{LineColumn};
@@ -20,15 +20,15 @@ use crate::sources::ByteSource;
 use proc_macro2::{ParseError, SourceMap, TokenStream, place_trees, reprint};
 use std::alloc::Global;
 
-/// Reads source text to its end, and writes its tokens as `mode` says.
+/// Reads source text to its end, and writes its tokens in the form that `mode` says.
 ///
-/// What is written is known, and all memory taken, before its first byte is written. `Io` is answered where a
-/// read failed, and nothing is written then, or where a write failed or took nothing, and a beginning of the
-/// output is. Each other refusal writes nothing: `NotUtf8`, `MapFull` and `Lex`, which has the
-/// line and column of the fault, are about the whole input, and `Memory` comes where a growth was refused.
+/// The whole output is computed, and all memory allocated, before the first byte is written. Returns `Io` if a read
+/// failed, after which nothing is written, or if a write failed or took no bytes, after which a prefix of the output is
+/// written. Every other error comes before anything is written. `NotUtf8`, `MapFull` and `Lex`, which has the line and
+/// column of the syntax error, are about the whole input. `Memory` means that memory ran out.
 ///
-/// For `Print`, `a+b` gives `a + b` and a line feed, for `Spans` the lines `1:0-1:1 ident`,
-/// `1:1-1:2 punct` and `1:2-1:3 ident`; `(]` is refused with `Lex` at line 1, column 1.
+/// Example: for `a+b`, `Print` writes `a + b` and a line feed, and `Spans` writes the lines `1:0-1:1 ident`,
+/// `1:1-1:2 punct` and `1:2-1:3 ident`. For `(]` the error is `Lex` at line 1, column 1.
 pub fn run<R: ByteSource, W: ByteSink>(
     alloc: Global,
     mode: OutputMode,
@@ -43,7 +43,7 @@ pub fn run<R: ByteSource, W: ByteSink>(
     write_output(writer, &output)
 }
 
-/// What is written for the input.
+/// Returns what is to be written for the input.
 fn output_of(alloc: Global, mode: OutputMode, input: Vec<u8>) -> Result<RunOutput, RunError>
     ensures ok { IfOk result (λ output. IsOutput mode input.items (output_bytes output)) }
     ensures io { IsFalse (is_io result) }
@@ -52,7 +52,7 @@ fn output_of(alloc: Global, mode: OutputMode, input: Vec<u8>) -> Result<RunOutpu
     ensures lex { (start : LineColumn) → result ≡ Err (RunError.Lex start)
         → HasFaultAt input.items start }
 
-    // That a growth was refused can't be stated, only which inputs may come so far.
+    // A contract cannot say that an allocation failed, only for which inputs one may be tried.
     ensures memory { result ≡ Err (RunError.Memory alloc_error) → IsReadable input.items }
 {
     let Ok(text) = String::from_utf8(input) else {
@@ -60,14 +60,14 @@ fn output_of(alloc: Global, mode: OutputMode, input: Vec<u8>) -> Result<RunOutpu
     };
     match output_of_text(alloc, mode, text.as_str()) {
         Ok(output) => Ok(output),
-        // Trees and a map are made only now, for line and column of the fault.
+        // Only an error needs its line and column, so only now is the text parsed into a map.
         Err(ParseError::Lex(_)) => Err(refusal_of(alloc, text.as_str())),
         Err(ParseError::MapFull) => Err(RunError::MapFull),
         Err(ParseError::Memory(error)) => Err(RunError::Memory(error)),
     }
 }
 
-/// What is written for the text.
+/// Returns what is to be written for the text.
 fn output_of_text(alloc: Global, mode: OutputMode, text: &str) -> Result<RunOutput, ParseError>
     ensures ok { IfOk result (IsOutputOf mode (chars text.now)) }
     ensures only { IfErr result (λ error. IfLex error (λ fault.
@@ -81,8 +81,8 @@ fn output_of_text(alloc: Global, mode: OutputMode, text: &str) -> Result<RunOutp
     }
 }
 
-/// Why the run is refused of a text that doesn't parse: for its fault, whose line and column are asked of a map, or
-/// where the text doesn't fit the map, or memory runs out.
+/// Returns the error of a run whose text doesn't parse. To get the line and column of the syntax error, it parses the
+/// text again into a map, for which the text may be too long or memory may run out.
 fn refusal_of(alloc: Global, text: &str) -> RunError
     requires { (stream : Forest) → ParsesTo (next_lo new_map) (chars text.now) stream → ⊥ }
     ensures lex { (start : LineColumn) → result ≡ RunError.Lex start → HasFaultAt text.now start }
@@ -96,7 +96,7 @@ fn refusal_of(alloc: Global, text: &str) -> RunError
     }
 }
 
-/// Why a run is refused whose text wasn't parsed into the map.
+/// Returns the error of a run whose text could not be parsed into the map.
 fn refusal(error: ParseError, map: &SourceMap) -> RunError
     requires { IfLex error (Holds map.now) }
     ensures lex { IfLex error (λ fault. (start : LineColumn)
@@ -112,7 +112,7 @@ fn refusal(error: ParseError, map: &SourceMap) -> RunError
     }
 }
 
-/// The printed text and a line feed.
+/// Returns the printed text and a line feed.
 fn printed(alloc: Global, text: &str) -> Result<RunOutput, ParseError>
     ensures ok { IfOk result (IsOutputOf OutputMode.Print (chars text.now)) }
     ensures only { IfErr result (λ error. IfLex error (λ fault.
@@ -125,7 +125,7 @@ fn printed(alloc: Global, text: &str) -> Result<RunOutput, ParseError>
     Ok(RunOutput::Text(printed))
 }
 
-/// A line for each tree.
+/// Returns the trees, each of which makes a line of the output.
 fn placed(alloc: Global, text: &str) -> Result<RunOutput, ParseError>
     ensures ok { IfOk result (IsOutputOf OutputMode.Spans (chars text.now)) }
     ensures only { IfErr result (λ error. IfLex error (λ fault.

@@ -1,4 +1,4 @@
-//! Sources and sinks over memory that move a few bytes a call, and fail. They are for tests.
+//! Sources and sinks in memory for tests. They move a few bytes in each call, and fail at last.
 ghost use Rattle.std.specs.Prelude.{◌<◌, None, Some, false};
 
 use crate::sinks::{ByteSink, MemorySink, is_refusal};
@@ -17,7 +17,7 @@ pub struct FailingSource<'a> {
 }
 
 impl<'a> FailingSource<'a> {
-    /// A source of these bytes, at most so many a read, that fails after so many reads.
+    /// Returns a source of these bytes that gives at most `most` bytes in each read, and fails after `reads` reads.
     pub fn new(bytes: &'a [u8], most: usize, reads: usize) -> FailingSource<'a>
         requires { 0 < most }
     {
@@ -48,8 +48,8 @@ impl ByteSource for FailingSource<'_> {
     }
 }
 
-/// Bytes that come whole in each of the first reads and once more after their end, as a terminal
-/// gives them. It counts its reads.
+/// Bytes that come whole in each of the first reads, and once more after the end, as a terminal may send them. The
+/// source counts its reads.
 #[derive(Drop)]
 pub struct TerminalSource<'a> {
     bytes: &'a [u8],
@@ -58,7 +58,8 @@ pub struct TerminalSource<'a> {
 }
 
 impl<'a> TerminalSource<'a> {
-    /// A source of these bytes, so many times before its end, and once more in the read after it.
+    /// Returns a source that gives these bytes in the first `times` reads, ends in the next read, and then gives them
+    /// again.
     pub fn new(bytes: &'a [u8], times: usize) -> TerminalSource<'a> {
         TerminalSource {
             bytes,
@@ -67,7 +68,7 @@ impl<'a> TerminalSource<'a> {
         }
     }
 
-    /// How often it was read.
+    /// Returns how many reads there were.
     pub fn reads(&self) -> usize {
         self.reads
     }
@@ -89,7 +90,7 @@ impl ByteSource for TerminalSource<'_> {
     }
 }
 
-/// Takes a few bytes at a time into memory, or none, until a write fails.
+/// A sink in memory that takes a few bytes at a time, or none, until a write fails.
 #[derive(Drop)]
 pub struct FailingSink {
     sink: MemorySink,
@@ -99,7 +100,7 @@ pub struct FailingSink {
 }
 
 impl FailingSink {
-    /// A sink that takes at most so many bytes a write, and fails after so many writes.
+    /// Returns a sink that takes at most `most` bytes in each write, and fails after `writes` writes.
     pub fn new(alloc: Global, most: usize, writes: usize) -> FailingSink {
         FailingSink {
             sink: MemorySink::new(alloc),
@@ -109,7 +110,7 @@ impl FailingSink {
         }
     }
 
-    /// The bytes that it took.
+    /// Returns the bytes that the sink took.
     pub fn bytes(&self) -> &[u8] {
         self.sink.bytes()
     }

@@ -1,6 +1,6 @@
-//! The program `tokens`, which reads source text from standard input. `tokens print` writes its
-//! tokens, printed, and a line feed to standard output; `tokens spans` writes a line for each of its
-//! trees, with line and column where the tree begins and ends and its kind.
+//! The program `tokens`, which reads source text from standard input. `tokens print` prints the tokens and a line feed
+//! to standard output. `tokens spans` writes a line for each tree: the line and column where the tree begins and where
+//! it ends, and its kind.
 #![tactic(auto)]
 
 mod arguments;

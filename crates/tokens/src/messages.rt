@@ -1,5 +1,5 @@
-//! What the program says, a line at a time. No message takes memory, and one that can't be written
-//! is dropped.
+//! The messages of the program, one line each. Writing a message allocates no memory, and a message that cannot be
+//! written is dropped.
 ghost use Rattle.std.specs.Prelude.{◌≡◌, ◌||◌, decimal, is_err, OnOk};
 ghost use Rattle.std.specs.Io.KnownBytes.{Appends};
 ghost use Rattle.tokens.specs.Command.{fault_line, message, usage};
@@ -11,15 +11,14 @@ use crate::writing::write_all;
 use itoa::Buffer;
 use proc_macro2::LineColumn;
 
-/// Says how the program is called.
+/// Writes the usage line.
 pub fn say_usage<E: ByteSink>(errors: &mut E)
     ensures { Says (E.held errors.old) (E.held errors.new) (E.has_failed errors.new) usage }
 {
     let _ = write_all(errors, b"usage: tokens print|spans\n");
 }
 
-/// Says why a run was refused, and nothing of one that wasn't: `fault 2:0` of a fault at the front
-/// of the second line.
+/// Writes why a run failed, and nothing if it did not. For a syntax error at the start of line 2 it writes `fault 2:0`.
 pub fn say<E: ByteSink>(errors: &mut E, answer: &Result<(), RunError>)
     ensures { Says (E.held errors.old) (E.held errors.new) (E.has_failed errors.new)
         (message answer.now) }
@@ -34,7 +33,7 @@ pub fn say<E: ByteSink>(errors: &mut E, answer: &Result<(), RunError>)
     };
 }
 
-/// Says where a fault stands.
+/// Writes the line and column of a syntax error.
 fn say_fault<E: ByteSink>(errors: &mut E, start: LineColumn) -> Result<(), RunError>
     ensures ok { OnOk result (Appends (E.held errors.old) (E.held errors.new) (fault_line start)) }
     ensures front { AppendsFront (E.held errors.old) (E.held errors.new) (fault_line start) }
@@ -47,7 +46,7 @@ fn say_fault<E: ByteSink>(errors: &mut E, start: LineColumn) -> Result<(), RunEr
     write_all(errors, b"\n")
 }
 
-/// Says a number in decimal digits.
+/// Writes a number in decimal digits.
 fn say_number<E: ByteSink>(errors: &mut E, number: usize) -> Result<(), RunError>
     ensures ok { OnOk result (Appends (E.held errors.old) (E.held errors.new) (decimal number)) }
     ensures front { AppendsFront (E.held errors.old) (E.held errors.new) (decimal number) }

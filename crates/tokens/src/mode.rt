@@ -1,10 +1,10 @@
-//! What is written of a stream.
+//! The forms in which tokens are written.
 
-/// What is written of a stream.
+/// The form in which a stream is written.
 #[derive(Clone, Copy, Debug, PartialEq, Eq)]
 pub enum OutputMode {
     /// The printed stream and a line feed.
     Print,
-    /// A line for each tree: where it begins and ends, and its kind.
+    /// A line for each tree: where the tree begins and ends, and its kind.
     Spans,
 }

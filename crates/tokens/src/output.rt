@@ -1,4 +1,4 @@
-//! What is written for an input, before it is written.
+//! The output for an input, complete before it is written.
 ghost use Rattle.std.specs.Prelude.{◌≡◌, ◌||◌, is_err, OnOk, IfErr};
 ghost use Rattle.std.specs.Io.KnownBytes.{Appends};
 ghost use Rattle.tokens.specs.Known.{AppendsFront};
@@ -10,18 +10,18 @@ use crate::spans::write_lines;
 use crate::writing::write_all;
 use proc_macro2::PlacedTree;
 
-/// What is written for an input. It stands before its first byte is written.
+/// The whole output for an input, known before its first byte is written.
 #[derive(Drop)]
 pub enum RunOutput {
-    /// A text as it is.
+    /// A text, which is written as it is.
     Text(String),
-    /// A line for each of these trees.
+    /// Trees, each of which is written as a line.
     Trees(Vec<PlacedTree>),
 }
 
-/// Writes the output.
+/// Writes the output to the sink.
 ///
-/// It answers `Io` where a write failed or took nothing. A beginning of the output is written then.
+/// Returns `Io` if a write failed or took no bytes. A prefix of the output is written then.
 pub fn write_output<W: ByteSink>(writer: &mut W, output: &RunOutput) -> Result<(), RunError>
     ensures ok { OnOk result (Appends (W.held writer.old) (W.held writer.new) (output_bytes output.now)) }
     ensures io { IfErr result (λ e. e ≡ RunError.Io) }

@@ -9,13 +9,12 @@ use crate::sources::ByteSource;
 use std::alloc::{AllocError, Global};
 use std::io;
 
-/// How many bytes a read has room for at least.
+/// The number of bytes for which each read has room at least.
 const BLOCK: usize = 64 * 1024;
 
-/// All the bytes that the source has left.
+/// Reads all the bytes that the source has left.
 ///
-/// It answers `Io` where a read failed, and `Memory` where the memory for the bytes is refused.
-/// Some of them may be read then.
+/// Returns `Io` if a read failed, and `Memory` if memory runs out. Some of the bytes may have been read then.
 pub fn read_to_end<R: ByteSource>(alloc: Global, reader: &mut R) -> Result<Vec<u8>, RunError>
     ensures value { IfOk result (λ bytes.
         IfSome (R.left reader.old) (λ input. bytes.items ≡ input)) }
@@ -38,8 +37,8 @@ pub fn read_to_end<R: ByteSource>(alloc: Global, reader: &mut R) -> Result<Vec<u
     }
 }
 
-/// Makes room for a block after the bytes that are filled, by zeros. What the list has room for past
-/// the block stays untouched, so that no memory is taken for it.
+/// Makes room for a block of zeros after the bytes that are filled. Capacity past that block stays untouched, so the
+/// system need not provide memory for it.
 fn make_room(bytes: &mut Vec<u8>, filled: usize) -> Result<(), AllocError>
     requires { filled ≤ vec_len bytes.old }
     ensures room { OnOk result (filled + BLOCK ≤ vec_len bytes.new) }
@@ -52,7 +51,7 @@ fn make_room(bytes: &mut Vec<u8>, filled: usize) -> Result<(), AllocError>
     Ok(())
 }
 
-/// One read, into the part of the buffer after the bytes that are filled.
+/// Reads once, into the part of the buffer after the bytes that are filled.
 fn read_at<R: ByteSource>(reader: &mut R, buffer: &mut [u8], filled: usize) -> io::Result<usize>
     requires { filled < length buffer.old }
     ensures within { IfOk result (λ n. filled + n ≤ length buffer.new) }

@@ -1,4 +1,4 @@
-//! Where a run's output goes.
+//! Sinks, to which the output of a run goes.
 ghost use Rattle.std.specs.Prelude.{◌≡◌, ◌≤◌, ◌||◌, ℕ, Bool, Option, Some, List, length, take, IfOk, OnErr, false, []};
 ghost use Rattle.std.specs.Io.KnownBytes.{Appends, Keeps};
 ghost use Rattle.tokens.specs.Refusal.{is_refusal};
@@ -7,18 +7,17 @@ use std::alloc::Global;
 use std::io;
 use std::io::Write;
 
-/// What bytes are written to.
+/// Something to which bytes can be written.
 ///
-/// It has one call. A sink may tell the bytes that it holds, as one over memory does; one over a
-/// file tells none.
+/// Proofs may know which bytes a sink holds, as they do for one in memory. For a file they don't.
 pub trait ByteSink {
-    // the bytes that the sink holds, where it tells them
+    // the bytes that the sink holds, if proofs may know them
     ghost held: { Self → Option (List ℕ) };
 
-    // whether a call has failed, or taken nothing of a slice that isn't empty, so far
+    // whether a call so far has failed, or has taken no bytes of a slice that isn't empty
     ghost has_failed: { Self → Bool };
 
-    /// Takes a front of `bytes`, and answers how many bytes it took. After an error it took none.
+    /// Takes a prefix of `bytes`, and returns how many bytes that is. It takes none if it returns an error.
     fn write(&mut self, bytes: &[u8]) -> io::Result<usize>
         ensures within { IfOk result (λ n. n ≤ length bytes.now) }
         ensures bytes { IfOk result (λ n.
@@ -28,7 +27,7 @@ pub trait ByteSink {
         ensures kept { OnErr result (Keeps (held self.old) (held self.new)) };
 }
 
-/// Bytes in memory. A write fails where the memory for its bytes is refused.
+/// Bytes in memory. A write fails if memory runs out.
 #[derive(Drop)]
 pub struct MemorySink {
     bytes: Vec<u8>,
@@ -36,7 +35,7 @@ pub struct MemorySink {
 }
 
 impl MemorySink {
-    /// A sink that holds nothing yet.
+    /// Returns a sink that holds nothing yet.
     pub fn new(alloc: Global) -> MemorySink
         ensures held { ⟦<MemorySink as ByteSink>⟧.held result ≡ Some [] }
         ensures flag { ⟦<MemorySink as ByteSink>⟧.has_failed result ≡ false }
@@ -47,7 +46,7 @@ impl MemorySink {
         }
     }
 
-    /// The bytes that it holds.
+    /// Returns the bytes that the sink holds.
     pub fn bytes(&self) -> &[u8]
         ensures { ⟦<MemorySink as ByteSink>⟧.held self.now ≡ Some result.now }
     {
@@ -68,10 +67,9 @@ impl ByteSink for MemorySink {
     }
 }
 
-/// A writer of the standard library. It tells its bytes where the writer does.
+/// A sink that writes to a `Write`. Its bytes are known to proofs if those of the writer are.
 ///
-/// It flushes nothing: what the writer holds back is left to its owner. A write that a signal
-/// interrupts is one that failed.
+/// It does not flush, so the owner of the writer must. A write that a signal interrupts counts as failed.
 #[derive(Drop)]
 pub struct WriteSink<W> {
     writer: W,
@@ -79,7 +77,7 @@ pub struct WriteSink<W> {
 }
 
 impl<W: Write> WriteSink<W> {
-    /// A sink that hands its bytes to the writer.
+    /// Returns a sink that passes its bytes to the writer.
     pub fn new(writer: W) -> WriteSink<W>
         ensures held { ⟦<WriteSink<W> as ByteSink>⟧.held result ≡ W.contents writer }
         ensures flag { ⟦<WriteSink<W> as ByteSink>⟧.has_failed result ≡ false }
@@ -103,7 +101,7 @@ impl<W: Write> ByteSink for WriteSink<W> {
     }
 }
 
-/// Whether a write failed, or took nothing of a slice that isn't empty.
+/// Whether a write failed, or took no bytes of a slice that isn't empty.
 pub(crate) fn is_refusal(answer: &io::Result<usize>, bytes: &[u8]) -> bool
     ensures { result ≡ is_refusal answer.now bytes.now }
 {

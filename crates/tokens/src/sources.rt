@@ -1,4 +1,4 @@
-//! Where a run's input comes from.
+//! Sources, from which the input of a run comes.
 ghost use Rattle.std.specs.Prelude.{◌≡◌, ◌≤◌, ◌<◌, ◌||◌, ℕ, Bool, Option, Some, List, length, take, is_err, IfOk};
 ghost use Rattle.std.specs.Prelude.{OnErr, false};
 ghost use Rattle.std.specs.Io.KnownBytes.{Consumes, IsAtEnd, Keeps};
@@ -6,20 +6,19 @@ ghost use Rattle.std.specs.Io.KnownBytes.{Consumes, IsAtEnd, Keeps};
 use std::io;
 use std::io::Read;
 
-/// What bytes are read from.
+/// Something from which bytes can be read.
 ///
-/// It has one call. A source may tell the bytes that it has left, as one over memory does; one over
-/// a file tells none.
+/// Proofs may know which bytes a source has left, as they do for one in memory. For a file they don't.
 pub trait ByteSource {
-    // the bytes that reads will give from here on, where the source tells them
+    // the bytes that later reads will give, if proofs may know them
     ghost left: { Self → Option (List ℕ) };
 
     // whether a call has failed so far
     ghost has_failed: { Self → Bool };
 
-    /// Reads into the front of `buffer`, and answers how many bytes it put there.
+    /// Reads bytes into the start of `buffer`, and returns how many bytes it read.
     ///
-    /// 0 bytes in a buffer that isn't empty are the input's end. After an error nothing is read.
+    /// If it returns 0 for a buffer that isn't empty, the input has ended. It reads nothing if it returns an error.
     fn read(&mut self, buffer: &mut [u8]) -> io::Result<usize>
         ensures within { IfOk result (λ n. n ≤ length buffer.new) }
         ensures bytes { IfOk result (λ n.
@@ -30,7 +29,7 @@ pub trait ByteSource {
         ensures kept { OnErr result (Keeps (left self.old) (left self.new)) };
 }
 
-/// Bytes in memory, of which no read fails.
+/// Bytes in memory. No read of them fails.
 #[derive(Drop)]
 pub struct MemorySource<'a> {
     rest: &'a [u8],
@@ -38,7 +37,7 @@ pub struct MemorySource<'a> {
 }
 
 impl<'a> MemorySource<'a> {
-    /// A source of these bytes.
+    /// Returns a source of these bytes.
     pub fn new(bytes: &'a [u8]) -> MemorySource<'a>
         ensures left { ⟦<MemorySource<'a> as ByteSource>⟧.left result ≡ Some bytes.now }
         ensures flag { ⟦<MemorySource<'a> as ByteSource>⟧.has_failed result ≡ false }
@@ -63,9 +62,9 @@ impl ByteSource for MemorySource<'_> {
     }
 }
 
-/// A reader of the standard library. It tells its bytes where the reader does.
+/// A source that reads from a `Read`. Its bytes are known to proofs if those of the reader are.
 ///
-/// A read that a signal interrupts is one that failed.
+/// A read that a signal interrupts counts as failed.
 #[derive(Drop)]
 pub struct ReadSource<R> {
     reader: R,
@@ -73,7 +72,7 @@ pub struct ReadSource<R> {
 }
 
 impl<R: Read> ReadSource<R> {
-    /// A source of the bytes that the reader gives.
+    /// Returns a source of the bytes that the reader gives.
     pub fn new(reader: R) -> ReadSource<R>
         ensures left { ⟦<ReadSource<R> as ByteSource>⟧.left result ≡ R.remaining reader }
         ensures flag { ⟦<ReadSource<R> as ByteSource>⟧.has_failed result ≡ false }

@@ -6,9 +6,9 @@ ghost use Rattle.tokens.specs.Known.{AppendsFront};
 use crate::errors::RunError;
 use crate::sinks::ByteSink;
 
-/// Writes all the bytes, in as many calls as the sink wants.
+/// Writes all the bytes, in as many calls as the sink needs.
 ///
-/// It answers `Io` where a write failed or took nothing. A beginning of the bytes is written then.
+/// Returns `Io` if a write failed or took no bytes. A prefix of the bytes is written then.
 pub fn write_all<W: ByteSink>(writer: &mut W, bytes: &[u8]) -> Result<(), RunError>
     ensures ok { OnOk result (Appends (W.held writer.old) (W.held writer.new) bytes.now) }
     ensures io { IfErr result (λ e. e ≡ RunError.Io) }

@@ -4,8 +4,8 @@ use crate::slow;
 use crate::tally::Tally;
 use lexical::{literal_at, name_at, piece_at, pieces};
 
-/// Compares the two lexers at each character of the text, and in each of its beginnings at the front and along the
-/// pieces.
+/// Compares the two lexers at each character of the text. Also compares them on each beginning of the text, at its
+/// start and along its pieces.
 pub fn compare(text: &str, tally: &mut Tally) {
     compare_front(text, tally);
     compare_pieces(text, tally);
@@ -19,7 +19,7 @@ pub fn compare(text: &str, tally: &mut Tally) {
     }
 }
 
-/// Compares the answers at the front of the text, at byte offset 0 of a source and elsewhere.
+/// Compares the results at the start of the text, both for the start of a source and for a later part of one.
 fn compare_front(text: &str, tally: &mut Tally) {
     let same = piece_at(text, true) == slow::piece_at(text, true)
         && piece_at(text, false) == slow::piece_at(text, false)
@@ -28,7 +28,7 @@ fn compare_front(text: &str, tally: &mut Tally) {
     tally.count(same);
 }
 
-/// Compares the pieces of the text, one after the other, up to where none stands.
+/// Compares the pieces of the text, one after the other, up to where no piece begins.
 fn compare_pieces(text: &str, tally: &mut Tally) {
     let mut walk = pieces(text);
     let mut at_front = true;

@@ -1,8 +1,8 @@
 //! Compares the lexer with a plain one, `slow`, on the texts of standard input.
 //!
-//! Each line has a text, written as the content of a string literal. Lines on which the two differ are named, and then
-//! the numbers of texts, of comparisons and of those that differ are written. The status is 0 exactly where none
-//! differs. A line that is no content counts as one that does.
+//! Each line has a text, written as the content of a string literal. The program writes the lines on which the two
+//! lexers differ, and then the numbers of texts, of comparisons and of those that differ. The exit status is 0 exactly
+//! if none differs. A line that is no such content counts as one that differs.
 #![tactic(auto)]
 
 ghost use Rattle.std.specs.Prelude.{IfOk};
@@ -66,7 +66,7 @@ fn compare_lines<W: Write>(alloc: Global, lines: &str, writer: &mut W) -> io::Re
     Ok(tally)
 }
 
-/// The text that the content of a string literal stands for, or `None` where it is no such content.
+/// Returns the value of a string literal with this content, or `None` if the content is wrong.
 fn text_of(alloc: Global, content: &str) -> Result<Option<String>, AllocError> {
     let mut text = String::new(alloc);
     for (_, unit) in unescape_str(content) {

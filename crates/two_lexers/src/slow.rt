@@ -1,16 +1,16 @@
-//! The lexer once more, plainly: it reads character by character and tries each rule in turn.
+//! A second, plain lexer: it reads character by character and tries each rule in turn.
 //!
-//! It is there to be compared with the lexer, of which it takes the types of its answers alone: the marks, the reserved
-//! names and all else that the two must agree on stand here again. Its functions have no contract. The public ones
-//! answer as those of the same names in `lexical` do; each other one answers what follows the piece of its rule at the
-//! front of the text, or `None` where none stands.
+//! It is compared with the lexer, of which it uses only the types of the results. The marks, the reserved names and all
+//! else on which the two must agree are written here again. Its functions have no contract. The public ones return what
+//! those of the same names in `lexical` return. Each other one returns the text after a match of its rule at the start
+//! of the text, or `None` if there is no match.
 
 use lexical::{Piece, PieceKind};
 
-/// The piece at the front of the text, with its length in bytes and in characters, or `None` where none stands.
-/// `at_front` says whether the text begins at byte offset 0 of a source.
+/// Returns the piece at the start of the text, with its length in bytes and in characters, or `None` if none begins
+/// there. `at_front` says whether the text begins at byte offset 0 of a source.
 ///
-/// At `+=` the mark `+` stands, Joint, of 1 byte and 1 character. At `/* /* */` none stands.
+/// For `+=` it returns the mark `+`, Joint, of 1 byte and 1 character. For `/* /* */` it returns `None`.
 pub fn piece_at(text: &str, at_front: bool) -> Option<Piece<'_>> {
     let (kind, rest) = kind_at(text, at_front)?;
     let piece = text.strip_suffix(rest)?;
@@ -21,16 +21,16 @@ pub fn piece_at(text: &str, at_front: bool) -> Option<Piece<'_>> {
     })
 }
 
-/// How many bytes the literal at the front of the text has, its suffix with it, or `None` where none stands.
+/// Returns how many bytes the literal at the start of the text has, including its suffix, or `None` if there is none.
 ///
-/// At `b"a"b+` it answers 5.
+/// For `b"a"b+` it returns 5.
 pub fn literal_at(text: &str) -> Option<usize> {
     Some(text.len() - literal(text)?.len().min(text.len()))
 }
 
-/// How many bytes the name at the front of the text has, or `None` where none stands.
+/// Returns how many bytes the name at the start of the text has, or `None` if there is none.
 ///
-/// At `r#a` it answers 1, as `r` is a name.
+/// For `r#a` it returns 1, because `r` is a name.
 pub fn name_at(text: &str) -> Option<usize> {
     Some(text.len() - name(text)?.len().min(text.len()))
 }
@@ -124,7 +124,7 @@ fn comment_kind(text: &str) -> Option<(PieceKind<'_>, &str)> {
         return Some((PieceKind::Gap, rest));
     }
     let said = said_by(whole, rest)?;
-    // Each CR in it has an LF after it.
+    // Each CR in the comment must have an LF after it.
     for part in said.split('\r').skip(1) {
         if !part.starts_with('\n') {
             return None;

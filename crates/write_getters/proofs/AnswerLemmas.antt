@@ -1,4 +1,4 @@
--- The lines of a file, as far as they are written.
+-- The loop that writes the lines of a file.
 use Rattle.std.proofs.Common.{◌≡◌, ℕ, List, [], ◌∷◌, Option, Some, None, flat_map, refl}
 use Rattle.std.proofs.KnownBytes.{Appends-nil, Appends-trans}
 use Rattle.std.specs.Io.KnownBytes.{Appends}
@@ -15,12 +15,12 @@ use Rattle.declarations.specs.declared.item.TypeItem.{TypeItem}
 use Rattle.write_getters.specs.Answer.{AreWritten, IsBodyCode, IsItemCode, IsStruct, IsStructCode, line_of, lines_of}
 use Rattle.write_getters.specs.declared.templates.Templates.{Templates}
 
--- what is written between old and new is the lines of these items
+-- the lines of these items are appended to the output
 abbrev pub WritesItems : Templates → List TokenTree → Option (List ℕ) → Option (List ℕ) → Type 0
 WritesItems templates items old new =
     (written : List (List Forest)) × AreWritten templates items written × Appends old new (lines_of written)
 
--- who writes the lines of what is left has written those of all
+-- if the lines of the items that are left are written next, the lines of all items are written
 abbrev pub Goes : Templates → List TokenTree → Option (List ℕ) → List TokenTree → Option (List ℕ) → Type 0
 Goes templates items old left now =
     (new : Option (List ℕ)) → WritesItems templates left now new → WritesItems templates items old new

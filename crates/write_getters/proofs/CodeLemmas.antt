@@ -23,7 +23,7 @@ use Rattle.write_getters.specs.Parameters.{AreParamsOf, argument, parameter}
 use Rattle.write_getters.specs.Templates.{template_for}
 use Rattle.write_getters.specs.declared.templates.Templates.{Templates}
 
--- ---- the names
+-- ---- the names of holes
 
 pub parameter_chars : chars (codes "parameter") ≡ codes "parameter"
 unfolding chars

@@ -10,7 +10,7 @@ use Rattle.proc_macro2.specs.declared.TokenTree.{TokenTree}
 use Rattle.pm_stream.proofs.BuildingLemmas.{joined_assoc, joined_nil}
 use Rattle.write_getters.specs.Copies.{copied}
 
--- those of two lists
+-- copying two lists of trees gives both streams, joined
 pub copied_append : (trees more : List TokenTree) → copied (trees ++ more) ≡ joined (copied trees) (copied more)
 copied_append [] more = refl
 copied_append (tree ∷ trees) more =
@@ -19,7 +19,7 @@ copied_append (tree ∷ trees) more =
 pub copied_one : (tree : TokenTree) → copied (tree ∷ []) ≡ split tree
 copied_one tree = joined_nil (split tree)
 
--- the copies so far are put in, and one more
+-- one more copy is appended
 pub copied_more : (trees : List TokenTree) (n : ℕ) (tree copy : TokenTree) (old now new : Forest) → n < length trees
     → tree ≡ get_or trees n tree → copy ≡ tree
     → now ≡ joined old (copied (take n trees)) → new ≡ joined now (split copy)
@@ -34,7 +34,7 @@ copied_more trees n tree copy old now new within is cloned so_far put =
 is_zero : (n : ℕ) → true ≡ (n == 0) → n ≡ 0
 is_zero n is = grind (arith, nat_tests)
 
--- a list of trees that has none
+-- a list of length 0 is empty
 pub no_trees : (trees : List TokenTree) → true ≡ (length trees == 0) → trees ≡ []
 no_trees [] none = refl
 no_trees (tree ∷ trees) none = let count = is_zero (length (tree ∷ trees)) none in absurd (omega arith)
@@ -43,7 +43,7 @@ pub some_trees : (trees : List TokenTree) → false ≡ (length trees == 0) → 
 some_trees [] some = cc
 some_trees (tree ∷ trees) some = omega arith
 
--- one tree is put in, by an iterator that gives it alone
+-- an iterator that gives one tree appends that tree
 pub put_one : {S E : Type 0} (Begins : S → Type 0) (steps : S → Option TokenTree → S → Type 0)
     (left : S → List TokenTree) (tree : TokenTree) (old new : Forest) (r : Result (Unit {0}) E)
     → ((it : S) (trees : List TokenTree) → Drains steps it trees → trees ≡ left it)

@@ -1,4 +1,4 @@
--- The names and types of the fields that have a getter, as far as they are collected.
+-- The loop that collects the names and types of the fields that have a getter.
 use Rattle.std.proofs.Common.{◌≡◌, refl, sym, ◌∙◌, ap, subst, Bool, true, false, List, [], ◌∷◌, ◌++◌, Some, None}
 use Rattle.std.proofs.Common.{Ok, Bor, codes, map, not, append_assoc, append-nil}
 use Rattle.std.specs.List.{list_any}
@@ -16,7 +16,7 @@ use Rattle.declarations.specs.declared.field.Field.{Field}
 use Rattle.declarations.specs.declared.list.FieldList.{FieldList}
 use Rattle.write_getters.specs.Fields.{chosen, has_several_bounds, is_plus, is_skipped, name_of, type_of}
 
--- of a list that is left so
+-- the names and types of the fields before those that are left are collected
 pub record Collected (list left : FieldList) (names kinds : List Forest) : Type 0 where
   pub named : left.named ≡ true
   pub done : List Field
@@ -28,7 +28,7 @@ pub record Collected (list left : FieldList) (names kinds : List Forest) : Type 
 pub collected_none : (list : FieldList) → list.named ≡ true → Collected list list [] []
 collected_none list named = record { named = named; done = []; goes = λ more h. h; names_are = refl; kinds_are = refl }
 
--- one field more
+-- one more field is read
 more_goes : (trees left next : List TokenTree) (done : List Field) (field : Field)
     → ((more : List Field) → Lists (IsFieldOf true) left more [] → Lists (IsFieldOf true) trees (done ++ more) [])
     → IsFirst (IsFieldOf true) left field next → (more : List Field) → Lists (IsFieldOf true) next more []
@@ -47,7 +47,7 @@ chosen_skip field skipped = rw skipped refl
 chosen_put : (field : Field) → is_skipped field ≡ false → chosen (field ∷ []) ≡ field ∷ []
 chosen_put field kept = rw kept refl
 
--- what is collected of one field more
+-- one more field is collected, if it is chosen
 push : (f : Field → Forest) (done : List Field) (field : Field) (items : List Forest) (last : List Field)
     → items ≡ map f (chosen done) → chosen (field ∷ []) ≡ last
     → items ++ map f last ≡ map f (chosen (done ++ field ∷ []))
@@ -86,7 +86,7 @@ collected_put list left next field names kinds names2 kinds2 name kind before gi
           ∙ push type_of before.done field kinds (field ∷ []) before.kinds_are (chosen_put field kept);
     }
 
--- all of them
+-- once none are left, all fields are collected
 pub collected_all : (list left next : FieldList) (names kinds : List Forest) → Collected list left names kinds
     → GivesField left None next
     → (all : List Field) × Lists (IsFieldOf true) list.left.now all [] × (names ≡ map name_of (chosen all))
@@ -98,14 +98,14 @@ collected_all list left next names kinds before gives = (
   before.kinds_are,
 )
 
--- ---- one of them
+-- ---- one field
 
 pub name_put : (field : Field) (name : Bor Name) (copy : Name) (stream : Forest) → field.name ≡ Some name
     → copy ≡ name.now → stream ≡ split (Ident copy) → stream ≡ name_of field
 name_put field name copy stream is cloned put =
     put ∙ ap (λ n. alone (Ident n)) cloned ∙ rw is refl
 
--- each has a name
+-- a named field has a name
 named_not_none : (trees rest : List TokenTree) (field : Field) → IsFieldOf true trees field rest → field.name ≡ None → ⊥
 named_not_none trees rest field at none = rw none at at.parts.name
 

@@ -1,4 +1,4 @@
--- The generic parameters of a struct, as far as they are collected.
+-- The loop that collects the generic parameters of a struct.
 use Rattle.std.proofs.Common.{◌≡◌, ◌<◌, refl, sym, ◌∙◌, ap, subst, List, [], ◌∷◌, ◌++◌, length, map}
 use Rattle.std.proofs.Common.{append_assoc, append-nil}
 use Rattle.std.proofs.Common.{Result, Ok, Err, OnOk, ◌⊎◌, inl, inr, arith, codes, false}
@@ -19,7 +19,7 @@ use Rattle.write_getters.proofs.CopiesLemmas.{copied_append, copied_one}
 use Rattle.write_getters.specs.Copies.{copied}
 use Rattle.write_getters.specs.Parameters.{AreParams, AreParamsOf, after_colon, argument, keyword, parameter}
 
--- those before what is left of the trees in the brackets
+-- the parameters before those that are left in the brackets are collected
 pub record Collected (inside left : List TokenTree) (declared arguments : List Forest) : Type 0 where
   pub done : List ParamTrees
   pub goes : (more : List ParamTrees) → AreParams left more → AreParams inside (done ++ more)
@@ -48,7 +48,7 @@ collected_more inside left rest declared arguments declared2 arguments2 param on
       arguments_are = argument_put ∙ one_more argument before.done param arguments other before.arguments_are is_other;
     }
 
--- all of them
+-- once none are left, all parameters are collected
 pub collected_all : (generics inside left : List TokenTree) (declared arguments : List Forest)
     → IsWithin generics inside → Collected inside left declared arguments → left ≡ []
     → (all : List ParamTrees) × AreParamsOf generics all × (declared ≡ map parameter all)
@@ -60,7 +60,7 @@ collected_all generics inside left declared arguments within before none = (
   before.arguments_are,
 )
 
--- ---- one of them
+-- ---- one parameter
 
 pub const_chars : chars (codes "const") ≡ codes "const"
 unfolding chars

@@ -26,27 +26,27 @@ use Rattle.write_getters.specs.Getters.{IsCodeOf}
 use Rattle.write_getters.specs.Templates.{IsTemplate}
 use Rattle.write_getters.specs.declared.templates.Templates.{Templates}
 
--- the printed text of the code gives the same code again, up to spans
+-- the printed text of the code parses to the same code, up to spans
 abbrev pub IsFaithful : Forest → Type 0
 IsFaithful code = Gives 0 (printed code) code
 
--- the line of some code
+-- the line that is written for some code
 abbrev pub line_of : Forest → List ℕ
 line_of code = encode_utf8_all (printed code) ++ codes "\n"
 
--- the code of a struct with the fields in this group, which comes back from its printed text
+-- the code of a struct with the fields in this group; it comes back from its printed text
 pub record IsStruct (templates : Templates) (item : TypeItem) (group : Grouped) (code : Forest) : Type 0 where
   pub trees : List TokenTree
   pub inside : AreInside trees group
   pub is : IsCodeOf templates item trees code
   pub faithful : IsFaithful code
 
--- the braces around the named fields of a struct
+-- the braces around the named fields of a struct, if it has any
 abbrev pub named_fields : Body → Option Grouped
 named_fields (bodies.Struct (fields.Named g)) = Some g.now
 named_fields _ = None
 
--- one code for a struct with named fields, and none for any other type
+-- a struct with named fields has one code, and any other type has none
 abbrev pub IsBodyCode : Templates → TypeItem → Option Grouped → List Forest → Type 0
 IsBodyCode templates item None written = written ≡ []
 IsBodyCode templates item (Some group) written =
@@ -56,13 +56,13 @@ abbrev pub IsStructCode : Templates → List TokenTree → List Forest → Type 
 IsStructCode templates trees written =
     (item : TypeItem) × IsTypeItem trees item × IsBodyCode templates item (named_fields item.body) written
 
--- that of an item of this kind: one that is no struct has none
+-- a struct has the code of its fields, and an item of another kind has none
 pub record IsItemCode (templates : Templates) (kind : ItemKind) (trees : List TokenTree) (written : List Forest)
     : Type 0 where
   pub of_struct : kind ≡ kinds.Struct → IsStructCode templates trees written
   pub none : (kind ≡ kinds.Struct → ⊥) → written ≡ []
 
--- the first of the trees is an item, which has this code
+-- the trees begin with an item, which has this code, and go on with `rest`
 pub record IsFirstItem (templates : Templates) (trees : List TokenTree) (written : List Forest) (rest : List TokenTree)
     : Type 0 where
   pub part : List TokenTree
@@ -72,7 +72,7 @@ pub record IsFirstItem (templates : Templates) (trees : List TokenTree) (written
   pub tells : Tells trees rest kind name
   pub code : IsItemCode templates kind part written
 
--- the trees are items, each with its code
+-- the trees are items, each of which has its code
 abbrev pub AreWritten : Templates → List TokenTree → List (List Forest) → Type 0
 AreWritten templates trees [] = trees ≡ []
 AreWritten templates trees (written ∷ more) =
@@ -81,7 +81,7 @@ AreWritten templates trees (written ∷ more) =
 abbrev pub lines_of : List (List Forest) → List ℕ
 lines_of all = flat_map (λ written. flat_map line_of written) all
 
--- the trees are inner attributes and then items, and what is written between old and new is the lines of its items
+-- the trees are inner attributes and then items, and the lines of the items are appended to the output
 pub record WritesFile (plain generic : List ℕ) (trees : List TokenTree) (old new : Option (List ℕ)) : Type 0 where
   pub templates : Templates
   pub is_plain : IsTemplate plain templates.plain
@@ -93,7 +93,7 @@ pub record WritesFile (plain generic : List ℕ) (trees : List TokenTree) (old n
   pub are_written : AreWritten templates items written
   pub appends : Appends old new (lines_of written)
 
--- the text parses to such a file
+-- the text parses to a file, and the lines of its items are written
 pub record Writes (plain generic text : List ℕ) (old new : Option (List ℕ)) : Type 0 where
   pub stream : Forest
   pub parses : ParsesTo (next_lo new_map) text stream

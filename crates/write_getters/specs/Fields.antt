@@ -1,4 +1,4 @@
--- The fields of a struct that have a getter.
+-- Which fields of a struct have a getter.
 use Rattle.std.specs.Prelude.{ℕ, ◌==◌, ◌&&◌, Bool, false, not, filter, List, [], ◌∷◌, Some, None, codes}
 use Rattle.std.specs.Prelude.{if◌then◌else◌}
 use Rattle.std.specs.List.{list_any}
@@ -13,12 +13,12 @@ use Rattle.declarations.specs.Attribute.{Parts, after_path, attributes_in, is_wo
 use Rattle.declarations.specs.declared.field.Field.{Field}
 use Rattle.write_getters.specs.Copies.{copied}
 
--- the trees are a group of this word
+-- the trees are a group with only this word inside
 abbrev pub is_group_of : List TokenTree → List ℕ → Bool
 is_group_of (Group g ∷ []) word = is_word (trees_of g.stream) word
 is_group_of _ word = false
 
--- the attribute is `#[getter(skip)]`
+-- whether the attribute is `#[getter(skip)]`
 abbrev pub is_skip : Parts → Bool
 is_skip attribute =
     let inside = trees_of attribute.group.stream in
@@ -31,7 +31,7 @@ abbrev pub is_plus : TokenTree → Bool
 is_plus (Punct mark) = mark.mark == 43
 is_plus _ = false
 
--- a trait object of several bounds: `dyn` and others with a `+` (43)
+-- whether the trees are a trait object with several bounds: `dyn`, and then trees with a `+` (43)
 abbrev pub has_several_bounds : List TokenTree → Bool
 has_several_bounds (Ident word ∷ bounds) = is_word (Ident word ∷ []) (codes "dyn") && list_any is_plus bounds
 has_several_bounds _ = false
@@ -43,7 +43,7 @@ chosen fields = filter (λ field. not (is_skipped field)) fields
 abbrev pub name_of : Field → Forest
 name_of field = elim field.name [ None ↦ nil | Some name ↦ alone (Ident name.now) ]
 
--- its type, as it stands after `&`
+-- the type of a field as it follows `&`, in parentheses if it is a trait object with several bounds
 abbrev pub type_of : Field → Forest
 type_of field =
     let trees = field.field_type.now in

@@ -1,4 +1,4 @@
--- The getters of a struct: a template, filled.
+-- The getters of a struct, as a template that is filled.
 use Rattle.std.specs.Prelude.{◌≡◌, ℕ, List, [], ◌∷◌, Ok, codes, map, true}
 use Rattle.proc_macro2.specs.Forest.{Forest}
 use Rattle.proc_macro2.specs.Trees.{alone}
@@ -20,7 +20,7 @@ use Rattle.write_getters.specs.declared.templates.Templates.{Templates}
 abbrev pub hole : List ℕ → Filling → Named
 hole name filling = record { name = name; filling = filling }
 
--- what the holes of a template stand for
+-- what fills the holes of a template
 abbrev pub holes_of : TypeItem → List ParamTrees → List Field → List Named
 holes_of item params fields =
     hole (codes "parameter") (Each (map parameter params))
@@ -30,7 +30,7 @@ holes_of item params fields =
     ∷ hole (codes "field") (Each (map name_of fields))
     ∷ hole (codes "kind") (Each (map type_of fields)) ∷ []
 
--- the code of a struct whose braces hold these trees: a getter for each field that is chosen, in order, and no other
+-- the code of a struct with these trees in its braces: a getter for each chosen field, in order, and nothing else
 pub record IsCodeOf (templates : Templates) (item : TypeItem) (trees : List TokenTree) (code : Forest) : Type 0 where
   pub fields : List Field
   pub lists : Lists (IsFieldOf true) trees fields []

@@ -1,4 +1,4 @@
-//! What the program answers for a text.
+//! Writes the getters for the structs of a text.
 ghost use Rattle.std.specs.Prelude.{◌≡◌, List, MatchOption, None, OnOk, Some};
 ghost use Rattle.std.specs.Io.KnownBytes.{Appends};
 ghost use Rattle.std.specs.Prelude.{flat_map};
@@ -18,10 +18,10 @@ use proc_macro2::{Group, SourceMap, TokenStream, TokenTree};
 use std::alloc::Global;
 use std::io::Write;
 
-/// Writes a line with the getters of each struct of the text that has named fields, in order. Items in groups are
-/// passed over.
+/// Writes a line with the getters of each struct of the text that has named fields, in order. Items inside groups are
+/// skipped.
 ///
-/// After an error a beginning of what is to be written stands, nothing where the text doesn't parse.
+/// After an error a prefix of the output may have been written, but nothing if the text doesn't parse.
 pub fn print_getters<W: Write>(alloc: Global, text: &str, writer: &mut W) -> Result<(), WriteError>
     ensures { OnOk result (Writes (chars PLAIN.now) (chars GENERIC.now) (chars text.now) (W.contents writer.old)
         (W.contents writer.new)) }
@@ -93,7 +93,7 @@ fn print_struct<W: Write>(
     }
 }
 
-/// The braces around the named fields of a struct.
+/// Returns the braces around the named fields of a struct, if it has any.
 fn named_fields<'a>(body: &Body<'a>) -> Option<&'a Group>
     ensures { MatchOption result (named_fields body.now ≡ None) (λ group. named_fields body.now ≡ Some group.now) }
 {

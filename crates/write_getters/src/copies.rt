@@ -1,4 +1,4 @@
-//! Streams of copies of trees.
+//! Streams that are made of copies of trees.
 ghost use Rattle.std.specs.Prelude.{◌≡◌, ◌++◌, [], ◌∷◌, IfOk, OnOk};
 ghost use Rattle.proc_macro2.specs.Building.{split};
 ghost use Rattle.proc_macro2.specs.Forest.{joined};
@@ -7,7 +7,7 @@ ghost use Rattle.write_getters.specs.Copies.{copied};
 use proc_macro2::{TokenStream, TokenTree};
 use std::alloc::{AllocError, Global};
 
-/// A stream of copies of these trees. Fails where memory runs out.
+/// Returns a stream of copies of the trees. The only error is that memory runs out.
 pub fn copied(alloc: Global, trees: &[TokenTree]) -> Result<TokenStream, AllocError>
     ensures { IfOk result (λ stream. stream ≡ copied trees.now) }
 {
@@ -16,7 +16,7 @@ pub fn copied(alloc: Global, trees: &[TokenTree]) -> Result<TokenStream, AllocEr
     Ok(stream)
 }
 
-/// Puts copies of these trees at the end of the stream. Fails where memory runs out.
+/// Appends copies of the trees to the stream. The only error is that memory runs out.
 pub fn put_copies(stream: &mut TokenStream, trees: &[TokenTree]) -> Result<(), AllocError>
     ensures { OnOk result (stream.new ≡ joined stream.old (copied trees.now)) }
 {
@@ -26,14 +26,14 @@ pub fn put_copies(stream: &mut TokenStream, trees: &[TokenTree]) -> Result<(), A
     Ok(())
 }
 
-/// Puts the tree at the end of the stream. Fails where memory runs out.
+/// Appends the tree to the stream. The only error is that memory runs out.
 pub fn put(stream: &mut TokenStream, tree: TokenTree) -> Result<(), AllocError>
     ensures { OnOk result (stream.new ≡ joined stream.old (split tree)) }
 {
     stream.extend_trees([tree])
 }
 
-/// Puts the stream at the end of the list. Fails where memory runs out.
+/// Appends the stream to the list. The only error is that memory runs out.
 pub fn add(list: &mut Vec<TokenStream>, stream: TokenStream) -> Result<(), AllocError>
     ensures { OnOk result (list.new.items ≡ list.old.items ++ stream ∷ []) }
 {

@@ -1,4 +1,4 @@
-//! Why getters are not written.
+//! The errors of writing getters.
 
 use declarations::Fault;
 use messages::Failure;
@@ -7,32 +7,32 @@ use quoting::{QuoteError, TemplateError};
 use std::alloc::AllocError;
 use std::io;
 
-/// Why getters are not written.
+/// Why getters could not be written.
 #[derive(Debug, Drop)]
 pub enum WriteError {
-    /// The text was not read, or the output not written.
+    /// The text could not be read or doesn't parse, or the output could not be written.
     Failed(Failure),
-    /// No item, field or parameter stands in the text where one is to.
+    /// At some position of the text an item, a field or a parameter is missing or wrong.
     Declared(FoundFault),
-    /// A word of the code is no identifier.
+    /// A word of the code is not an identifier.
     Word(IdentError),
-    /// The template is not filled.
+    /// The template could not be filled.
     Template(TemplateError),
-    /// No spacing of its marks would let the code come back from its printed text.
+    /// The code would not come back from its printed text, whatever the spacing of its marks.
     Quote(QuoteError),
 }
 
-/// A fault of a declaration in the text.
+/// An error in a declaration of the text.
 #[derive(Clone, Copy, Debug)]
 pub struct FoundFault {
-    /// What it is.
+    /// What is wrong.
     pub fault: Fault,
-    /// Where it stands, unless more is missing at an end.
+    /// Where it is, once `placed` has looked it up. `None` if something is missing at an end.
     pub start: Option<LineColumn>,
 }
 
 impl WriteError {
-    /// The same, with the place of a fault in the map.
+    /// Returns the error with the line and column of a wrong declaration, which come from the map.
     pub fn placed(self, map: &SourceMap) -> WriteError {
         match self {
             WriteError::Declared(found) => match found.fault.span {

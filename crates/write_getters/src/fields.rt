@@ -1,4 +1,4 @@
-//! The fields of a struct that have a getter.
+//! Which fields of a struct have a getter.
 ghost use Rattle.std.specs.Prelude.{◌≡◌};
 ghost use Rattle.declarations.specs.Attribute.{is_word, parts_of};
 ghost use Rattle.proc_macro2.specs.DocGroup.{trees_of};
@@ -8,7 +8,7 @@ ghost use Rattle.write_getters.specs.Fields.{has_several_bounds, is_plus, is_ski
 use declarations::{Attribute, AttributeArgs, Attributes, Field};
 use proc_macro2::{Group, TokenTree};
 
-/// Whether an attribute `#[getter(skip)]` leaves the field out.
+/// Whether the field has the attribute `#[getter(skip)]`, which leaves it out.
 pub fn is_skipped(field: &Field<'_>) -> bool
     ensures { result ≡ is_skipped field.now }
 {
@@ -24,14 +24,14 @@ fn is_skip(attribute: &Attribute<'_>) -> bool
     }
 }
 
-/// Whether the group holds this identifier alone.
+/// Whether the group has only this identifier inside.
 fn is_group_of(group: &Group, word: &str) -> bool
     ensures { result ≡ is_word (trees_of group.now.stream) (spelled word.now) }
 {
     is_word(group.stream_ref().trees(), word)
 }
 
-/// Whether the trees are this identifier alone.
+/// Whether the trees are only this identifier.
 fn is_word(trees: &[TokenTree], word: &str) -> bool
     ensures { result ≡ is_word trees.now (spelled word.now) }
 {
@@ -41,7 +41,8 @@ fn is_word(trees: &[TokenTree], word: &str) -> bool
     }
 }
 
-/// Whether its type is a trait object of several bounds, as `dyn A + B`, which stands in parentheses after `&`.
+/// Whether the type of the field is a trait object with several bounds, such as `dyn A + B`. It needs parentheses after
+/// `&`.
 pub fn has_several_bounds(field: &Field<'_>) -> bool
     ensures { result ≡ has_several_bounds field.now.field_type.now }
 {

@@ -1,4 +1,4 @@
-//! The getters of a struct.
+//! Makes the getters of a struct.
 ghost use Rattle.std.specs.Prelude.{◌≡◌, [], IfOk, List, map, true};
 ghost use Rattle.declarations.specs.List.{IsFieldOf, Lists};
 ghost use Rattle.declarations.specs.declared.field.Field.{Field as FieldValue};
@@ -16,20 +16,21 @@ use proc_macro2::{Delimiter, Group, TokenStream, TokenTree, laws};
 use quoting::{Hole, Quote};
 use std::alloc::{AllocError, Global};
 
-/// What the getters of a struct are written with, in order.
+/// The streams with which the template is filled for each field, in order.
 #[derive(Drop)]
 struct FieldStreams {
     /// The names of the fields.
     names: Vec<TokenStream>,
-    /// Their types, as they stand after `&`.
+    /// The types of the fields, as they follow `&`.
     kinds: Vec<TokenStream>,
 }
 
-/// The `impl` of a struct, with a getter for each of these fields that isn't left out: the template, filled. It comes
-/// back from its printed text.
+/// Returns the `impl` of a struct with a getter for each of the fields that isn't left out. This is the filled
+/// template, and it comes back from its printed text.
 ///
-/// Of `struct P { x: u32 }` it is `impl P { pub fn x (& self) -> & u32 { & self . x } }`. Fails with `Declared` where
-/// a field or a generic parameter has a fault, and where memory runs out.
+/// Returns `Declared` if a field or a generic parameter has an error, or the error that memory ran out.
+///
+/// Example: `struct P { x: u32 }` gives `impl P { pub fn x (& self) -> & u32 { & self . x } }`.
 pub fn getters(
     alloc: Global,
     templates: &Templates,
@@ -55,13 +56,13 @@ pub fn getters(
     let mut quote = Quote::new(alloc);
     quote.fill(templates.of(item.generics), &holes)?;
     let code = quote.finish()?;
-    // What every stream is, and the law of those that are well spaced.
+    // These give the proof the trees of the stream, and the law about streams that are well spaced.
     let _trees = code.trees();
     laws::printed_comes_back();
     Ok(code)
 }
 
-/// The names and types of the fields that have a getter.
+/// Returns the names and types of the fields that have a getter.
 fn chosen(alloc: Global, fields: FieldList<'_>) -> Result<FieldStreams, WriteError>
     requires { fields.named ≡ true }
     ensures { IfOk result (λ getters. (all : List FieldValue) × Lists (IsFieldOf true) fields.entry.left.now all []
@@ -82,7 +83,7 @@ fn chosen(alloc: Global, fields: FieldList<'_>) -> Result<FieldStreams, WriteErr
     Ok(FieldStreams { names, kinds })
 }
 
-/// The type of a field, as it stands after `&`.
+/// Returns the type of a field, as it follows `&`.
 fn kind(alloc: Global, field: &Field<'_>) -> Result<TokenStream, AllocError>
     ensures { IfOk result (λ stream. stream ≡ type_of field.now) }
 {

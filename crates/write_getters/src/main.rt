@@ -1,10 +1,12 @@
-//! Writes getters for the structs of a file: for each struct with named fields one line with an `impl` that lends each
-//! field by a method of its name, but for those with the attribute `#[getter(skip)]`.
+//! Writes getters for the structs of a file. For each struct with named fields it writes one line with an `impl`, in
+//! which each field has a method of its name that returns a reference to it. Fields with the attribute
+//! `#[getter(skip)]` have none.
 //!
-//! The code is a template that is filled and then printed. `write_getters FILE` reads the file, `write_getters`
-//! standard input. The status is 0 where the text was read and all was written, 1 where the text has a fault, and 2
-//! where the words ask for nothing, a read or a write failed, the input isn't UTF-8 or too long, memory ran out, or the
-//! code can't be written. A line on standard error says why, but nothing where nobody reads the output any more.
+//! The code is a template that is filled and then printed. `write_getters FILE` reads the file, and `write_getters`
+//! reads standard input. The status is 0 if the text was read and everything was written, and 1 if the text has a
+//! syntax error. It is 2 if the command line is wrong, if a read or a write failed, if the input isn't UTF-8 or is too
+//! long, if memory ran out, or if the code can't be written. Then a line on standard error says why, unless the output
+//! has no reader any more.
 #![tactic(auto)]
 
 mod answer;
@@ -31,13 +33,13 @@ fn main(rt: HostRuntime) -> ExitCode {
     }
 }
 
-/// The path that the words after the program's name ask for.
+/// Returns the path of the file that the command line names.
 fn asked(rt: &HostRuntime) -> Result<String, Failure> {
     let words = words(rt.alloc(), env::args(rt), USAGE)?;
     path(rt.alloc(), words.as_slice(), USAGE)
 }
 
-/// Writes the getters for the text at the path, or says why not.
+/// Writes the getters for the text at the path, or writes to standard error why it cannot.
 fn run(rt: &HostRuntime, path: &str) -> ExitCode {
     let (said, status) = match write_text(rt, path) {
         Ok(()) => return ExitCode::SUCCESS,
@@ -49,7 +51,7 @@ fn run(rt: &HostRuntime, path: &str) -> ExitCode {
         Err(WriteError::Template(error)) => (say_of(path, &error, &mut rt.stderr()), 2),
         Err(WriteError::Quote(error)) => (say_of(path, &error, &mut rt.stderr()), 2),
     };
-    // A message that can't be written changes nothing.
+    // The status stays the same if the message cannot be written.
     let _ = said;
     ExitCode::from(status)
 }
@@ -62,7 +64,7 @@ fn write_text(rt: &HostRuntime, path: &str) -> Result<(), WriteError> {
     Ok(writer.flush()?)
 }
 
-/// Says what is wrong with a declaration, and where that is known.
+/// Writes what is wrong with a declaration and, if it is known, where.
 fn say_fault<E: Write>(path: &str, found: FoundFault, errors: &mut E) -> io::Result<()> {
     match found.start {
         Some(start) => say_at(path, start, found.fault, errors),

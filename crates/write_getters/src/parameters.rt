@@ -1,4 +1,4 @@
-//! The generic parameters of a struct, as an `impl` declares and names them.
+//! The generic parameters of a struct, as its `impl` declares them and uses them.
 ghost use Rattle.std.specs.Prelude.{◌≡◌, IfOk, List, OnOk, map};
 ghost use Rattle.declarations.specs.Param.{ParamTrees, param_trees};
 ghost use Rattle.proc_macro2.specs.Forest.{joined};
@@ -14,16 +14,17 @@ use std::alloc::{AllocError, Global};
 /// The generic parameters of a struct, in order.
 #[derive(Drop)]
 pub struct ParameterStreams {
-    /// Each as it is declared, without its default: `'a`, `T: A`, `const N: usize`.
+    /// Each parameter as it is declared, without its default: `'a`, `T: A`, `const N: usize`.
     pub declared: Vec<TokenStream>,
-    /// Each as an argument: `'a`, `T`, `N`.
+    /// Each parameter as an argument: `'a`, `T`, `N`.
     pub arguments: Vec<TokenStream>,
 }
 
-/// What an `impl` has for the generic parameters of a struct, given in their brackets.
+/// Returns the generic parameters of a struct, which are given in their brackets, for its `impl`.
 ///
-/// Of `<'a, T: A = B>` these are `'a` and `T: A`, and the arguments `'a` and `T`. Fails with `Declared` where one of
-/// them has a fault, and where memory runs out.
+/// Returns `Declared` if one of them has an error, or the error that memory ran out.
+///
+/// Example: for `<'a, T: A = B>` the declared parameters are `'a` and `T: A`, and the arguments are `'a` and `T`.
 pub fn parameters(alloc: Global, generics: &[TokenTree]) -> Result<ParameterStreams, WriteError>
     ensures { IfOk result (λ parameters. (all : List ParamTrees) × AreParamsOf generics.now all
         × (parameters.declared.items ≡ map parameter all) × (parameters.arguments.items ≡ map argument all)) }
@@ -43,7 +44,7 @@ pub fn parameters(alloc: Global, generics: &[TokenTree]) -> Result<ParameterStre
     })
 }
 
-/// A parameter as it is declared, without its default.
+/// Returns a parameter as it is declared, without its default.
 fn parameter(alloc: Global, param: &Param<'_>) -> Result<TokenStream, WriteError>
     ensures { IfOk result (λ stream. stream ≡ parameter (param_trees param.now)) }
 {
@@ -54,7 +55,7 @@ fn parameter(alloc: Global, param: &Param<'_>) -> Result<TokenStream, WriteError
     Ok(stream)
 }
 
-/// Puts the keyword at the end with which a parameter of this kind is declared, if there is one.
+/// Appends the keyword with which a parameter of this kind is declared, if it has one.
 fn put_keyword(alloc: Global, stream: &mut TokenStream, kind: ParamKind) -> Result<(), WriteError>
     ensures { OnOk result (stream.new ≡ joined stream.old (copied (keyword kind))) }
 {
@@ -68,7 +69,7 @@ fn put_keyword(alloc: Global, stream: &mut TokenStream, kind: ParamKind) -> Resu
     }
 }
 
-/// Puts `:` and copies of these bounds at the end, if there are some.
+/// Appends `:` and copies of the bounds, if there are any.
 fn put_bounds(stream: &mut TokenStream, bounds: &[TokenTree]) -> Result<(), AllocError>
     ensures { OnOk result (stream.new ≡ joined stream.old (copied (after_colon bounds.now))) }
 {

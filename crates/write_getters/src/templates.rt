@@ -1,4 +1,4 @@
-//! What is written of a struct.
+//! The templates of the code for a struct.
 ghost use Rattle.std.specs.Prelude.{◌≡◌, IfOk};
 ghost use Rattle.std.specs.Str.{chars};
 ghost use Rattle.write_getters.specs.Templates.{IsTemplate, template_for};
@@ -8,12 +8,12 @@ use messages::Failure;
 use proc_macro2::{SourceMap, TokenStream, TokenTree};
 use std::alloc::Global;
 
-/// What is written of a struct without generic parameters.
+/// The code for a struct without generic parameters.
 pub const PLAIN: &str = "impl #name #bounds {
     #( pub fn #field(&self) -> &#kind { &self.#field } )*
 }";
 
-/// What is written of one with them.
+/// The code for a struct with generic parameters.
 pub const GENERIC: &str = "impl< #( #parameter ),* > #name< #( #argument ),* > #bounds {
     #( pub fn #field(&self) -> &#kind { &self.#field } )*
 }";
@@ -21,14 +21,14 @@ pub const GENERIC: &str = "impl< #( #parameter ),* > #name< #( #argument ),* > #
 /// The templates.
 #[derive(Drop)]
 pub struct Templates {
-    /// Of a struct without generic parameters.
+    /// The template for structs without generic parameters.
     pub plain: TokenStream,
-    /// Of one with them.
+    /// The template for structs with generic parameters.
     pub generic: TokenStream,
 }
 
 impl Templates {
-    /// They are parsed. Fails where memory runs out.
+    /// Parses the templates. The only error is that memory runs out.
     pub fn new(alloc: Global) -> Result<Templates, WriteError>
         ensures plain { IfOk result (λ templates. IsTemplate (chars PLAIN.now) templates.plain) }
         ensures generic { IfOk result (λ templates. IsTemplate (chars GENERIC.now) templates.generic) }
@@ -39,7 +39,7 @@ impl Templates {
         })
     }
 
-    /// The one for a struct with these generic parameters, given in their brackets.
+    /// Returns the template for a struct with these generic parameters, which are given in their brackets.
     pub fn of(&self, generics: &[TokenTree]) -> &TokenStream
         ensures { result.now ≡ template_for generics.now self.now }
     {

@@ -88,195 +88,208 @@
 //!
 //! # Words of `declarations`
 //!
-//! - <a id="declarations.Attribute.AreArgs"></a>**AreArgs**: the trees after a path are these arguments
-//! - <a id="declarations.Forms.AreAttributes"></a>**AreAttributes**: attributes, any number of `#` and brackets
-//! - <a id="declarations.Forms.AreBounds"></a>**AreBounds**: bounds, which may be none
+//! - <a id="declarations.Attribute.AreArgs"></a>**AreArgs**: the trees after a path have this form
+//! - <a id="declarations.Forms.AreAttributes"></a>**AreAttributes**: any number of attributes, each `#` and
+//!   brackets
+//! - <a id="declarations.Forms.AreBounds"></a>**AreBounds**: bounds, perhaps none
 //! - <a id="declarations.Forms.AreFields"></a>**AreFields**: fields, with `,` between two and perhaps after the
 //!   last
 //! - <a id="declarations.Forms.AreGenerics"></a>**AreGenerics**: generic parameters in angle brackets, or
 //!   nothing
-//! - <a id="declarations.Forms.AreInnerAttributes"></a>**AreInnerAttributes**: inner attributes, any number of
-//!   `#!` and brackets
-//! - <a id="declarations.List.AreInside"></a>**AreInside**: these are the trees in the group
+//! - <a id="declarations.Forms.AreInnerAttributes"></a>**AreInnerAttributes**: any number of inner attributes,
+//!   each `#!` and brackets
+//! - <a id="declarations.List.AreInside"></a>**AreInside**: these are the trees inside the group
 //! - <a id="declarations.Forms.AreTupleFields"></a>**AreTupleFields**: fields without names, with `,` between
 //!   two and perhaps after the last
 //! - <a id="declarations.Forms.AreVariants"></a>**AreVariants**: variants, with `,` between two and perhaps
 //!   after the last
 //! - <a id="declarations.Signs.BeginsWith"></a>**BeginsWith**: the trees begin with a sign of this class, and
-//!   the rest follows it
-//! - <a id="declarations.rules.Pieces.ByRule"></a>**ByRule**: the pieces of a rule, as a form
-//! - <a id="declarations.Reading.FaultAt"></a>**FaultAt**: nothing is read, and so many trees are the longest
-//!   front that some trees could follow for something to be read
-//! - <a id="declarations.File.FileFaultAt"></a>**FileFaultAt**: the fault of a file is that of its inner
-//!   attributes, or that of the first item that isn't read
-//! - <a id="declarations.Field.HasFieldParts"></a>**HasFieldParts**: the trees are a field with a name, and
-//!   these are its parts: a name, `:` and a type stand after its visibility
+//!   the rest comes after it
+//! - <a id="declarations.rules.Pieces.ByRule"></a>**ByRule**: the form whose pieces are those of the rule
+//! - <a id="declarations.Reading.FaultAt"></a>**FaultAt**: nothing of this form can be read. The error is after
+//!   `at` trees: the longest prefix that other trees could complete
+//! - <a id="declarations.File.FileFaultAt"></a>**FileFaultAt**: the trees are no file. The error is in the
+//!   inner attributes, or in the first item that cannot be read
+//! - <a id="declarations.Field.HasFieldParts"></a>**HasFieldParts**: the trees are a named field with these
+//!   parts: attributes, a visibility, a name, `:` and a type
 //! - <a id="declarations.EntryCheck.HasNames"></a>**HasNames**: the entries before the left trees have known
-//!   names, each another; these are the names' places, the last first
-//! - <a id="declarations.Field.HasTypeParts"></a>**HasTypeParts**: the trees are a field without a name, and
-//!   these are its parts: a type stands after its visibility
-//! - <a id="declarations.Param.IsAfterWhere"></a>**IsAfterWhere**: the trees of a where clause after `where`,
-//!   or none where there is no clause
-//! - <a id="declarations.Forms.IsAnyItem"></a>**IsAnyItem**: an item of any kind: what it begins with, its
-//!   name, header and body, or a group without delimiters
-//! - <a id="declarations.Attribute.IsAttributeAt"></a>**IsAttributeAt**: the trees begin with the attribute
-//! - <a id="declarations.Entry.IsEntryAt"></a>**IsEntryAt**: the trees begin with an entry, and these are its
-//!   parts
-//! - <a id="declarations.EntryCheck.IsEntryError"></a>**IsEntryError**: the entries up to some trees have known
-//!   names, each another, and these trees are wrong as the error says
-//! - <a id="declarations.Entry.IsEntryFault"></a>**IsEntryFault**: the fault of trees that are not one entry:
-//!   so many of them stand before it
-//! - <a id="declarations.Forms.IsExpression"></a>**IsExpression**: the expression of a discriminant, whose end
-//!   alone is read
+//!   names, no two the same. Their positions are in the list, the last first
+//! - <a id="declarations.Field.HasTypeParts"></a>**HasTypeParts**: the trees are a field without a name, with
+//!   these parts: attributes, a visibility and a type
+//! - <a id="declarations.Param.IsAfterWhere"></a>**IsAfterWhere**: the trees after the `where` of a where
+//!   clause, or no trees if there is no clause
+//! - <a id="declarations.Forms.IsAnyItem"></a>**IsAnyItem**: an item of any kind: what comes before its name,
+//!   its name, header and body; or a group without delimiters
+//! - <a id="declarations.Attribute.IsAttributeAt"></a>**IsAttributeAt**: the trees are the attribute and then
+//!   the rest
+//! - <a id="declarations.Entry.IsEntryAt"></a>**IsEntryAt**: the trees begin with an entry that has these
+//!   parts, and the rest comes after it
+//! - <a id="declarations.EntryCheck.IsEntryError"></a>**IsEntryError**: all entries before the error have known
+//!   names, no two the same, and the trees after them are wrong as the error says
+//! - <a id="declarations.Entry.IsEntryFault"></a>**IsEntryFault**: the trees are not exactly one entry. The
+//!   error is in the entry, or at the first tree after it
+//! - <a id="declarations.Forms.IsExpression"></a>**IsExpression**: the expression of a discriminant. Only its
+//!   end is found
 //! - <a id="declarations.Forms.IsField"></a>**IsField**: a field: attributes, a visibility, a name, `:` and a
 //!   type
-//! - <a id="declarations.Field.IsFieldAt"></a>**IsFieldAt**: the trees begin with a field of the form, and
-//!   these are its parts
-//! - <a id="declarations.File.IsFile"></a>**IsFile**: the trees are inner attributes, and then items
+//! - <a id="declarations.Field.IsFieldAt"></a>**IsFieldAt**: the trees begin with a field of this form that has
+//!   these parts, and the rest comes after it
+//! - <a id="declarations.File.IsFile"></a>**IsFile**: the trees are inner attributes and then items
 //! - <a id="declarations.Forms.IsItem"></a>**IsItem**: a struct, an enum or a union: attributes, a visibility,
 //!   its keyword and name, generics, where clause and body
-//! - <a id="declarations.Reading.IsOnly"></a>**IsOnly**: no other part and rest are read by the form from these
-//!   trees
-//! - <a id="declarations.Param.IsOnlyParam"></a>**IsOnlyParam**: no other parameter with another rest stands at
-//!   the front of the trees
-//! - <a id="declarations.Param.IsOnlyPredicate"></a>**IsOnlyPredicate**: no other predicate with another rest
-//!   stands at the front of the trees
-//! - <a id="declarations.Entry.IsOnlyRest"></a>**IsOnlyRest**: no other trees follow what the rule reads at the
-//!   front of the trees
-//! - <a id="declarations.Param.IsParamAt"></a>**IsParamAt**: the trees begin with a parameter, and these are
-//!   its parts: each is what its rule reads of the trees after the one before it, and a `,` follows the last,
-//!   or nothing
-//! - <a id="declarations.Parameter.IsParameterAt"></a>**IsParameterAt**: the trees begin with a parameter, and
-//!   these are its parts
-//! - <a id="declarations.Param.IsPredicateAt"></a>**IsPredicateAt**: the trees begin with a predicate, and
-//!   these are its parts: a type, and after `:` bounds
+//! - <a id="declarations.Reading.IsOnly"></a>**IsOnly**: no other part and rest can be read from these trees by
+//!   the form
+//! - <a id="declarations.Param.IsOnlyParam"></a>**IsOnlyParam**: no other parameter, and none with another
+//!   rest, is at the start of the trees
+//! - <a id="declarations.Param.IsOnlyPredicate"></a>**IsOnlyPredicate**: no other predicate, and none with
+//!   another rest, is at the start of the trees
+//! - <a id="declarations.Entry.IsOnlyRest"></a>**IsOnlyRest**: whatever the rule reads at the start of the
+//!   trees, this is the rest after it
+//! - <a id="declarations.Param.IsParamAt"></a>**IsParamAt**: the trees begin with a generic parameter that has
+//!   these parts. Each part is what its rule reads after the part before it. Then comes a `,` and the rest, or
+//!   nothing
+//! - <a id="declarations.Parameter.IsParameterAt"></a>**IsParameterAt**: the trees begin with a function's
+//!   parameter that has these parts, and the rest comes after it
+//! - <a id="declarations.Param.IsPredicateAt"></a>**IsPredicateAt**: the trees begin with a predicate that has
+//!   these parts: a type, and bounds after `:`. Then comes a `,`, or nothing
 //! - <a id="declarations.Forms.IsTupleField"></a>**IsTupleField**: a field without a name: attributes, a
 //!   visibility and a type
-//! - <a id="declarations.Forms.IsType"></a>**IsType**: a type begins where an operand is wanted, and ends where
-//!   none is, with no angle bracket open
-//! - <a id="declarations.Item.IsTypeItem"></a>**IsTypeItem**: the trees are an item, and these are its parts:
-//!   in order they are the trees, and each is what its rule reads of the trees from it on
-//! - <a id="declarations.Forms.IsVariant"></a>**IsVariant**: a variant: attributes, a visibility, a name, and
-//!   perhaps its fields, and its discriminant
-//! - <a id="declarations.Variant.IsVariantAt"></a>**IsVariantAt**: the trees begin with a variant, and these
-//!   are its parts
-//! - <a id="declarations.Forms.IsVisibility"></a>**IsVisibility**: `pub`, perhaps with a restriction, or
-//!   nothing
+//! - <a id="declarations.Forms.IsType"></a>**IsType**: a type. It begins where an operand must come, and ends
+//!   where none must come and no angle bracket is open
+//! - <a id="declarations.Item.IsTypeItem"></a>**IsTypeItem**: the trees are an item with these parts. In order
+//!   the parts are the trees, and each part is what its rule reads from there on
+//! - <a id="declarations.Forms.IsVariant"></a>**IsVariant**: a variant: attributes, a visibility, a name,
+//!   perhaps fields, and perhaps a discriminant
+//! - <a id="declarations.Variant.IsVariantAt"></a>**IsVariantAt**: the trees begin with a variant that has
+//!   these parts, and the rest comes after it
+//! - <a id="declarations.Forms.IsVisibility"></a>**IsVisibility**: a visibility or nothing. It is `pub`,
+//!   perhaps with a restriction, or a group without delimiters that holds one
 //! - <a id="declarations.Forms.IsWhere"></a>**IsWhere**: a where clause, or nothing
-//! - <a id="declarations.Whole.IsWhole"></a>**IsWhole**: a part of the form is all there is: nothing stands
-//!   after it
-//! - <a id="declarations.Param.IsWithin"></a>**IsWithin**: the trees between `<` (60) and `>` (62), or none
-//!   where there are no generics
-//! - <a id="declarations.List.ListsFields"></a>**ListsFields**: the list reads the fields that a struct or a
-//!   variant has
-//! - <a id="declarations.Param.ParamTrees"></a>**ParamTrees**: the trees of a parameter's parts
-//! - <a id="declarations.Param.PredicateTrees"></a>**PredicateTrees**: the trees of a predicate's parts
-//! - <a id="declarations.Reading.Reads"></a>**Reads**: the part stands at the front of the trees as the form
-//!   says, and the rest follows it. Each tree is in one of them
-//! - <a id="declarations.Whole.ReadsAll"></a>**ReadsAll**: all the trees are one part of that form
-//! - <a id="declarations.rules.Pieces.ReadsBy"></a>**ReadsBy**: a form has the pieces of the rule at the front
-//!   of signs, and no others
-//! - <a id="declarations.Kind.Tells"></a>**Tells**: the walk over an item's signs, which the rest follows, ends
-//!   where an item of this kind does, and takes this name
-//! - <a id="declarations.Attribute.after_path"></a>**after_path**: the trees after the path at the front
+//! - <a id="declarations.Whole.IsWhole"></a>**IsWhole**: a piece of the form with nothing after it
+//! - <a id="declarations.Param.IsWithin"></a>**IsWithin**: the trees between `<` (60) and `>` (62), or no trees
+//!   if there are no generic parameters
+//! - <a id="declarations.List.ListsFields"></a>**ListsFields**: the list gives the fields of this struct or
+//!   variant
+//! - <a id="declarations.Param.ParamTrees"></a>**ParamTrees**: the parts of a generic parameter, as lists of
+//!   trees
+//! - <a id="declarations.Param.PredicateTrees"></a>**PredicateTrees**: the parts of a predicate, as lists of
+//!   trees
+//! - <a id="declarations.Reading.Reads"></a>**Reads**: the trees are the part and then the rest, and the part
+//!   has this form if the rest comes after it
+//! - <a id="declarations.Whole.ReadsAll"></a>**ReadsAll**: all of the trees are one part of the form
+//! - <a id="declarations.rules.Pieces.ReadsBy"></a>**ReadsBy**: the form has exactly the pieces of the rule, at
+//!   the start of any signs
+//! - <a id="declarations.Kind.Tells"></a>**Tells**: the walk over the item's signs, up to the rest, ends in an
+//!   item of this kind and finds this name
+//! - <a id="declarations.Attribute.after_path"></a>**after_path**: the trees after the path that the trees
+//!   begin with
 //! - <a id="declarations.rules.Items.any_item"></a>**any_item**: an item of any kind, or a group without
 //!   delimiters
 //! - <a id="declarations.rules.Parts.attributes"></a>**attributes**: any number of attributes
-//! - <a id="declarations.Attribute.attributes_in"></a>**attributes_in**: the attributes at the front of trees,
-//!   up to what is none
-//! - <a id="declarations.File.body_of"></a>**body_of**: the braces in which items of an item of this kind
-//!   stand, if it has some
+//! - <a id="declarations.Attribute.attributes_in"></a>**attributes_in**: the attributes at the start of the
+//!   trees, up to the first trees that are no attribute
+//! - <a id="declarations.File.body_of"></a>**body_of**: the braces with the items of an item of this kind, if
+//!   it has such braces
 //! - <a id="declarations.rules.Types.bounds"></a>**bounds**: bounds, with `+` between two
-//! - <a id="declarations.CompileError.compile_error"></a>**compile_error**: `::core::compile_error! { "text"
-//!   }`, each tree with this span
-//! - <a id="declarations.Grammar.ends"></a>**ends**: whether what is read may end at this place of the grammar
+//! - <a id="declarations.CompileError.compile_error"></a>**compile_error**: the trees of
+//!   `::core::compile_error! { "text" }`, each with this span
+//! - <a id="declarations.Grammar.ends"></a>**ends**: whether the part that is read may end in this state
 //! - <a id="declarations.rules.Entries.entry"></a>**entry**: an entry: a literal, or a path with what follows
 //!   it
-//! - <a id="declarations.Entry.entry_extent"></a>**entry_extent**: where the first tree of an entry of this
-//!   kind and path stands
-//! - <a id="declarations.rules.Expressions.expression"></a>**expression**: where an operand is wanted
+//! - <a id="declarations.Entry.entry_extent"></a>**entry_extent**: the span of the first tree of an entry that
+//!   has this kind and this path
+//! - <a id="declarations.rules.Expressions.expression"></a>**expression**: an expression, from where an operand
+//!   must come
 //! - <a id="declarations.Fault.extent_at"></a>**extent_at**: the span of the tree with this index, or nothing
-//!   where the trees end before it
-//! - <a id="declarations.Fault.fault_text"></a>**fault_text**: the sentence for a fault at a tree with this
+//!   if there are not so many trees
+//! - <a id="declarations.Fault.fault_text"></a>**fault_text**: the message of an error at a tree with this
 //!   span, or at the end of the trees
 //! - <a id="declarations.rules.Parts.field"></a>**field**: a field: attributes, a visibility, a name, `:` and a
 //!   type
-//! - <a id="declarations.rules.Parts.fields"></a>**fields**: fields
-//! - <a id="declarations.rules.Rules.follows"></a>**follows**: the classes of signs that may follow each rule
+//! - <a id="declarations.rules.Parts.fields"></a>**fields**: fields, with `,` between two and perhaps after the
+//!   last
+//! - <a id="declarations.rules.Rules.follows"></a>**follows**: whether a sign of this class may follow the rule
 //! - <a id="declarations.rules.Parameters.function_parameter"></a>**function_parameter**: a parameter of a
-//!   function: attributes, and a receiver, a pattern and its type, or `...`
+//!   function: attributes, and then a receiver, a pattern and its type, or `...`
 //! - <a id="declarations.rules.Parts.generics"></a>**generics**: generic parameters in angle brackets, or
 //!   nothing
 //! - <a id="declarations.rules.Parts.inner_attributes"></a>**inner_attributes**: any number of inner attributes
 //! - <a id="declarations.Attribute.inside"></a>**inside**: the trees in the attribute's brackets
-//! - <a id="declarations.Item.is_keyword"></a>**is_keyword**: an identifier that can't be a name
-//! - <a id="declarations.Attribute.is_word"></a>**is_word**: the trees are one identifier, written so
-//! - <a id="declarations.Grammar.names"></a>**names**: whether a sign of this class is an item's name
-//! - <a id="declarations.Param.param_trees"></a>**param_trees**: the trees of a parameter's parts, as the
-//!   library gives them
-//! - <a id="declarations.Attribute.parts_of"></a>**parts_of**: the trees of an attribute's parts
-//! - <a id="declarations.Attribute.path_of"></a>**path_of**: the path at the front of the trees
+//! - <a id="declarations.Item.is_keyword"></a>**is_keyword**: whether an identifier is a keyword, and so cannot
+//!   be a name
+//! - <a id="declarations.Attribute.is_word"></a>**is_word**: whether the trees are one identifier with this
+//!   text
+//! - <a id="declarations.Grammar.names"></a>**names**: whether a sign of this class is the name of the item, in
+//!   this state
+//! - <a id="declarations.Param.param_trees"></a>**param_trees**: the parts of a generic parameter that the
+//!   library returns, as lists of trees
+//! - <a id="declarations.Attribute.parts_of"></a>**parts_of**: the parts of an attribute: its marks and its
+//!   brackets
+//! - <a id="declarations.Attribute.path_of"></a>**path_of**: the path that the trees begin with
 //! - <a id="declarations.rules.Parameters.pattern"></a>**pattern**: a pattern
-//! - <a id="declarations.Param.predicate_trees"></a>**predicate_trees**: the trees of a predicate's parts, as
-//!   the library gives them
-//! - <a id="declarations.rules.Rules.rules"></a>**rules**: what each rule says
-//! - <a id="declarations.Entry.sole_name"></a>**sole_name**: the identifier that the trees are alone
-//! - <a id="declarations.Grammar.step"></a>**step**: the place of the grammar that a sign leads to, or nothing
-//!   where it may not stand
-//! - <a id="declarations.CompileError.told_at"></a>**told_at**: where a fault is reported: at its tree, or in
-//!   no file where more trees are missing
+//! - <a id="declarations.Param.predicate_trees"></a>**predicate_trees**: the parts of a predicate that the
+//!   library returns, as lists of trees
+//! - <a id="declarations.rules.Rules.rules"></a>**rules**: the grammar of each named rule
+//! - <a id="declarations.Entry.sole_name"></a>**sole_name**: the identifier, if it is the only tree
+//! - <a id="declarations.Grammar.step"></a>**step**: the state that a sign of this class leads to, or nothing
+//!   if the sign cannot come next
+//! - <a id="declarations.CompileError.told_at"></a>**told_at**: the span at which an error is reported: that of
+//!   the tree, or the call site if trees are missing
 //! - <a id="declarations.rules.Parts.tuple_field"></a>**tuple_field**: a field without a name: attributes, a
 //!   visibility and a type
 //! - <a id="declarations.rules.Parts.tuple_fields"></a>**tuple_fields**: fields without names
 //! - <a id="declarations.rules.Types.type"></a>**type**: a type
-//! - <a id="declarations.rules.Items.type_item"></a>**type_item**: a struct, an enum or a union: attributes, a
-//!   visibility and the rest
+//! - <a id="declarations.rules.Items.type_item"></a>**type_item**: a struct, an enum or a union, with its
+//!   attributes and its visibility
 //! - <a id="declarations.rules.Parts.variant"></a>**variant**: a variant: attributes, a visibility, a name,
 //!   perhaps fields, perhaps a discriminant
-//! - <a id="declarations.rules.Parts.variants"></a>**variants**: variants
+//! - <a id="declarations.rules.Parts.variants"></a>**variants**: variants, with `,` between two and perhaps
+//!   after the last
 //! - <a id="declarations.rules.Parts.visibility"></a>**visibility**: a visibility, or nothing
 //! - <a id="declarations.rules.Parts.where_clause"></a>**where_clause**: a where clause, or nothing
 //!
 //! # Words of `explain`
 //!
-//! - <a id="explain.HintWalk.CameNearest"></a>**CameNearest**: a quote with as many hash signs after it as any
-//!   in the content stands from one cursor to the other
-//! - <a id="explain.Reason.Holds"></a>**Holds**: what the reason says where no piece of the grammar stands
-//! - <a id="explain.Explained.IsExplained"></a>**IsExplained**: pieces cover the source up to its fault, these
-//!   openers are left open, and there the reason holds
-//! - <a id="explain.Walk.IsFaulty"></a>**IsFaulty**: this is wrong, by this error, in the text from one cursor
-//!   to the other
-//! - <a id="explain.Hint.IsHint"></a>**IsHint**: the hint for what explains the source
-//! - <a id="explain.Walk.IsInside"></a>**IsInside**: some content is left from the one cursor to the other,
-//!   which the quote before the other closes
-//! - <a id="explain.Walk.IsLeft"></a>**IsLeft**: this is left of the content that the quote before the other
-//!   cursor closes
-//! - <a id="explain.Walk.IsPast"></a>**IsPast**: this part of the text stands from one cursor to the other
-//! - <a id="explain.Explained.IsStretch"></a>**IsStretch**: the stretch is this part, after what stands before
-//!   it in the text
-//! - <a id="explain.Trouble.IsTrouble"></a>**IsTrouble**: the reason holds of the text at the cursor, where the
-//!   answer says
-//! - <a id="explain.HintWalk.LeftComments"></a>**LeftComments**: so many comments are open at the end of the
-//!   text, and the last that ended stands between the two cursors
-//! - <a id="explain.Explained.Parses"></a>**Parses**: some stream is what the source parses to
-//! - <a id="explain.Shapes.closed_body"></a>**closed_body**: pairs of a string's body up to the first `"` that
-//!   is in none of them
-//! - <a id="explain.Shapes.closed_character"></a>**closed_character**: a character literal that ends, whatever
-//!   stands in it
-//! - <a id="explain.Shapes.closed_raw_body"></a>**closed_raw_body**: all up to the first `"` with these hash
-//!   signs after it
+//! - <a id="explain.HintWalk.CameNearest"></a>**CameNearest**: between the cursors `from` and `to` is a quote
+//!   and its hash signs, and no quote in the content has more
+//! - <a id="explain.Reason.Holds"></a>**Holds**: the reason holds: with this wrong part, it is why no piece of
+//!   the grammar begins at the fault
+//! - <a id="explain.Explained.IsExplained"></a>**IsExplained**: pieces cover the source up to where reading
+//!   stops, the explanation has the openers that are open there, and its reason holds at the fault
+//! - <a id="explain.Walk.IsFaulty"></a>**IsFaulty**: the trouble has this error, and the wrong part is all text
+//!   between the cursors or its last character
+//! - <a id="explain.Hint.IsHint"></a>**IsHint**: the hint fits the explanation of the source
+//! - <a id="explain.Walk.IsInside"></a>**IsInside**: the second cursor is right after a quote, and the first
+//!   cursor is at that quote or before it
+//! - <a id="explain.Walk.IsLeft"></a>**IsLeft**: `left` is the text from the first cursor up to the quote right
+//!   before the second
+//! - <a id="explain.Walk.IsPast"></a>**IsPast**: `part` is the text between the two cursors
+//! - <a id="explain.Explained.IsStretch"></a>**IsStretch**: the `Stretch` has the bytes and the span of this
+//!   part of a text, which follows the text `behind`
+//! - <a id="explain.Trouble.IsTrouble"></a>**IsTrouble**: the reason holds of the text at the cursor, and the
+//!   wrong part is between the two cursors of the `Trouble`
+//! - <a id="explain.HintWalk.LeftComments"></a>**LeftComments**: `depth` comments are open at the end of the
+//!   text, and the comment that ended last, if any, is between the two cursors
+//! - <a id="explain.Explained.Parses"></a>**Parses**: the source parses to some stream
+//! - <a id="explain.Shapes.closed_body"></a>**closed_body**: the body of a string, up to the first `"` that is
+//!   in no pair, and that `"`
+//! - <a id="explain.Shapes.closed_character"></a>**closed_character**: a character or byte literal that is
+//!   closed, whatever is in it, names and digits included
+//! - <a id="explain.Shapes.closed_raw_body"></a>**closed_raw_body**: everything up to the first `"` with these
+//!   hash signs after it, and both of these
 //! - <a id="explain.Shapes.is_hash"></a>**is_hash**: whether the character is `#`
 //! - <a id="explain.Words.name_of"></a>**name_of**: the short name of a reason, in words with hyphens
-//! - <a id="explain.Shapes.raw_name_start"></a>**raw_name_start**: how a raw name begins
-//! - <a id="explain.Words.sentence_of"></a>**sentence_of**: the sentence for a reason
+//! - <a id="explain.Shapes.raw_name_start"></a>**raw_name_start**: `r#` and the first character of a name
+//! - <a id="explain.Words.sentence_of"></a>**sentence_of**: the message of a reason
 //! - <a id="explain.Shapes.single_front"></a>**single_front**: what opens a character or a byte literal
-//! - <a id="explain.Shapes.single_opening"></a>**single_opening**: what opens a character or a byte
+//! - <a id="explain.Shapes.single_opening"></a>**single_opening**: the `b'` that opens a byte literal, or a `'`
+//!   with no name or digit after it, which opens a character literal
 //! - <a id="explain.Shapes.single_rule"></a>**single_rule**: the rule of a character or a byte literal
 //!
 //! # Words of `grammars`
 //!
-//! - <a id="grammars.Deterministic.IsWellFormed"></a>**IsWellFormed**: one sign decides at each choice of each
-//!   rule, and each rule derives something
+//! - <a id="grammars.Deterministic.IsWellFormed"></a>**IsWellFormed**: whether one sign decides at each choice
+//!   of each rule, and each rule derives something
 //!
 //! # Words of `item_headers`
 //!
@@ -306,270 +319,281 @@
 //! # Words of `layout`
 //!
 //! - <a id="layout.Layout.IsLayout"></a>**IsLayout**: `layout`: the text is the stream's tokens and delimiters
-//!   in order, with gaps that may stand there, and one at the end
+//!   in order, with an allowed gap before each, and a gap at the end
 //! - <a id="layout.Writing.IsNoWrite"></a>**IsNoWrite**: the error is not that of a writer
-//! - <a id="layout.Written.IsWritten"></a>**IsWritten**: a text is what the stream and the gaps that a chooser
-//!   gave make: it was asked once for each place of the stream, in order, which took it from its old state to
-//!   its new one, and what is written at each is the text
-//! - <a id="layout.Laws.LayoutsComeBack"></a>**LayoutsComeBack**: a well spaced stream comes back from each of
-//!   its layouts
-//! - <a id="layout.Laws.PrintedIsLayout"></a>**PrintedIsLayout**: the printed text of a well spaced stream is
-//!   one of its layouts
-//! - <a id="layout.Writing.ReadsBack"></a>**ReadsBack**: the text reads back to the stream, up to spans,
-//!   wherever it stands
-//! - <a id="layout.Written.Writes"></a>**Writes**: a text of that kind is written, which is a layout of the
-//!   stream and reads back to it
-//! - <a id="layout.Written.choice_of"></a>**choice_of**: what a chooser is asked and answers
+//! - <a id="layout.Written.IsWritten"></a>**IsWritten**: the text consists of the stream and the gaps that a
+//!   chooser gives. The chooser is called once for each gap of the stream, in order, which takes it from its
+//!   old state to its new one
+//! - <a id="layout.Laws.LayoutsComeBack"></a>**LayoutsComeBack**: each layout of a built, well-spaced stream
+//!   reads back to it
+//! - <a id="layout.Laws.PrintedIsLayout"></a>**PrintedIsLayout**: the printed text of a built, well-spaced
+//!   stream is one of its layouts
+//! - <a id="layout.Writing.ReadsBack"></a>**ReadsBack**: the text reads back to the stream up to spans,
+//!   wherever the spans begin
+//! - <a id="layout.Written.Writes"></a>**Writes**: a wanted text is written; it is a layout of the stream and
+//!   reads back to it
+//! - <a id="layout.Written.choice_of"></a>**choice_of**: the choice that consists of a chooser's argument and
+//!   its result
 //!
 //! # Words of `lexical`
 //!
-//! - <a id="lexical.PieceStep.Answers"></a>**Answers**: the step answers the kind of the piece that was found
-//!   and leads past it, or fails where none was
+//! - <a id="lexical.PieceStep.Answers"></a>**Answers**: whether the step returns the piece that was found, and
+//!   `None` if none was found
 //! - <a id="lexical.Comment.BlockComment"></a>**BlockComment**: `block-comment`: `/*` up to the `*/` that
 //!   closes it, with block comments inside
-//! - <a id="lexical.SingleQuoted.Byte"></a>**Byte**: `byte`: a literal between `b'` and `'`, before a rest
-//! - <a id="lexical.Quoted.ByteStr"></a>**ByteStr**: `byte-string`: a literal between `b"` and `"`, before a
-//!   rest
-//! - <a id="lexical.SingleQuoted.Character"></a>**Character**: `character`: a literal between `'` and `'`,
-//!   before a rest
+//! - <a id="lexical.SingleQuoted.Byte"></a>**Byte**: `byte`: a literal between `b'` and `'`
+//! - <a id="lexical.Quoted.ByteStr"></a>**ByteStr**: `byte-string`: a literal between `b"` and `"`
+//! - <a id="lexical.SingleQuoted.Character"></a>**Character**: `character`: a literal between `'` and `'`
 //! - <a id="lexical.Comment.Comment"></a>**Comment**: a line comment or a block comment
-//! - <a id="lexical.Rule.Exactly"></a>**Exactly**: this very text
-//! - <a id="lexical.Piece.FrontMark"></a>**FrontMark**: the mark U+FEFF at the front of a text
-//! - <a id="lexical.Piece.HasNoPiece"></a>**HasNoPiece**: no piece stands at the front of the text
-//! - <a id="lexical.Form.HasNone"></a>**HasNone**: no piece of the form stands at the front of the text
-//! - <a id="lexical.Quick.IsAsciiAt"></a>**IsAsciiAt**: so many bytes at the front of the text are ASCII, and a
-//!   piece of the form
-//! - <a id="lexical.Found.IsAt"></a>**IsAt**: a piece of the form stands at the front of the text, and takes so
-//!   many bytes
-//! - <a id="lexical.Quick.IsLiteralAt"></a>**IsLiteralAt**: a piece of the kind Literal, of this extent, stands
-//!   at the front of the text, be it a source's front or not
-//! - <a id="lexical.Walk.IsNext"></a>**IsNext**: from one cursor to the other stands this piece, at its byte
-//!   offset and with its text; only the first stands at byte offset 0
-//! - <a id="lexical.WhiteRun.IsPastWhite"></a>**IsPastWhite**: so many white characters of ASCII stand at the
-//!   front of the text, and the rest, after them, begins with none
-//! - <a id="lexical.Piece.IsPiece"></a>**IsPiece**: the piece stands before r; `first` says that it stands at
-//!   byte offset 0
-//! - <a id="lexical.Found.IsPieceAt"></a>**IsPieceAt**: the piece stands at the front of the text, and takes so
-//!   many bytes and characters
-//! - <a id="lexical.Walk.IsSpaced"></a>**IsSpaced**: from one cursor to the other stand these white characters
-//!   and then this piece, or none stands there
-//! - <a id="lexical.Piece.Kind"></a>**Kind**: what kind of piece it is: the front mark U+FEFF, a gap, a doc
-//!   comment with `!` or not and its text, an opener, a closer, a token
-//! - <a id="lexical.Literal.Literal"></a>**Literal**: `literal`: one between quotes, or a number, before a rest
-//! - <a id="lexical.Token.Literal"></a>**Literal**: a literal by its text
+//! - <a id="lexical.Rule.Exactly"></a>**Exactly**: exactly this text
+//! - <a id="lexical.Piece.FrontMark"></a>**FrontMark**: the byte order mark U+FEFF at the start of a source
+//! - <a id="lexical.Piece.HasNoPiece"></a>**HasNoPiece**: whether no piece is at the start of the text
+//! - <a id="lexical.Form.HasNone"></a>**HasNone**: whether no piece of the form is at the start of the text
+//! - <a id="lexical.Quick.IsAsciiAt"></a>**IsAsciiAt**: whether the first `size` bytes of the text are ASCII
+//!   and a piece of the form
+//! - <a id="lexical.Found.IsAt"></a>**IsAt**: whether a piece of the form is at the start of the text and has
+//!   this many bytes
+//! - <a id="lexical.Quick.IsLiteralAt"></a>**IsLiteralAt**: whether a literal of this extent is at the start of
+//!   the text, at any byte offset of a source
+//! - <a id="lexical.Walk.IsNext"></a>**IsNext**: whether `next` is the next piece of the walk `at`, with its
+//!   text and byte offset, and `to` is the walk after it. Only the first piece can be at byte offset 0
+//! - <a id="lexical.WhiteRun.IsPastWhite"></a>**IsPastWhite**: whether the text begins with `count` white
+//!   characters of ASCII, and `rest` is the text after them, which begins with no more of them
+//! - <a id="lexical.Piece.IsPiece"></a>**IsPiece**: whether p is a piece of this kind right before r. `first`
+//!   says whether p begins at byte offset 0
+//! - <a id="lexical.Found.IsPieceAt"></a>**IsPieceAt**: whether the piece is at the start of the text, with its
+//!   numbers of bytes and characters
+//! - <a id="lexical.Walk.IsSpaced"></a>**IsSpaced**: whether `next` is the run of white characters at the start
+//!   of the walk `at`, with the next piece if there is one. `to` is the walk after both
+//! - <a id="lexical.Piece.Kind"></a>**Kind**: the kind of a piece
+//! - <a id="lexical.Literal.Literal"></a>**Literal**: `literal`: a literal between quotes or a number
+//! - <a id="lexical.Token.Literal"></a>**Literal**: a literal, with its text
 //! - <a id="lexical.Token.Mark"></a>**Mark**: a mark, and whether it is Joint
-//! - <a id="lexical.Identifier.Name"></a>**Name**: `name`: a start of an identifier and all the continues that
-//!   follow it, before a rest
+//! - <a id="lexical.Identifier.Name"></a>**Name**: `name`: a piece of the rule `name`
 //! - <a id="lexical.Token.Name"></a>**Name**: an identifier: whether it is raw, and its name
-//! - <a id="lexical.Number.Number"></a>**Number**: `number`: a float or an integer, before a rest
+//! - <a id="lexical.Number.Number"></a>**Number**: `number`: a piece of the rule `number`
 //! - <a id="lexical.Rule.One"></a>**One**: one character that passes
-//! - <a id="lexical.Step.Passes"></a>**Passes**: from one cursor to the other stands a piece of the rule
-//! - <a id="lexical.Step.Reads"></a>**Reads**: the step leads past the rule's piece, or fails where none stands
-//! - <a id="lexical.Rule.Run"></a>**Run**: all the characters that pass, up to one that doesn't
-//! - <a id="lexical.WhiteRun.SplitsWhite"></a>**SplitsWhite**: the text begins with these white characters, and
-//!   the rest, after them, begins with none
-//! - <a id="lexical.Rule.Stands"></a>**Stands**: what the rule says: the text p is a piece of it, before r
-//! - <a id="lexical.Quoted.Str"></a>**Str**: `string`: a literal between `"` and `"`, before a rest
-//! - <a id="lexical.PieceStep.Tells"></a>**Tells**: the kind of the comment p is the one that was found, or
-//!   none where none was
+//! - <a id="lexical.Step.Passes"></a>**Passes**: whether the text from the cursor `at` to the cursor `to` is a
+//!   piece of the rule
+//! - <a id="lexical.Step.Reads"></a>**Reads**: whether the step returns the cursor after the rule's piece, and
+//!   `None` if there is no piece
+//! - <a id="lexical.Rule.Run"></a>**Run**: all the characters that pass, up to the first one that does not
+//! - <a id="lexical.WhiteRun.SplitsWhite"></a>**SplitsWhite**: whether `white` is all the white characters at
+//!   the start of the text, and `rest` is the text after them
+//! - <a id="lexical.Rule.Stands"></a>**Stands**: the form of the rule: whether the text p is a piece of the
+//!   rule, if r follows it
+//! - <a id="lexical.Quoted.Str"></a>**Str**: `string`: a literal between `"` and `"`
+//! - <a id="lexical.PieceStep.Tells"></a>**Tells**: whether the result is the kind that was found for the
+//!   comment p, and `None` if none was found
 //! - <a id="lexical.Rule.Then"></a>**Then**: a piece of the first rule, and then one of the second
 //! - <a id="lexical.Ascii.all_ascii"></a>**all_ascii**: whether each byte is ASCII
-//! - <a id="lexical.Quoted.allows"></a>**allows**: whether `\u{..}` may give this character: in a byte string
-//!   none, in a C string all but zero
-//! - <a id="lexical.Bytes.ascii_in"></a>**ascii_in**: whether the character is of ASCII and of the class
+//! - <a id="lexical.Quoted.allows"></a>**allows**: whether `\u{..}` may write the character: in a byte string
+//!   none, in a C string any but zero
+//! - <a id="lexical.Bytes.ascii_in"></a>**ascii_in**: whether the character is ASCII and in the class
 //! - <a id="lexical.Character.backslash"></a>**backslash**: `\`
-//! - <a id="lexical.Text.begins_any"></a>**begins_any**: whether the text begins with one of these
-//! - <a id="lexical.Text.begins_with"></a>**begins_with**: whether the text begins with this one
-//! - <a id="lexical.Quoted.body"></a>**body**: `string-body`: units up to what closes the literal, that, and a
-//!   suffix
-//! - <a id="lexical.Quick.byte_starts"></a>**byte_starts**: what the first byte of a text says of the piece
-//!   that may stand there: nothing, where it is past ASCII
+//! - <a id="lexical.Text.begins_any"></a>**begins_any**: whether the text begins with one of the prefixes
+//! - <a id="lexical.Text.begins_with"></a>**begins_with**: whether the second text begins with the first
+//! - <a id="lexical.Quoted.body"></a>**body**: `string-body`: units up to the text that closes the literal,
+//!   that text, and a suffix
+//! - <a id="lexical.Quick.byte_starts"></a>**byte_starts**: what the first byte of a text says about the piece
+//!   there. It says nothing if it is past ASCII
 //! - <a id="lexical.Character.carriage_return"></a>**carriage_return**: CR
 //! - <a id="lexical.SingleQuoted.character"></a>**character**: `character`: `'`, one character or escape, `'`
 //!   and a suffix
-//! - <a id="lexical.Comment.comment"></a>**comment**: the rule of a comment: a line comment or a block comment
-//! - <a id="lexical.PieceFinder.comment_found"></a>**comment_found**: what was found, a comment, with its kind
-//! - <a id="lexical.Mark.comment_fronts"></a>**comment_fronts**: how a comment begins: `//` or `/*`
-//! - <a id="lexical.CommentKind.comment_kind"></a>**comment_kind**: what kind of piece the comment is; none
-//!   where its doc text has a bare CR
-//! - <a id="lexical.Quoted.cooked"></a>**cooked**: `string`, `byte-string`, `c-string`: what opens it, and the
-//!   units up to the first `"` that is in none of them
-//! - <a id="lexical.Text.ends_with"></a>**ends_with**: whether the text ends with this character
+//! - <a id="lexical.Comment.comment"></a>**comment**: a line comment or a block comment, as a rule
+//! - <a id="lexical.PieceFinder.comment_found"></a>**comment_found**: the answer, a comment, with its kind
+//! - <a id="lexical.Mark.comment_fronts"></a>**comment_fronts**: the two prefixes of comments, `//` and `/*`
+//! - <a id="lexical.CommentKind.comment_kind"></a>**comment_kind**: which kind of piece the comment is, or none
+//!   if the text of a doc comment has a CR with no LF after it
+//! - <a id="lexical.Quoted.cooked"></a>**cooked**: `string`, `byte-string`, `c-string`: the prefix that opens
+//!   it, and units up to the first `"` that is in no unit
+//! - <a id="lexical.Text.ends_with"></a>**ends_with**: whether the text ends with the character
 //! - <a id="lexical.Quoted.escape"></a>**escape**: `string-escape`, `byte-escape`, `c-string-escape`: what may
-//!   stand after a backslash
-//! - <a id="lexical.Rule.find"></a>**find**: the piece of the rule at the front of a text, and what follows it
-//! - <a id="lexical.PieceFinder.find_lone_quote"></a>**find_lone_quote**: `lone-quote`: the mark `'` of a
-//!   lifetime, right before its name
+//!   follow a backslash
+//! - <a id="lexical.Rule.find"></a>**find**: finds the piece of the rule at the start of a text, and the text
+//!   after it
+//! - <a id="lexical.PieceFinder.find_lone_quote"></a>**find_lone_quote**: finds a piece of the rule
+//!   `lone-quote`: the mark `'` right before the name of a lifetime
 //! - <a id="lexical.Text.first_passes"></a>**first_passes**: whether the text begins with a character that
 //!   passes
-//! - <a id="lexical.Mark.follows_quote"></a>**follows_quote**: whether the text begins so
-//! - <a id="lexical.PieceFinder.found"></a>**found**: the piece at the front of a text; `first` says that this
-//!   is byte offset 0
-//! - <a id="lexical.PieceFinder.found_identifier"></a>**found_identifier**: the identifier at the front of a
-//!   text that begins with a letter: a raw one where `r#` begins
-//! - <a id="lexical.Quoted.front"></a>**front**: what opens a string
-//! - <a id="lexical.Quoted.is_code"></a>**is_code**: whether the text has six hex digits at most, and writes a
-//!   character that is allowed
-//! - <a id="lexical.Quoted.is_code_digit"></a>**is_code_digit**: a hex digit or `_`
-//! - <a id="lexical.Class.is_ident_continue"></a>**is_ident_continue**: `identifier-continue`: a character that
-//!   may go on with one
-//! - <a id="lexical.Class.is_ident_start"></a>**is_ident_start**: `identifier-start`: a character that may
+//! - <a id="lexical.Mark.follows_quote"></a>**follows_quote**: whether the text begins with an identifier that
+//!   may follow a `'`
+//! - <a id="lexical.PieceFinder.found"></a>**found**: the piece at the start of a text. `first` says whether
+//!   this is byte offset 0
+//! - <a id="lexical.PieceFinder.found_identifier"></a>**found_identifier**: the identifier at the start of a
+//!   text. It is a raw one if the text begins with `r#`
+//! - <a id="lexical.Quoted.front"></a>**front**: the prefix that opens a string of the kind
+//! - <a id="lexical.Quoted.is_code"></a>**is_code**: whether the text has at most six hex digits, and they
+//!   write a character that is allowed
+//! - <a id="lexical.Quoted.is_code_digit"></a>**is_code_digit**: whether the character is a hex digit or `_`
+//! - <a id="lexical.Class.is_ident_continue"></a>**is_ident_continue**: `identifier-continue`: whether the
+//!   character may continue an identifier
+//! - <a id="lexical.Class.is_ident_start"></a>**is_ident_start**: `identifier-start`: whether the character may
 //!   begin an identifier
-//! - <a id="lexical.Bytes.is_in"></a>**is_in**: whether the character is of the class
-//! - <a id="lexical.Word.is_line_ascii"></a>**is_line_ascii**: a byte of ASCII that goes on with a line
+//! - <a id="lexical.Bytes.is_in"></a>**is_in**: whether the character is in the class
+//! - <a id="lexical.Word.is_line_ascii"></a>**is_line_ascii**: whether the byte is ASCII and neither LF nor CR
 //! - <a id="lexical.Mark.is_mark"></a>**is_mark**: whether the character is one of the 22 marks
-//! - <a id="lexical.Quoted.is_octal_digit"></a>**is_octal_digit**: a digit from 0 to 7
-//! - <a id="lexical.Quoted.is_one_of"></a>**is_one_of**: whether the character is one of these characters
-//! - <a id="lexical.SingleQuoted.is_plain"></a>**is_plain**: whether the character stands for itself between
-//!   `'` and `'`
-//! - <a id="lexical.Word.is_plain_ascii"></a>**is_plain_ascii**: a byte of ASCII that stands for itself in a
-//!   string
-//! - <a id="lexical.Identifier.is_reserved"></a>**is_reserved**: whether the name is one of these
-//! - <a id="lexical.Class.is_white"></a>**is_white**: `white`: white space, and the two marks of direction
-//! - <a id="lexical.Mark.joint_before"></a>**joint_before**: `joint`: whether a mark before r is Joint, as a
-//!   mark follows that begins no comment
-//! - <a id="lexical.Quoted.letters"></a>**letters**: the letters that are an escape by themselves after a
-//!   backslash, in strings of this kind
-//! - <a id="lexical.Literal.literal"></a>**literal**: `literal`: the rule of one between quotes, or of a number
-//! - <a id="lexical.RawString.may_stand_raw"></a>**may_stand_raw**: whether the character may stand in a raw
-//!   string of this kind
-//! - <a id="lexical.Identifier.name"></a>**name**: `name`: a start of an identifier and all the continues that
-//!   follow it
-//! - <a id="lexical.Number.number"></a>**number**: `number`: a float, or an `integer` where no front of the
-//!   text is a float, be it shorter or longer
-//! - <a id="lexical.PieceFinder.piece_start"></a>**piece_start**: what the first character of a text says of
-//!   the piece that may stand there
+//! - <a id="lexical.Quoted.is_octal_digit"></a>**is_octal_digit**: whether the character is a digit from 0 to 7
+//! - <a id="lexical.Quoted.is_one_of"></a>**is_one_of**: whether the character is one of `characters`
+//! - <a id="lexical.SingleQuoted.is_plain"></a>**is_plain**: whether a literal of the kind may have the
+//!   character between single quotes without an escape
+//! - <a id="lexical.Word.is_plain_ascii"></a>**is_plain_ascii**: whether the byte is ASCII and needs no escape
+//!   in a string
+//! - <a id="lexical.Identifier.is_reserved"></a>**is_reserved**: `raw-reserved`: whether the name is one of
+//!   `reserved_names`
+//! - <a id="lexical.Class.is_white"></a>**is_white**: `white`: whether the character is white space or one of
+//!   the two marks of direction, U+200E and U+200F
+//! - <a id="lexical.Mark.joint_before"></a>**joint_before**: `joint`: whether a mark before r is Joint, because
+//!   r begins with a mark and not with a comment
+//! - <a id="lexical.Quoted.letters"></a>**letters**: the letters that are an escape after a backslash, in a
+//!   string of the kind
+//! - <a id="lexical.Literal.literal"></a>**literal**: `literal`: a literal between quotes or a number, as a
+//!   rule
+//! - <a id="lexical.RawString.may_stand_raw"></a>**may_stand_raw**: whether a raw string of the kind may
+//!   contain the character. A CR must also have an LF after it
+//! - <a id="lexical.Identifier.name"></a>**name**: `name`: a character that may begin an identifier and all
+//!   after it that may continue one
+//! - <a id="lexical.Number.number"></a>**number**: `number`: a float, or an integer if no float begins there,
+//!   neither a shorter nor a longer one
+//! - <a id="lexical.PieceFinder.piece_start"></a>**piece_start**: what the first character of a text says about
+//!   the piece there
 //! - <a id="lexical.Literal.quoted_literal"></a>**quoted_literal**: `quoted-literal`: a string, a byte string
 //!   or a C string, each with escapes or raw, a character or a byte
-//! - <a id="lexical.RawString.raw"></a>**raw**: a raw string: what opens it, hash signs, and what stands
-//!   between its quotes
-//! - <a id="lexical.RawString.raw_front"></a>**raw_front**: what opens a raw string
-//! - <a id="lexical.Identifier.raw_name"></a>**raw_name**: `raw-identifier`: `r#`, and this: a name that is not
+//! - <a id="lexical.RawString.raw"></a>**raw**: a raw string: the prefix that opens it, hash signs, and the
+//!   quotes with the text between them
+//! - <a id="lexical.RawString.raw_front"></a>**raw_front**: the prefix that opens a raw string of the kind
+//! - <a id="lexical.Identifier.raw_name"></a>**raw_name**: `raw-identifier`: the name after `r#`, which is not
 //!   reserved
 //! - <a id="lexical.RawString.raw_string"></a>**raw_string**: `raw-string`, `raw-byte-string`, `raw-c-string`:
-//!   with at most 255 hash signs
-//! - <a id="lexical.SingleQuoted.single"></a>**single**: a literal of one unit: what opens it, a unit, `'` and
-//!   a suffix
+//!   a raw string of the kind, with at most 255 hash signs
+//! - <a id="lexical.SingleQuoted.single"></a>**single**: a literal of one unit: the prefix that opens it, a
+//!   unit, `'` and a suffix
 //! - <a id="lexical.Character.single_quote"></a>**single_quote**: `'`
-//! - <a id="lexical.Quoted.suffix"></a>**suffix**: `suffix`: the longest name, where one starts there
+//! - <a id="lexical.Quoted.suffix"></a>**suffix**: `suffix`: the longest name there, or nothing if no name
+//!   begins there
 //! - <a id="lexical.Quoted.unit"></a>**unit**: `string-unit`, `byte-string-unit`, `c-string-unit`: a character
-//!   that passes, a line end, or a backslash and what may stand after it
-//! - <a id="lexical.Finder.while_front"></a>**while_front**: the longest front whose characters pass
-//! - <a id="lexical.Finder.while_rest"></a>**while_rest**: what follows it
-//! - <a id="lexical.Identifier.written"></a>**written**: an identifier as it is written, raw or plain, whatever
-//!   literal begins there
+//!   that needs no escape, a line end, or a backslash and what may follow it
+//! - <a id="lexical.Finder.while_front"></a>**while_front**: the longest prefix whose characters all pass
+//! - <a id="lexical.Finder.while_rest"></a>**while_rest**: the text after the longest prefix whose characters
+//!   all pass
+//! - <a id="lexical.Identifier.written"></a>**written**: an identifier as it is written, raw or plain, even if
+//!   a literal begins there
 //!
 //! # Words of `literal_escaper`
 //!
-//! - <a id="literal_escaper.Within.AreWithin"></a>**AreWithin**: `item-range`: the range of each item or error
-//!   lies in the text, and both ends are between characters
-//! - <a id="literal_escaper.Unescaping.Gives"></a>**Gives**: the answer is what was read from the cursor on
-//! - <a id="literal_escaper.Unescaping.GivesFront"></a>**GivesFront**: the answer is what the front of the text
-//!   at the cursor gives
-//! - <a id="literal_escaper.Kind.any_char"></a>**any_char**: a character of a string: any
-//! - <a id="literal_escaper.Kind.ascii_byte"></a>**ascii_byte**: a character of a byte string: one of ASCII
+//! - <a id="literal_escaper.Within.AreWithin"></a>**AreWithin**: `item-range`: whether the range of each item
+//!   or error is in the text and ends at whole characters on both sides
+//! - <a id="literal_escaper.Unescaping.Gives"></a>**Gives**: whether the answer is what was read at the cursor
+//!   `at`
+//! - <a id="literal_escaper.Unescaping.GivesFront"></a>**GivesFront**: whether the item, the warning and the
+//!   cursor after them are what was read at the cursor `at`
+//! - <a id="literal_escaper.Kind.any_char"></a>**any_char**: the unit of a character of a string, which may be
+//!   any
+//! - <a id="literal_escaper.Kind.ascii_byte"></a>**ascii_byte**: the unit of a character of a byte string,
+//!   which must be ASCII
 //! - <a id="literal_escaper.Kind.byte_kind"></a>**byte_kind**: `byte-kind`: the kind of byte strings, whose
 //!   units are bytes
 //! - <a id="literal_escaper.Items.byte_offset"></a>**byte_offset**: the byte offset in a content of this size
-//!   where so much of the text is left
-//! - <a id="literal_escaper.Text.bytes"></a>**bytes**: how many bytes the text takes in UTF-8
+//!   where `rest` is left
+//! - <a id="literal_escaper.Text.bytes"></a>**bytes**: how many bytes the text has in UTF-8
 //! - <a id="literal_escaper.Kind.c_kind"></a>**c_kind**: `c-kind`: the kind of C strings, whose units are
 //!   characters and bytes, none of them zero
-//! - <a id="literal_escaper.Kind.character"></a>**character**: the character with this code, or what is wrong
-//!   with the code
+//! - <a id="literal_escaper.Kind.character"></a>**character**: the character with this code, or an error
 //! - <a id="literal_escaper.Unescaping.cooked_left"></a>**cooked_left**: the items of a content with escapes
 //!   that are left after a cursor
 //! - <a id="literal_escaper.Errors.errors_in"></a>**errors_in**: `content-errors`: the errors and warnings in a
-//!   content of this mode
-//! - <a id="literal_escaper.Escape.escape"></a>**escape**: `item-escape`: what stands after a backslash
-//! - <a id="literal_escaper.EscapeMessage.escape_message"></a>**escape_message**: what is wrong with the
-//!   content of a literal
-//! - <a id="literal_escaper.Items.front"></a>**front**: what the front of the text gives
-//! - <a id="literal_escaper.Unescaping.front_items"></a>**front_items**: an item and the warning after it;
-//!   without the item there is none
-//! - <a id="literal_escaper.Mode.is_double_quoted"></a>**is_double_quoted**: whether a literal of this mode
-//!   stands between double quotes
-//! - <a id="literal_escaper.Warning.is_fault"></a>**is_fault**: `fatal`: whether the error is a fault, and no
-//!   warning
-//! - <a id="literal_escaper.Class.is_in"></a>**is_in**: whether the character is of the class
-//! - <a id="literal_escaper.Items.items"></a>**items**: `items`: those of a content with escapes
-//! - <a id="literal_escaper.Items.items_from"></a>**items_from**: the items that are left of a content, from
-//!   this text to its end
-//! - <a id="literal_escaper.Mode.prefix"></a>**prefix**: what stands in a literal of this mode before its first
-//!   quote or its `r`
-//! - <a id="literal_escaper.Units.raw_c_char"></a>**raw_c_char**: a character of a raw C string, unless it is
-//!   NUL
+//!   content of this kind
+//! - <a id="literal_escaper.Escape.escape"></a>**escape**: `item-escape`: reads an escape after a backslash
+//! - <a id="literal_escaper.EscapeMessage.escape_message"></a>**escape_message**: the message of an error
+//! - <a id="literal_escaper.Items.front"></a>**front**: reads one step at the start of the text: a backslash
+//!   with LF and the blanks after them, an escape, or one character
+//! - <a id="literal_escaper.Unescaping.front_items"></a>**front_items**: an item and the warning after it.
+//!   Without an item there is no warning
+//! - <a id="literal_escaper.Mode.is_double_quoted"></a>**is_double_quoted**: whether a literal of this kind is
+//!   between double quotes
+//! - <a id="literal_escaper.Warning.is_fault"></a>**is_fault**: `fatal`: whether the error is not one of the
+//!   two warnings
+//! - <a id="literal_escaper.Class.is_in"></a>**is_in**: whether the character is in the class
+//! - <a id="literal_escaper.Items.items"></a>**items**: `items`: the items of a content with escapes
+//! - <a id="literal_escaper.Items.items_from"></a>**items_from**: the items from this text to the end of the
+//!   content
+//! - <a id="literal_escaper.Mode.prefix"></a>**prefix**: the prefix of a literal of this kind, without its `r`
+//! - <a id="literal_escaper.Units.raw_c_char"></a>**raw_c_char**: the unit of a character of a raw C string, or
+//!   an error if it is NUL
 //! - <a id="literal_escaper.Items.raw_items"></a>**raw_items**: `raw-items`: the items of a raw content
 //! - <a id="literal_escaper.Unescaping.raw_left"></a>**raw_left**: the items of a raw content that are left
 //!   after a cursor
-//! - <a id="literal_escaper.Single.single"></a>**single**: `single-item`: the one unit that a content is, or
-//!   what is wrong with it
+//! - <a id="literal_escaper.Single.single"></a>**single**: `single-item`: reads the one unit of a content, or
+//!   an error
 //! - <a id="literal_escaper.Kind.string_kind"></a>**string_kind**: `string-kind`: the kind of strings, whose
 //!   units are characters
-//! - <a id="literal_escaper.Unescaping.text_at"></a>**text_at**: the text that follows a cursor
+//! - <a id="literal_escaper.Unescaping.text_at"></a>**text_at**: the text after a cursor
 //!
 //! # Words of `pm_span`
 //!
-//! - <a id="pm_span.Lookup.AreInOneFile"></a>**AreInOneFile**: some file of the map has both spans
-//! - <a id="pm_span.Lookup.EndsAt"></a>**EndsAt**: `line`, `column`: the line and column in its file at which
-//!   the span ends
-//! - <a id="pm_span.Extent.Extent"></a>**Extent**: the positions from lo to hi, in characters
-//! - <a id="pm_span.Files.Files"></a>**Files**: the texts of the files 1, 2, .. in order, and the last position
-//!   that may be given
-//! - <a id="pm_span.Files.Fits"></a>**Fits**: `fits`: a file of so many characters ends within the limit
-//! - <a id="pm_span.Lookup.HasBytes"></a>**HasBytes**: `byte-offset`: the byte offsets in its file at which the
-//!   span begins and ends
-//! - <a id="pm_span.Lookup.HasName"></a>**HasName**: `file-name`: the name of the span's file
-//! - <a id="pm_span.Lookup.HasText"></a>**HasText**: `source-text`: the text of its file from where the span
-//!   begins to where it ends
-//! - <a id="pm_span.Files.Holds"></a>**Holds**: `holds`: some file of the map has all the positions of the span
-//! - <a id="pm_span.Order.IsBefore"></a>**IsBefore**: the first place is on an earlier line, or on the same
+//! - <a id="pm_span.Lookup.AreInOneFile"></a>**AreInOneFile**: whether one file of the map has both spans
+//! - <a id="pm_span.Lookup.EndsAt"></a>**EndsAt**: `line`, `column`: whether the span ends at this line and
+//!   column of its file
+//! - <a id="pm_span.Extent.Extent"></a>**Extent**: the positions from `lo` to `hi`, in characters
+//! - <a id="pm_span.Files.Files"></a>**Files**: the texts of the files 1, 2, .. in order, and the largest
+//!   position that may be used
+//! - <a id="pm_span.Files.Fits"></a>**Fits**: `fits`: whether a next file with this number of characters ends
+//!   within the limit
+//! - <a id="pm_span.Lookup.HasBytes"></a>**HasBytes**: `byte-offset`: whether the span begins and ends at these
+//!   byte offsets of its file
+//! - <a id="pm_span.Lookup.HasName"></a>**HasName**: `file-name`: whether this is the name of the span's file
+//! - <a id="pm_span.Lookup.HasText"></a>**HasText**: `source-text`: whether this is the part of its file's text
+//!   that the span covers
+//! - <a id="pm_span.Files.Holds"></a>**Holds**: `holds`: whether some file of the map has all the positions of
+//!   the span
+//! - <a id="pm_span.Order.IsBefore"></a>**IsBefore**: whether the first is on an earlier line, or on the same
 //!   line at a smaller column
-//! - <a id="pm_span.Lookup.IsTextOf"></a>**IsTextOf**: `source-text`: some file of the map has the span, with
-//!   this text between the two offsets
-//! - <a id="pm_span.Lookup.StartsAt"></a>**StartsAt**: `line`, `column`: the line and column in its file at
-//!   which the span begins
-//! - <a id="pm_span.Extent.extent_eq"></a>**extent_eq**: whether both are the same positions
-//! - <a id="pm_span.Lookup.joined"></a>**joined**: `join`: the span from where the first of the two begins to
-//!   where the last of them ends
-//! - <a id="pm_span.Files.new_map"></a>**new_map**: a map without files, which may give all positions
+//! - <a id="pm_span.Lookup.IsTextOf"></a>**IsTextOf**: `source-text`: whether some file of the map has the
+//!   span, and this is the text that the span covers there
+//! - <a id="pm_span.Lookup.StartsAt"></a>**StartsAt**: `line`, `column`: whether the span begins at this line
+//!   and column of its file
+//! - <a id="pm_span.Extent.extent_eq"></a>**extent_eq**: whether both have the same positions
+//! - <a id="pm_span.Lookup.joined"></a>**joined**: `join`: the smallest span that covers both
+//! - <a id="pm_span.Files.new_map"></a>**new_map**: a map that has only file 0, with the largest limit
 //! - <a id="pm_span.Files.next_lo"></a>**next_lo**: `next-position`: where the next file begins, one past the
 //!   end of the last
-//! - <a id="pm_span.Extent.nowhere"></a>**nowhere**: the span of what stands in no file: from 0 to 0
-//! - <a id="pm_span.Files.with_file"></a>**with_file**: the map with one more file of this text
+//! - <a id="pm_span.Extent.nowhere"></a>**nowhere**: the span of a token that was not read from a text: from 0
+//!   to 0
+//! - <a id="pm_span.Files.with_file"></a>**with_file**: the map with one more file, which has this text
 //!
 //! # Words of `pm_stream`
 //!
-//! - <a id="pm_stream.Places.ArePlaced"></a>**ArePlaced**: the trees, with their places, are those of the
-//!   stream that the source parses to
+//! - <a id="pm_stream.Places.ArePlaced"></a>**ArePlaced**: the list says where each tree begins and ends, for
+//!   the stream that the source parses to
 //! - <a id="pm_stream.InOrder.BeginsWithGroup"></a>**BeginsWithGroup**: the first of the trees is a group
-//! - <a id="pm_stream.Taken.CanClose"></a>**CanClose**: the sink has taken what stands before the piece, which
-//!   is the closer of the innermost open group, of one character
-//! - <a id="pm_stream.Taken.CanOpen"></a>**CanOpen**: the sink has taken what stands before the piece, which is
+//! - <a id="pm_stream.Taken.CanClose"></a>**CanClose**: the sink has taken everything before the piece, which
+//!   is the closer, of one character, of the innermost open group
+//! - <a id="pm_stream.Taken.CanOpen"></a>**CanOpen**: the sink has taken everything before the piece, which is
 //!   an opener of one character
-//! - <a id="pm_stream.Taken.CanPass"></a>**CanPass**: the sink has taken what stands before the text, which
-//!   begins with exactly so many white characters of ASCII
-//! - <a id="pm_stream.Taken.CanSkip"></a>**CanSkip**: the sink has taken what stands before the piece, which is
+//! - <a id="pm_stream.Taken.CanPass"></a>**CanPass**: the sink has taken everything before the text, which
+//!   begins with exactly `size` ASCII white characters
+//! - <a id="pm_stream.Taken.CanSkip"></a>**CanSkip**: the sink has taken everything before the piece, which is
 //!   no token
-//! - <a id="pm_stream.Taken.CanTake"></a>**CanTake**: the sink has taken what stands before the piece, which is
+//! - <a id="pm_stream.Taken.CanTake"></a>**CanTake**: the sink has taken everything before the piece, which is
 //!   of this kind
-//! - <a id="pm_stream.Steps.Enter"></a>**Enter**: into this group; the other trees are those that follow it
-//! - <a id="pm_stream.Steps.EntersNext"></a>**EntersNext**: the first of the steps goes into a group
+//! - <a id="pm_stream.Steps.Enter"></a>**Enter**: enters this group; the trees are those that follow it
+//! - <a id="pm_stream.Steps.EntersNext"></a>**EntersNext**: the first of the steps enters a group
 //! - <a id="pm_stream.Parsing.FaultAt"></a>**FaultAt**: `fault`: the one position where a source fails to parse
-//! - <a id="pm_stream.Steps.FollowedBy"></a>**FollowedBy**: a step is followed by those over its siblings; one
-//!   into a group first by those over its trees, and out of it. A token has no trees inside
-//! - <a id="pm_stream.Forest.Forest"></a>**Forest**: a leaf or a group, with the positions where it begins and
-//!   ends, before the other trees
-//! - <a id="pm_stream.Building.GivesAll"></a>**GivesAll**: the property holds of all the items that what is
-//!   iterated over gives
-//! - <a id="pm_stream.Building.GivesAnItem"></a>**GivesAnItem**: what is iterated over gives at least one item
-//! - <a id="pm_stream.Trees.GoesInside"></a>**GoesInside**: the tree may be put into a stream: a literal that
-//!   has no `-` before it, or any other tree
+//! - <a id="pm_stream.Steps.FollowedBy"></a>**FollowedBy**: the steps that follow a step: those over the trees
+//!   after it. After `Enter` those over the group's trees come first, and then its `Leave`. A token has no
+//!   trees inside
+//! - <a id="pm_stream.Forest.Forest"></a>**Forest**: a list of trees: no trees, or a token or a group and then
+//!   the other trees
+//! - <a id="pm_stream.Building.GivesAll"></a>**GivesAll**: the property holds of the list of all items that the
+//!   iterable gives
+//! - <a id="pm_stream.Building.GivesAnItem"></a>**GivesAnItem**: the iterable gives at least one item
+//! - <a id="pm_stream.Trees.GoesInside"></a>**GoesInside**: the tree may be put into a stream as it is: any
+//!   tree but a literal with a `-` before it
 //! - <a id="pm_stream.Taken.HasClosed"></a>**HasClosed**: the step took the piece as the closer of this group
 //! - <a id="pm_stream.Parsing.HasNoFault"></a>**HasNoFault**: no position of the source is a fault
 //! - <a id="pm_stream.Taken.HasOpened"></a>**HasOpened**: the step took the piece as the opener of this group
-//! - <a id="pm_stream.Taken.HasPassed"></a>**HasPassed**: the step passed the white characters at the front of
-//!   the text
+//! - <a id="pm_stream.Taken.HasPassed"></a>**HasPassed**: the step skipped the ASCII white characters at the
+//!   start of the text
 //! - <a id="pm_stream.Taken.HasTaken"></a>**HasTaken**: the step took the piece as one of this kind
 //! - <a id="pm_stream.HeldSpans.HoldsAll"></a>**HoldsAll**: the map holds the span of each tree of the stream,
 //!   at any depth
@@ -577,115 +601,118 @@
 //!   at any depth
 //! - <a id="pm_stream.Forest.IsBuilt"></a>**IsBuilt**: `built`: each token is one of the grammar's, and no span
 //!   ends before it begins. Every stream is built
-//! - <a id="pm_stream.DocGroup.IsDocOf"></a>**IsDocOf**: the group is printed as `[doc = `, the text of a
-//!   literal, and `]`
-//! - <a id="pm_stream.Fault.IsFault"></a>**IsFault**: the one fault of a source, by an empty span, or want of
-//!   memory
-//! - <a id="pm_stream.Taken.IsLexed"></a>**IsLexed**: the piece stands at the front of the text, and after it
-//!   there is room for positions
+//! - <a id="pm_stream.DocGroup.IsDocOf"></a>**IsDocOf**: the group is printed as `[doc = `, this text, which is
+//!   a literal's, and `]`
+//! - <a id="pm_stream.Fault.IsFault"></a>**IsFault**: the error is the fault of the source, as an empty span,
+//!   or memory ran out
+//! - <a id="pm_stream.Taken.IsLexed"></a>**IsLexed**: the text begins with the piece, and the position after it
+//!   is less than 2^32
 //! - <a id="pm_stream.Parsing.IsOnlyFault"></a>**IsOnlyFault**: the source doesn't parse, and no other position
 //!   is a fault
 //! - <a id="pm_stream.Fault.IsStray"></a>**IsStray**: the piece is a closer that doesn't close the innermost of
-//!   the groups
-//! - <a id="pm_stream.WellSpaced.IsWellSpaced"></a>**IsWellSpaced**: `well-spaced`: spacings fit what follows
-//!   and each group has delimiters, so that the printed text reads back
-//! - <a id="pm_stream.Steps.Leave"></a>**Leave**: out of this group; the other trees are those that follow it
-//! - <a id="pm_stream.OpenGroups.Opened"></a>**Opened**: a group that isn't closed: the trees before it, how it
-//!   is delimited, and where it begins
+//!   the open groups
+//! - <a id="pm_stream.WellSpaced.IsWellSpaced"></a>**IsWellSpaced**: `well-spaced`: spacings fit what follows,
+//!   and each group has delimiters, so parsing the printed text gives the stream
+//! - <a id="pm_stream.Steps.Leave"></a>**Leave**: leaves this group; the trees are those that follow it
+//! - <a id="pm_stream.OpenGroups.Opened"></a>**Opened**: an open group: the trees before it, its delimiter, and
+//!   the position where it begins
 //! - <a id="pm_stream.Parsing.ParsesTo"></a>**ParsesTo**: `parses-to`: the stream's flattening is the expansion
 //!   of a cover of the source
 //! - <a id="pm_stream.PrintsText.PrintsText"></a>**PrintsText**: the bytes are the printed text of the stream
 //!   that the source parses to
-//! - <a id="pm_stream.Building.PutsIn"></a>**PutsIn**: the trees of each item were put after those of the
-//!   stream
-//! - <a id="pm_stream.Reading.ReadsAll"></a>**ReadsAll**: the sink took the events of the stream that the
+//! - <a id="pm_stream.Building.PutsIn"></a>**PutsIn**: the new stream has the old trees, and then the trees of
+//!   each item
+//! - <a id="pm_stream.Reading.ReadsAll"></a>**ReadsAll**: the sink has taken all events of the stream that the
 //!   source parses to
-//! - <a id="pm_stream.Reading.ReadsTo"></a>**ReadsTo**: what was read up to the rest of the source, and what
-//!   the sink took of it
-//! - <a id="pm_stream.Building.RefusesAnItem"></a>**RefusesAnItem**: some items were put in, and the one that
-//!   came after them was refused
+//! - <a id="pm_stream.Reading.ReadsTo"></a>**ReadsTo**: the source was read up to the rest, and the sink has
+//!   taken its events up to there
+//! - <a id="pm_stream.Building.RefusesAnItem"></a>**RefusesAnItem**: memory ran out at some item, and exactly
+//!   the items before it were put in
 //! - <a id="pm_stream.Same.Same"></a>**Same**: `same`: the streams are equal but for their spans
 //! - <a id="pm_stream.Trees.alone"></a>**alone**: the stream of this tree alone
-//! - <a id="pm_stream.DelimSpan.closing_span"></a>**closing_span**: `close-span`: the last character of a
-//!   group, or nothing where the group has none
+//! - <a id="pm_stream.DelimSpan.closing_span"></a>**closing_span**: `close-span`: the span of a group's last
+//!   character, which is empty if the group's span is empty
 //! - <a id="pm_stream.DocGroup.doc_of"></a>**doc_of**: the literal of the group of a doc comment, `[doc =
-//!   ".."]`
+//!   ".."]`, and `None` for any other group
 //! - <a id="pm_stream.TreeSpan.extent_of"></a>**extent_of**: the span of a tree
-//! - <a id="pm_stream.WellSpaced.fits"></a>**fits**: the token may be there, by the next tree of its list where
-//!   that is a token. `'` is always Joint
+//! - <a id="pm_stream.WellSpaced.fits"></a>**fits**: whether the token may come before the next tree, which is
+//!   given if it is a token. `'` is never Alone
 //! - <a id="pm_stream.Forest.flattening"></a>**flattening**: `flattening`: the tokens and delimiters of the
 //!   trees in reading order, with their positions
 //! - <a id="pm_stream.Trees.forest"></a>**forest**: the stream of the trees of a list
 //! - <a id="pm_stream.Building.gathered"></a>**gathered**: the trees of each item, one item after another
 //! - <a id="pm_stream.InOrder.in_order"></a>**in_order**: `reading-order`: the trees of a stream, each group
-//!   before those inside it
-//! - <a id="pm_stream.InOrder.in_order_onto"></a>**in_order_onto**: the trees in reading order, each group
-//!   before those inside it, and then others
-//! - <a id="pm_stream.Trees.inside"></a>**inside**: the trees within a group, and none of a token
+//!   before the trees inside it
+//! - <a id="pm_stream.InOrder.in_order_onto"></a>**in_order_onto**: the trees of a stream, each group before
+//!   the trees inside it, and then other trees
+//! - <a id="pm_stream.Trees.inside"></a>**inside**: the trees inside a group; a token has none
 //! - <a id="pm_stream.Size.is_nil"></a>**is_nil**: whether there are no trees
-//! - <a id="pm_stream.Forest.joined"></a>**joined**: the trees of one and then those of the other
-//! - <a id="pm_stream.WellSpaced.next_token"></a>**next_token**: the first tree, where it is a token
+//! - <a id="pm_stream.Forest.joined"></a>**joined**: the trees of the first stream, and then those of the
+//!   second
+//! - <a id="pm_stream.WellSpaced.next_token"></a>**next_token**: the first tree, if it is a token
 //! - <a id="pm_stream.Forest.nil"></a>**nil**: no trees
-//! - <a id="pm_stream.Taken.nothing"></a>**nothing**: nothing yet, of a source that begins at this position
-//! - <a id="pm_stream.Reading.openers_of"></a>**openers_of**: the openers of groups
-//! - <a id="pm_stream.DelimSpan.opening_span"></a>**opening_span**: `open-span`: the first character of a
-//!   group, or nothing where the group has none
-//! - <a id="pm_stream.Printed.printed"></a>**printed**: `printed`: the text of a stream
-//! - <a id="pm_stream.Rule.ruled"></a>**ruled**: what the trees print, one after another
-//! - <a id="pm_stream.Building.split"></a>**split**: `split`: the trees that stand in a stream for one that is
-//!   put in. A negative literal is its `-` and the rest
-//! - <a id="pm_stream.Steps.step_of"></a>**step_of**: the step that the walk gave
+//! - <a id="pm_stream.Taken.nothing"></a>**nothing**: nothing was read yet, of a source that begins at this
+//!   position
+//! - <a id="pm_stream.Reading.openers_of"></a>**openers_of**: the delimiter of each group, and the position of
+//!   its opener
+//! - <a id="pm_stream.DelimSpan.opening_span"></a>**opening_span**: `open-span`: the span of a group's first
+//!   character, which is empty if the group's span is empty
+//! - <a id="pm_stream.Printed.printed"></a>**printed**: `printed`: the printed text of a stream
+//! - <a id="pm_stream.Rule.ruled"></a>**ruled**: the text of the trees, one after another
+//! - <a id="pm_stream.Building.split"></a>**split**: `split`: the trees that a stream gets for one tree that is
+//!   put in. A negative literal gives its `-` and the rest
+//! - <a id="pm_stream.Steps.step_of"></a>**step_of**: the value in contracts of a step that the traversal gave
 //! - <a id="pm_stream.Steps.steps"></a>**steps**: the steps over a stream
 //! - <a id="pm_stream.Steps.steps_onto"></a>**steps_onto**: the steps over these trees, and then others
-//! - <a id="pm_stream.TreeSpan.with_span"></a>**with_span**: the tree with this span, and nothing else changed:
-//!   what is in a group keeps its spans
+//! - <a id="pm_stream.TreeSpan.with_span"></a>**with_span**: the tree with this span; the trees in a group keep
+//!   their spans
 //!
 //! # Words of `pm_token`
 //!
-//! - <a id="pm_token.Value.Answers"></a>**Answers**: a call answers the value, as `seen` sees its answer; a
-//!   fault only where that is the value; no value exactly where there is none; and else that memory ran out
-//! - <a id="pm_token.KindLaws.ByteStringsAreByteStrings"></a>**ByteStringsAreByteStrings**: the literal that is
-//!   written for some bytes is a byte string by itself
+//! - <a id="pm_token.Value.Answers"></a>**Answers**: whether a call returns this value, which `seen` takes from
+//!   its result, or runs out of memory. It never runs out of memory instead of returning `InvalidLiteralKind`
+//! - <a id="pm_token.KindLaws.ByteStringsAreByteStrings"></a>**ByteStringsAreByteStrings**: the byte string
+//!   literal of some bytes is a byte string of the grammar, with nothing after it
 //! - <a id="pm_token.ValueLaws.ByteStringsComeBack"></a>**ByteStringsComeBack**: the value of the byte string
 //!   literal of some bytes is these bytes
 //! - <a id="pm_token.ValueLaws.ByteStringsHaveValues"></a>**ByteStringsHaveValues**: the value of a byte string
-//!   without CR is its units joined
+//!   without CR is what its units give together
 //! - <a id="pm_token.ValueLaws.ByteValuesComeBack"></a>**ByteValuesComeBack**: the value of the literal of a
 //!   byte is the byte
-//! - <a id="pm_token.KindLaws.BytesAreBytes"></a>**BytesAreBytes**: the literal that is written for a byte is a
-//!   byte literal by itself
-//! - <a id="pm_token.ValueLaws.BytesComeBack"></a>**BytesComeBack**: what stands between the quotes of the
-//!   literal of a byte is one unit, the byte
-//! - <a id="pm_token.ValueLaws.BytesHaveUnits"></a>**BytesHaveUnits**: what stands between the quotes of a byte
-//!   literal is one unit, and without a suffix its value
-//! - <a id="pm_token.KindLaws.CStringsAreCStrings"></a>**CStringsAreCStrings**: the literal that is written for
-//!   some bytes, none of them zero, is a C string by itself
+//! - <a id="pm_token.KindLaws.BytesAreBytes"></a>**BytesAreBytes**: the literal of a byte is a byte literal of
+//!   the grammar, with nothing after it
+//! - <a id="pm_token.ValueLaws.BytesComeBack"></a>**BytesComeBack**: the text between the quotes of a byte's
+//!   literal is one unit, which is the byte
+//! - <a id="pm_token.ValueLaws.BytesHaveUnits"></a>**BytesHaveUnits**: the text between the quotes of a byte
+//!   literal is one unit, which is its value if no suffix follows
+//! - <a id="pm_token.KindLaws.CStringsAreCStrings"></a>**CStringsAreCStrings**: the C string literal of some
+//!   bytes, none of them zero, is a C string of the grammar, with nothing after it
 //! - <a id="pm_token.ValueLaws.CStringsComeBack"></a>**CStringsComeBack**: the value of the C string literal of
 //!   some bytes, none of them zero, is these bytes and a zero byte
 //! - <a id="pm_token.ValueLaws.CStringsHaveValues"></a>**CStringsHaveValues**: the value of a C string without
-//!   CR is its units joined, and a zero byte
+//!   CR is what its units give together, and a zero byte
 //! - <a id="pm_token.ValueLaws.CharacterValuesComeBack"></a>**CharacterValuesComeBack**: the value of the
 //!   literal of a character is the character
-//! - <a id="pm_token.KindLaws.CharactersAreCharacters"></a>**CharactersAreCharacters**: the literal that is
-//!   written for a character is a character literal by itself
-//! - <a id="pm_token.ValueLaws.CharactersComeBack"></a>**CharactersComeBack**: what stands between the quotes
-//!   of the literal of a character is one unit, the character
-//! - <a id="pm_token.ValueLaws.CharactersHaveUnits"></a>**CharactersHaveUnits**: what stands between the quotes
-//!   of a character literal is one unit, and without a suffix its value
-//! - <a id="pm_token.Outcome.IfLex"></a>**IfLex**: if the error is a fault of the text, this holds of the
-//!   fault's span
-//! - <a id="pm_token.Built.IsBuiltToken"></a>**IsBuiltToken**: `built`: a name that is allowed, raw or plain;
-//!   one of the marks; or a `literal-token`. Names and literals are texts
-//! - <a id="pm_token.CString.IsCStringText"></a>**IsCStringText**: `c-string-text`: the literal of some bytes,
-//!   none of which is zero
-//! - <a id="pm_token.LiteralText.IsLiteralText"></a>**IsLiteralText**: what the text of every literal is: a
-//!   text by the rule `literal-token`, or a negative one, which no stream has
-//! - <a id="pm_token.Text.IsText"></a>**IsText**: `text`: each character is a Unicode scalar, as those of every
-//!   `&str` are
-//! - <a id="pm_token.SingleValue.IsUnsuffixed"></a>**IsUnsuffixed**: the text is a literal of this form, and
-//!   its closing quote ends it: it has no suffix
-//! - <a id="pm_token.LiteralText.IsWholeLiteral"></a>**IsWholeLiteral**: `whole-literal`: one literal, nothing
-//!   before or after it; or a negative one
+//! - <a id="pm_token.KindLaws.CharactersAreCharacters"></a>**CharactersAreCharacters**: the literal of a
+//!   character is a character literal of the grammar, with nothing after it
+//! - <a id="pm_token.ValueLaws.CharactersComeBack"></a>**CharactersComeBack**: the text between the quotes of a
+//!   character's literal is one unit, which is the character
+//! - <a id="pm_token.ValueLaws.CharactersHaveUnits"></a>**CharactersHaveUnits**: the text between the quotes of
+//!   a character literal is one unit, which is its value if no suffix follows
+//! - <a id="pm_token.Outcome.IfLex"></a>**IfLex**: whether this is true of the error's span, if the error is a
+//!   syntax error
+//! - <a id="pm_token.Built.IsBuiltToken"></a>**IsBuiltToken**: `built`: whether the token is an allowed name,
+//!   one of the 22 marks, or a `literal-token`
+//! - <a id="pm_token.CString.IsCStringText"></a>**IsCStringText**: `c-string-text`: whether the text is the C
+//!   string literal of the bytes
+//! - <a id="pm_token.LiteralText.IsLiteralText"></a>**IsLiteralText**: whether a `Literal` may have the text:
+//!   it is a `literal-token`, or a negative literal, which no stream has
+//! - <a id="pm_token.Text.IsText"></a>**IsText**: `text`: whether each character is a Unicode scalar, as it is
+//!   in every `&str`
+//! - <a id="pm_token.SingleValue.IsUnsuffixed"></a>**IsUnsuffixed**: whether the text is a literal of this form
+//!   without a suffix, so that its closing quote is at the end
+//! - <a id="pm_token.LiteralText.IsWholeLiteral"></a>**IsWholeLiteral**: `whole-literal`: whether the text is
+//!   one literal or a negative literal, with nothing before or after it
 //! - <a id="pm_token.Leaf.Mark"></a>**Mark**: a mark: its character, its spacing and its span
 //! - <a id="pm_token.Leaf.Name"></a>**Name**: an identifier: its name without `r#`, whether it is raw, and its
 //!   span
@@ -695,97 +722,96 @@
 //!   string is the bytes of its body and a zero byte
 //! - <a id="pm_token.ValueLaws.RawStringsHaveBodies"></a>**RawStringsHaveBodies**: the value of a raw string is
 //!   its body
-//! - <a id="pm_token.KindLaws.StringsAreStrings"></a>**StringsAreStrings**: the literal that is written for a
-//!   text is a string by itself
+//! - <a id="pm_token.KindLaws.StringsAreStrings"></a>**StringsAreStrings**: the string literal of a text is a
+//!   string of the grammar, with nothing after it
 //! - <a id="pm_token.ValueLaws.StringsComeBack"></a>**StringsComeBack**: the value of the string literal of a
 //!   text is the text
 //! - <a id="pm_token.ValueLaws.StringsHaveValues"></a>**StringsHaveValues**: the value of a string without CR
-//!   is its units joined
-//! - <a id="pm_token.Value.byte_str_value"></a>**byte_str_value**: `byte-string-value`: the bytes that a byte
-//!   string stands for, or what is wrong
+//!   is what its units give together
+//! - <a id="pm_token.Value.byte_str_value"></a>**byte_str_value**: `byte-string-value`: the bytes of a byte
+//!   string literal's value, or the error
 //! - <a id="pm_token.Escaped.byte_string_text"></a>**byte_string_text**: `byte-string-text`: the literal of
 //!   some bytes
 //! - <a id="pm_token.Escaped.byte_text"></a>**byte_text**: `byte-text`: the literal of a byte
-//! - <a id="pm_token.SingleValue.byte_value"></a>**byte_value**: `byte-value`: the byte that a byte literal
-//!   stands for, or what is wrong
+//! - <a id="pm_token.SingleValue.byte_value"></a>**byte_value**: `byte-value`: the byte that is the value of a
+//!   byte literal, or the error
 //! - <a id="pm_token.Value.bytes_of"></a>**bytes_of**: the bytes of a vector
-//! - <a id="pm_token.Value.c_bytes"></a>**c_bytes**: the bytes of the units of a C string, or what is wrong
-//!   with them
-//! - <a id="pm_token.SingleValue.char_value"></a>**char_value**: `character-value`: the character that a
-//!   character literal stands for, or what is wrong
+//! - <a id="pm_token.Value.c_bytes"></a>**c_bytes**: the bytes of a C string's units and a zero byte, or the
+//!   error
+//! - <a id="pm_token.SingleValue.char_value"></a>**char_value**: `character-value`: the character that is the
+//!   value of a character literal, or the error
 //! - <a id="pm_token.Escaped.character_text"></a>**character_text**: `character-text`: the literal of a
 //!   character
-//! - <a id="pm_token.Escaped.content"></a>**content**: `content`: the characters one after another, each as it
-//!   is written
-//! - <a id="pm_token.Content.cooked_content"></a>**cooked_content**: `cooked-content`: after this front, up to
-//!   a quote that ends the text
-//! - <a id="pm_token.Value.cstr_value"></a>**cstr_value**: `c-string-value`: the bytes that a C string stands
-//!   for, the last of them zero, or what is wrong
-//! - <a id="pm_token.Value.ended"></a>**ended**: the bytes of a C string, and a zero byte that ends it
-//! - <a id="pm_token.Message.fault_span"></a>**fault_span**: the span of the fault
-//! - <a id="pm_token.Negative.has_minus"></a>**has_minus**: whether the text begins with `-`. Of the texts of
-//!   literals those do that are a `negative-literal`
+//! - <a id="pm_token.Escaped.content"></a>**content**: `content`: how all the characters are written, in order
+//! - <a id="pm_token.Content.cooked_content"></a>**cooked_content**: `cooked-content`: the text after this
+//!   prefix and before a quote at the end
+//! - <a id="pm_token.Value.cstr_value"></a>**cstr_value**: `c-string-value`: the bytes of a C string literal's
+//!   value, the last of them zero, or the error
+//! - <a id="pm_token.Value.ended"></a>**ended**: the bytes, and a zero byte after them
+//! - <a id="pm_token.Message.fault_span"></a>**fault_span**: the span of a syntax error
+//! - <a id="pm_token.Negative.has_minus"></a>**has_minus**: whether the text begins with `-`. The text of a
+//!   `Literal` does so exactly if it is a `negative-literal`
 //! - <a id="pm_token.CString.has_no_zero"></a>**has_no_zero**: whether no byte is zero
 //! - <a id="pm_token.IdentFault.ident_fault"></a>**ident_fault**: `identifier-fault`: the first reason why the
-//!   text is no name of an identifier, raw or plain
-//! - <a id="pm_token.Escaped.is_bare"></a>**is_bare**: `bare`: a character that prints, and past ASCII one that
-//!   isn't hidden
+//!   text is not a valid name, raw or plain; `None` if it is valid
+//! - <a id="pm_token.Escaped.is_bare"></a>**is_bare**: `bare`: whether the character is printable ASCII, or
+//!   another character that isn't hidden
 //! - <a id="pm_token.Leaf.is_joint"></a>**is_joint**: whether the spacing is Joint
-//! - <a id="pm_token.Leaf.mark_token"></a>**mark_token**: the token that a mark is
-//! - <a id="pm_token.Negative.minus_of"></a>**minus_of**: the mark of a negative literal: `-` Alone, with the
+//! - <a id="pm_token.Leaf.mark_token"></a>**mark_token**: the token of a mark
+//! - <a id="pm_token.Negative.minus_of"></a>**minus_of**: the mark of a negative literal: `-`, Alone, with the
 //!   literal's span
 //! - <a id="pm_token.Spelling.name_text"></a>**name_text**: the characters of the identifier as it is written,
 //!   with `r#` if it is raw
-//! - <a id="pm_token.Leaf.name_token"></a>**name_token**: the token that an identifier is
-//! - <a id="pm_token.Negative.number_of"></a>**number_of**: the rest of a negative literal, with the literal's
-//!   span
-//! - <a id="pm_token.Content.raw_content"></a>**raw_content**: `raw-content`: that of what follows this front
-//! - <a id="pm_token.SingleValue.single_content"></a>**single_content**: `single-content`: behind this front,
-//!   up to a `'` that ends the text
-//! - <a id="pm_token.Spelling.spelled"></a>**spelled**: the characters that the bytes of a text spell. They are
-//!   `chars` of it, but those of an ASCII text are its bytes, so that they compute where the text is known
+//! - <a id="pm_token.Leaf.name_token"></a>**name_token**: the token of an identifier
+//! - <a id="pm_token.Negative.number_of"></a>**number_of**: the number of a negative literal, with the
+//!   literal's span
+//! - <a id="pm_token.Content.raw_content"></a>**raw_content**: `raw-content`: the text after this prefix,
+//!   without its quotes and hash signs
+//! - <a id="pm_token.SingleValue.single_content"></a>**single_content**: `single-content`: the text after this
+//!   prefix and before a `'` at the end
+//! - <a id="pm_token.Spelling.spelled"></a>**spelled**: the characters of a text, equal to `chars` of it. For
+//!   an ASCII text they are its bytes, so they compute if the text is a constant
 //! - <a id="pm_token.Spelling.spelling"></a>**spelling**: the bytes of the identifier as it is written
-//! - <a id="pm_token.Value.str_value"></a>**str_value**: `string-value`: the characters that a string stands
-//!   for, or what is wrong
+//! - <a id="pm_token.Value.str_value"></a>**str_value**: `string-value`: the characters of a string literal's
+//!   value, or the error
 //! - <a id="pm_token.Escaped.string_text"></a>**string_text**: `string-text`: the string literal of a text
-//! - <a id="pm_token.Subspan.subspan"></a>**subspan**: `subspan`: the part, if it ends neither before it begins
-//!   nor past the end of the span
+//! - <a id="pm_token.Subspan.subspan"></a>**subspan**: `subspan`: the part, or `None` if it would end before it
+//!   begins or past the end of the span
 //! - <a id="pm_token.Value.text_of"></a>**text_of**: the characters of a string
-//! - <a id="pm_token.Value.units"></a>**units**: the units of a content with escapes, or its last fault
-//! - <a id="pm_token.Value.value_from"></a>**value_from**: `literal-value`: the units of a content with
-//!   escapes, or its last fault; or else a raw content
-//! - <a id="pm_token.Outcome.was_read"></a>**was_read**: whether the text was read: it parsed, or a fault was
-//!   found in it
-//! - <a id="pm_token.Escaped.written_char"></a>**written_char**: a character that has no short escape, as it is
+//! - <a id="pm_token.Value.units"></a>**units**: the units of a content with escapes, or its last error
+//! - <a id="pm_token.Value.value_from"></a>**value_from**: `literal-value`: the value of a content with escapes
+//!   or of a raw content, or else the error
+//! - <a id="pm_token.Outcome.was_read"></a>**was_read**: whether the text was read: it was parsed, or it has a
+//!   syntax error
+//! - <a id="pm_token.Escaped.written_char"></a>**written_char**: how a character without a short escape is
 //!   written in strings
 //!
 //! # Words of `proc_macro2`
 //!
-//! - <a id="proc_macro2.Laws.BrokenLine"></a>**BrokenLine**: where a source parses and its cover is some
-//!   pieces, of which the last is neither a mark nor a number, and then others, a line's end that is put in
-//!   between them leaves the stream as it was, up to spans
+//! - <a id="proc_macro2.Laws.BrokenLine"></a>**BrokenLine**: if a source parses, a line feed may be put in
+//!   after any piece of its cover that is neither a mark nor a number; the stream stays the same, up to spans
 //! - <a id="proc_macro2.Laws.ComesBack"></a>**ComesBack**: a built stream comes back from its printed text
 //!   exactly if it is well spaced
-//! - <a id="proc_macro2.Laws.GivenIsWellSpaced"></a>**GivenIsWellSpaced**: every stream that a source parses to
-//!   up to spans is well spaced
-//! - <a id="proc_macro2.Laws.JoinedTexts"></a>**JoinedTexts**: two texts with a line's end between them parse
-//!   to the two streams joined, up to spans, unless the second begins with U+FEFF
-//! - <a id="proc_macro2.GivesBack.ListedGiveBack"></a>**ListedGiveBack**: in the map after the parse, so does
-//!   each tree of a list that makes the stream
+//! - <a id="proc_macro2.Laws.GivenIsWellSpaced"></a>**GivenIsWellSpaced**: every stream that a source parses
+//!   to, up to spans, is well spaced
+//! - <a id="proc_macro2.Laws.JoinedTexts"></a>**JoinedTexts**: two texts with a line feed between them parse to
+//!   the two streams joined, up to spans, unless the second begins with U+FEFF
+//! - <a id="proc_macro2.GivesBack.ListedGiveBack"></a>**ListedGiveBack**: in the map after the parse, each tree
+//!   of a list that makes the parsed stream gives back its text
 //! - <a id="proc_macro2.Laws.NeverBoth"></a>**NeverBoth**: a source that parses has no fault
 //! - <a id="proc_macro2.Laws.OneCover"></a>**OneCover**: a source has at most one cover
-//! - <a id="proc_macro2.Laws.OneFault"></a>**OneFault**: a source has at most one position that is its fault
+//! - <a id="proc_macro2.Laws.OneFault"></a>**OneFault**: a source has at most one fault
 //! - <a id="proc_macro2.Laws.OneStream"></a>**OneStream**: a source parses to at most one stream
-//! - <a id="proc_macro2.Laws.OneText"></a>**OneText**: well spaced streams are the same exactly if they print
-//!   the same text
+//! - <a id="proc_macro2.Laws.OneText"></a>**OneText**: two built streams that are well spaced are the same up
+//!   to spans exactly if they print the same text
 //! - <a id="proc_macro2.Laws.ParsedIsBuilt"></a>**ParsedIsBuilt**: every stream that a text parses to is built
 //! - <a id="proc_macro2.Laws.ParsedIsWellSpaced"></a>**ParsedIsWellSpaced**: every parsed stream is well spaced
 //! - <a id="proc_macro2.Laws.ParsesOrFails"></a>**ParsesOrFails**: a source parses or has a fault
-//! - <a id="proc_macro2.Laws.PrintedIsText"></a>**PrintedIsText**: what is printed of a built stream is a text
+//! - <a id="proc_macro2.Laws.PrintedIsText"></a>**PrintedIsText**: the printed text of a built stream is a text
 //! - <a id="proc_macro2.GivesBack.SpansGiveBack"></a>**SpansGiveBack**: each tree of a parsed stream gives back
 //!   its text, in every map that extends the one after the parse
-//! - <a id="proc_macro2.Laws.TreesStandWhole"></a>**TreesStandWhole**: a tree that may be put into a stream
-//!   stands there whole
+//! - <a id="proc_macro2.Laws.TreesStandWhole"></a>**TreesStandWhole**: a tree of a stream goes into another
+//!   stream whole
 //! - <a id="proc_macro2.Laws.WellSpacedIsParsed"></a>**WellSpacedIsParsed**: a built stream is well spaced
 //!   exactly if some text gives it
 //!
@@ -830,47 +856,45 @@
 //!
 //! # Words of `relayout`
 //!
-//! - <a id="relayout.Commented.CommentsStay"></a>**CommentsStay**: where the parts cover a source, and comments
-//!   may stand in the place of the attributes, they cover the text with the comments, which gives the same
-//!   tokens up to spans
+//! - <a id="relayout.Commented.CommentsStay"></a>**CommentsStay**: if allowed parts cover a source, their
+//!   pieces with comments instead of the attributes cover the new text, which gives the same tokens up to spans
 //! - <a id="relayout.Relaid.HasNoCover"></a>**HasNoCover**: no pieces cover the source
-//! - <a id="relayout.Relaid.IfNoPiece"></a>**IfNoPiece**: if the error is that no piece stands somewhere, this
-//!   holds
-//! - <a id="relayout.Comments.IsCommented"></a>**IsCommented**: the text is the source with comments in the
-//!   place of all such attributes, and gives the same tokens up to spans
-//! - <a id="relayout.Relaid.IsRelaid"></a>**IsRelaid**: the text is the source with these choices; it is
-//!   covered by the same pieces but for white characters, and gives the same tokens up to spans
-//! - <a id="relayout.Laws.PiecesStay"></a>**PiecesStay**: where pieces cover a source, they cover the text with
-//!   other white space between them, if some stands where some stood and none where none did, and after a line
-//!   comment it begins with LF
-//! - <a id="relayout.Laws.TokensStay"></a>**TokensStay**: if the same pieces cover two texts but for white
-//!   characters, both give the same tokens
+//! - <a id="relayout.Relaid.IfNoPiece"></a>**IfNoPiece**: if the error is `NoPiece`, `holds` is true
+//! - <a id="relayout.Comments.IsCommented"></a>**IsCommented**: the text is the source with a comment instead
+//!   of each attribute that begins its line and that a comment can replace, and gives the same tokens up to
+//!   spans
+//! - <a id="relayout.Relaid.IsRelaid"></a>**IsRelaid**: the text is the source with these choices; the same
+//!   pieces cover it except for white characters, and it gives the same tokens up to spans
+//! - <a id="relayout.Laws.PiecesStay"></a>**PiecesStay**: if pieces cover a source, they also cover the text
+//!   with other white space between them, provided that no run is added or removed and that each run after a
+//!   line comment begins with LF
+//! - <a id="relayout.Laws.TokensStay"></a>**TokensStay**: if the same pieces cover two texts, except for white
+//!   characters, both texts give the same tokens
 //!
 //! # Words of `token_buffer`
 //!
-//! - <a id="token_buffer.Reads.Begins"></a>**Begins**: the token or group comes first, and the cursors are
-//!   those after it and inside it
-//! - <a id="token_buffer.Reads.BeginsWith"></a>**BeginsWith**: the token comes first, and then what the other
-//!   cursor has
-//! - <a id="token_buffer.Reads.BeginsWithGroup"></a>**BeginsWithGroup**: the group of what the second cursor
-//!   has comes first, and then what the last one has
-//! - <a id="token_buffer.Many.HasManyTokens"></a>**HasManyTokens**: pieces cover the source up to where the
-//!   rest begins, and give too many events
-//! - <a id="token_buffer.Refused.IfParse"></a>**IfParse**: if the error is that the text doesn't parse, this
-//!   holds of the reason
-//! - <a id="token_buffer.Refused.IfTooLong"></a>**IfTooLong**: if the error is that the text has too many bytes
-//!   or tokens, this holds
-//! - <a id="token_buffer.Entries.IsWithin"></a>**IsWithin**: what the entry says may be cut from the text, and
+//! - <a id="token_buffer.Reads.Begins"></a>**Begins**: whether the token or group comes first, and then the
+//!   trees of the other cursor
+//! - <a id="token_buffer.Reads.BeginsWith"></a>**BeginsWith**: whether the token comes first, and then the
+//!   trees of the other cursor
+//! - <a id="token_buffer.Reads.BeginsWithGroup"></a>**BeginsWithGroup**: whether the group of the second
+//!   cursor's trees comes first, and then the trees of the last cursor
+//! - <a id="token_buffer.Many.HasManyTokens"></a>**HasManyTokens**: whether some first pieces of the source
+//!   already give more events than a buffer can hold
+//! - <a id="token_buffer.Refused.IfParse"></a>**IfParse**: whether this is true of the parse error, if the
+//!   error is one
+//! - <a id="token_buffer.Refused.IfTooLong"></a>**IfTooLong**: whether this is true, if the error is `TooLong`
+//! - <a id="token_buffer.Entries.IsWithin"></a>**IsWithin**: whether the text of the entry can be cut out, and
 //!   its token ends at a position that a span may have
-//! - <a id="token_buffer.Arguments.after_arguments"></a>**after_arguments**: what is left after the generic
+//! - <a id="token_buffer.Arguments.after_arguments"></a>**after_arguments**: the trees after the generic
 //!   arguments that come first
-//! - <a id="token_buffer.Arguments.after_turbofish"></a>**after_turbofish**: what is left after the turbofish
-//!   that comes first: `::` and generic arguments
-//! - <a id="token_buffer.Entries.event_of"></a>**event_of**: the event that the entry stands for
-//! - <a id="token_buffer.Message.fault_span"></a>**fault_span**: the span of the fault
-//! - <a id="token_buffer.Reads.first_extent"></a>**first_extent**: the span of the first tree
+//! - <a id="token_buffer.Arguments.after_turbofish"></a>**after_turbofish**: the trees after the turbofish that
+//!   comes first: `::` and generic arguments
+//! - <a id="token_buffer.Entries.event_of"></a>**event_of**: the event that the entry means
+//! - <a id="token_buffer.Message.fault_span"></a>**fault_span**: the span of a syntax error
+//! - <a id="token_buffer.Reads.first_extent"></a>**first_extent**: the span of the first tree, or `None`
 //! - <a id="token_buffer.Reads.group_first"></a>**group_first**: the delimiter of the group that comes first,
-//!   if one does
+//!   or `None`
 //! - <a id="token_buffer.Reads.left"></a>**left**: the trees that are left
 //! - <a id="token_buffer.Reads.lifetime_first"></a>**lifetime_first**: whether a lone quote and a name come
 //!   first
@@ -878,7 +902,7 @@
 //! - <a id="token_buffer.Reads.literal_text"></a>**literal_text**: the text of a literal as it is written
 //! - <a id="token_buffer.Reads.mark_first"></a>**mark_first**: whether a mark comes first
 //! - <a id="token_buffer.Reads.name_first"></a>**name_first**: whether an identifier comes first
-//! - <a id="token_buffer.Outer.outer"></a>**outer**: the trees, and of what is inside their groups only what
-//!   those keep
-//! - <a id="token_buffer.Parts.part_event"></a>**part_event**: the event that the part is, as if it stood at 0
-//! - <a id="token_buffer.Parts.unplaced"></a>**unplaced**: the event as if it stood at 0
+//! - <a id="token_buffer.Outer.outer"></a>**outer**: the trees, where each group has only the trees that it
+//!   keeps
+//! - <a id="token_buffer.Parts.part_event"></a>**part_event**: the event of a part, with its positions set to 0
+//! - <a id="token_buffer.Parts.unplaced"></a>**unplaced**: the event, with its positions set to 0

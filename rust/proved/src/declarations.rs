@@ -1,13 +1,14 @@
 // Made from crates/declarations/src/lib.rt by rust/erase: change that file, not this one.
-//! The parts of declarations, over token trees: attributes, visibilities, fields, variants, generics, where clauses,
-//! whole structs, enums and unions, and where types and the expressions of discriminants end.
+//! Finds items and their parts in token trees: attributes, visibilities, fields, variants, generic parameters, where
+//! clauses, and whole structs, enums and unions. It also finds where a type, a pattern or an expression ends.
 //!
-//! Each call that splits takes trees, borrowed, and answers the part at their front and the trees after it. It takes
-//! time proportional to the part, those trees within groups not counted, and no memory. By `ok` the part and the rest
-//! are the trees, and the part is what the grammar reads; by `only` it reads nothing else there; by `fault` it reads
-//! nothing, and the fault stands at the end of the longest front that some signs could follow so that it would.
+//! A call that splits borrows trees, and returns the part at their start and the trees after it. It takes time in
+//! proportion to the trees of the part, with each group as one tree, and allocates nothing. If it returns a part, the
+//! part is what the grammar reads (clause `ok`), and no other part can be read there (`only`). Otherwise no part can be
+//! read, and the error is at the end of the longest prefix that other trees could complete (`fault`).
 //!
-//! The grammar stands on signs, each a tree or two that are read as one: crates/declarations/README.md has it whole.
+//! The grammar reads signs. A sign is one tree, or two trees that are read as one, such as `::`. The page
+//! crates/declarations/README.md has the whole grammar.
 
 mod any_item;
 mod attribute;

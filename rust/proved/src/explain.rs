@@ -1,15 +1,17 @@
 // Made from crates/explain/src/lib.rt by rust/erase: change that file, not this one.
 //! Why a text doesn't parse, and where.
 //!
-//! `explain` answers a [`Reason`] with what is at fault, as bytes and as a span. Proved is that one of the 19 reasons
-//! is answered at each fault, that it holds by its own definition in `specs/Reason.antt`, which is in the words of the
-//! grammar's rules and of the escaper's items, and that the bytes and the span are what the definition speaks of; that
-//! no other reason explains the text, each holds at one place of it, and none where a piece stands ([`laws`]); that
-//! `None` is answered only for a text that parses; and which openers no closer matches up to the fault, each by its
-//! kind, its bytes and its span.
+//! `explain` returns a [`Reason`] and the part of the text that is wrong, by its bytes and its span. There are 19
+//! reasons. Each has its own definition in `specs/Reason.antt`, in the words of the grammar's rules and of the
+//! escaper's items.
 //!
-//! [`advice`] has further places that help to mend a fault, by definitions of their own in `specs/Hint.antt`: which
-//! comment in an unclosed one ended last, and which quote came nearest to ending an unclosed raw string.
+//! It is proved that the reason holds at the fault, and that no other reason explains the text. A reason holds with one
+//! wrong part only, and never where a piece begins ([`laws`]). `None` is returned only for a text that parses. The
+//! openers in the result are still open at the error. Each has its delimiter, bytes and span.
+//!
+//! [`advice`] returns other parts of the text that help to fix an error, as defined in `specs/Hint.antt`. For an
+//! unclosed comment, it is the comment inside that ended last. For an unclosed raw string, it is the quote that came
+//! nearest to ending the string.
 
 mod comment_hints;
 mod contents;

@@ -1,7 +1,7 @@
 // Made from crates/layout/src/lib.rt by rust/erase: change that file, not this one.
-//! Layouts of streams: where white space may stand between tokens so that a text reads back to the same ones.
+//! Writes streams with white space of your choice between the tokens, so that the text reads back to the same tokens.
 //!
-//! [`text_with`] writes a stream with gaps of white space that a [`Chooser`] gives, whatever it gives.
+//! [`text_with`] writes a stream with the gaps that a [`Chooser`] gives, whatever it gives.
 
 mod errors;
 mod gaps;

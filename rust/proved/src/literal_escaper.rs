@@ -1,11 +1,11 @@
 // Made from crates/literal_escaper/src/lib.rt by rust/erase: change that file, not this one.
-//! What the contents of literals stand for, item by item, and what is wrong with them.
+//! Reads the contents of literals, item by item: their characters or bytes, and their errors.
 //!
-//! The rules are in docs/GRAMMAR.md under "Escaper items" and, exactly, in `specs/`. No call takes
-//! memory, and each one answers, whatever the text.
+//! The rules are in docs/GRAMMAR.md under "Escaper items"; their exact definitions are in `specs/`. No call allocates
+//! memory, and each call returns for every text.
 //!
-//! A rule is named by its label in backquotes, such as `item-hex`. `docs/GRAMMAR.md` has all of them, each
-//! with its definition.
+//! A rule is named by its label in backquotes, such as `item-hex`. `docs/GRAMMAR.md` lists all rules with their
+//! definitions.
 
 #[cfg(feature = "whole")]
 mod check;

@@ -1,8 +1,8 @@
 // Made from crates/pm_span/src/lib.rt by rust/erase: change that file, not this one.
-//! Positions in source texts, spans, lines and columns, and the map of the files that were read.
+//! Source maps: the texts that were read, with spans, lines, columns and byte offsets.
 //!
-//! A rule is named by its label in backquotes, such as `next-position`. `docs/GRAMMAR.md` has all of them, each
-//! with its definition.
+//! A word in backquotes that names no item, such as `next-position`, is the label of a rule. `docs/GRAMMAR.md`
+//! defines all rules.
 
 mod byte_index;
 mod file_info;

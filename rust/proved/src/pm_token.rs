@@ -1,8 +1,8 @@
 // Made from crates/pm_token/src/lib.rt by rust/erase: change that file, not this one.
-//! Tokens: identifiers, marks and literals, and why a text is refused.
+//! Tokens: identifiers, punctuation marks and literals, and the errors of texts that can't be parsed.
 //!
-//! A rule is named by its label in backquotes, such as `literal-value`. `docs/GRAMMAR.md` has all of them, each
-//! with its definition.
+//! A word in backquotes that names no item, such as `literal-value`, is the label of a rule. `docs/GRAMMAR.md`
+//! defines all rules.
 
 pub mod delimiters;
 pub mod errors;

@@ -1,6 +1,6 @@
 // Made from crates/messages/src/lib.rt by rust/erase: change that file, not this one.
-//! How a program reads its input, and what it says on standard error where it fails, in the one form that
-//! editors read: `FILE:L:C: error: what`; and texts in JSON.
+//! Reads the input of a program, reports errors on standard error, and writes texts in JSON. Error messages have the
+//! form that editors read: `FILE:L:C: error: what`.
 
 mod errors;
 mod input;

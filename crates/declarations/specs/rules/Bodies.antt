@@ -1,4 +1,4 @@
--- Items after their names: what follows generic parameters, and what items end with.
+-- Items from their names on: generic parameters, headers, and what an item ends with.
 use Rattle.std.specs.Prelude.{not, [], ◌∷◌}
 use Rattle.grammars.specs.Grammar.{Mark, Sign, Then, Either, Many, perhaps}
 use Rattle.declarations.specs.rules.Classes.{is, is_round}
@@ -8,13 +8,13 @@ use Rattle.declarations.specs.rules.Types.{type, bounds}
 use Rattle.declarations.specs.rules.Parts.{with_bounds, generics, where_clause}
 use Rattle.declarations.specs.declared.class.Class.TheVariants as signs
 
--- ---- what items end with
+-- ---- what an item ends with
 
--- a body in braces
+-- the body of an item, in braces
 abbrev pub braces : G
 braces = Then (Mark Body) (one signs.Braces)
 
--- the `;` after an item
+-- the `;` at the end of an item
 abbrev pub semicolon : G
 semicolon = Then (Mark Rest) (one signs.Semicolon)
 
@@ -26,11 +26,11 @@ body_end = Either braces semicolon
 abbrev pub name : G
 name = Then (Mark Named) word
 
--- a sign but `;`
+-- any sign except `;`
 abbrev pub not_semicolon : G
 not_semicolon = Sign (λ c. not (is signs.Semicolon c))
 
--- the expression of a constant, which `;` ends
+-- the expression of a constant, up to its `;`
 abbrev pub until : G
 until = Then not_semicolon (Many not_semicolon)
 
@@ -38,28 +38,28 @@ until = Then not_semicolon (Many not_semicolon)
 abbrev pub constant_value : G
 constant_value = perhaps (seq (Mark Rest ∷ one signs.Equals ∷ Mark Value ∷ until ∷ []))
 
--- ---- items, after their names and generic parameters
+-- ---- what follows the name and the generic parameters of an item
 
--- a struct: fields, a where clause and a body or `;`
+-- the rest of a struct: fields, a where clause, and a body or `;`
 abbrev pub struct_rest : G
 struct_rest = Either
     (seq (Mark Fields ∷ Sign is_round ∷ where_clause ∷ semicolon ∷ []))
     (Then where_clause body_end)
 
--- an enum, a union or an `impl`: a where clause and a body
+-- the rest of an enum, a union or an `impl`: a where clause and a body
 abbrev pub braced : G
 braced = Then where_clause braces
 
--- a function, after its parameters: a return type, a where clause and a body or `;`
+-- the rest of a function after its parameters: a return type, a where clause, and a body or `;`
 abbrev pub returning : G
 returning = seq (
     perhaps (seq (Mark Rest ∷ one signs.Arrow ∷ Mark Returns ∷ type ∷ [])) ∷ where_clause ∷ body_end ∷ [])
 
--- a function: its parameters, and the rest
+-- the rest of a function: its parameters, and what follows them
 abbrev pub function_rest : G
 function_rest = seq (Mark Fields ∷ Sign is_round ∷ returning ∷ [])
 
--- a constant or a static: its type and its value
+-- the rest of a constant or a static: its type and its value
 abbrev pub typed : G
 typed = seq (Mark Rest ∷ one signs.Colon ∷ Mark OfType ∷ type ∷ constant_value ∷ semicolon ∷ [])
 
@@ -67,16 +67,16 @@ typed = seq (Mark Rest ∷ one signs.Colon ∷ Mark OfType ∷ type ∷ constant
 abbrev pub alias_value : G
 alias_value = perhaps (seq (Mark Rest ∷ one signs.Equals ∷ Mark Value ∷ type ∷ where_clause ∷ []))
 
--- an alias: bounds, a where clause and its type
+-- the rest of an alias: bounds, a where clause and its type
 abbrev pub alias_rest : G
 alias_rest = seq (with_bounds ∷ where_clause ∷ alias_value ∷ semicolon ∷ [])
 
--- a trait or a trait alias
+-- the rest of a trait or a trait alias
 abbrev pub trait_rest : G
 trait_rest = Either
     (seq (Mark Rest ∷ one signs.Equals ∷ Mark Bounds ∷ bounds ∷ where_clause ∷ semicolon ∷ []))
     (seq (with_bounds ∷ where_clause ∷ braces ∷ []))
 
--- a constant, after its name
+-- the rest of a constant after its name
 abbrev pub constant_rest : G
 constant_rest = Then generics typed

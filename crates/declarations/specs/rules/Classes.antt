@@ -1,4 +1,4 @@
--- The classes of signs as a list, and tests of classes.
+-- The list of all classes of signs, and tests of classes.
 use Rattle.std.specs.Prelude.{ℕ, ◌==◌, Bool, true, false, ◌&&◌, ◌||◌, List, [], ◌∷◌}
 use Rattle.declarations.specs.declared.class.Class.{Class}
 use Rattle.declarations.specs.declared.class.Class.TheVariants as signs
@@ -6,7 +6,7 @@ use Rattle.declarations.specs.declared.class.Keyword.{Keyword}
 use Rattle.declarations.specs.declared.class.Keyword.TheVariants as keywords
 use Rattle.declarations.specs.declared.class.Word.TheVariants as words
 
--- the number of a class: its place in the list of all
+-- the number of a class, which is its position in the list of all classes
 abbrev pub code : Class → ℕ
 code (signs.Word words.Auto) = 0
 code (signs.Word words.Default) = 1
@@ -93,54 +93,54 @@ classes =
     signs.Semicolon ∷ signs.Equals ∷ signs.Plus ∷ signs.Minus ∷ signs.Star ∷ signs.And ∷ signs.Question ∷
     signs.Exclamation ∷ signs.Hash ∷ signs.Tilde ∷ signs.Bar ∷ signs.Dot ∷ signs.Infix ∷ signs.Mark ∷ []
 
--- whether all of a list pass
+-- whether all elements of a list pass the test
 abbrev pub all_of : {T : Type 0} → (T → Bool) → List T → Bool
 all_of p [] = true
 all_of p (x ∷ xs) = p x && all_of p xs
 
--- whether some of a list passes
+-- whether an element of a list passes the test
 abbrev pub any_of : {T : Type 0} → (T → Bool) → List T → Bool
 any_of p [] = false
 any_of p (x ∷ xs) = p x || any_of p xs
 
--- whether all classes pass
+-- whether all classes pass the test
 abbrev pub every : (Class → Bool) → Bool
 every p = all_of p classes
 
--- whether some class passes
+-- whether a class passes the test
 abbrev pub any : (Class → Bool) → Bool
 any p = any_of p classes
 
 -- ---- tests of classes
 
--- whether it is this class
+-- whether the class is this one
 abbrev pub is : Class → Class → Bool
 is x c = code x == code c
 
--- whether it is one of these classes
+-- whether the class is one of these
 abbrev pub one_of : List Class → Class → Bool
 one_of [] c = false
 one_of (x ∷ xs) c = is x c || one_of xs c
 
--- whether it is this keyword
+-- whether the class is this keyword
 abbrev pub keyword : Keyword → Class → Bool
 keyword k = is (signs.Keyword k)
 
--- whether it is a keyword
+-- whether the class is a keyword
 abbrev pub is_keyword : Class → Bool
 is_keyword (signs.Keyword _) = true
 is_keyword _ = false
 
--- whether it is a word that may be a name
+-- whether the class is a word, which can be a name
 abbrev pub is_word : Class → Bool
 is_word (signs.Word _) = true
 is_word _ = false
 
--- whether it begins angle brackets
+-- whether the sign opens an angle bracket
 abbrev pub opens : Class → Bool
 opens = one_of (signs.Less ∷ signs.LessJoint ∷ [])
 
--- whether it is a group in parentheses
+-- whether the sign is a group in parentheses
 abbrev pub is_round : Class → Bool
 is_round signs.Parentheses = true
 is_round signs.Restriction = true

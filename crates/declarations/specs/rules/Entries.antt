@@ -9,7 +9,7 @@ use Rattle.declarations.specs.rules.Expressions.{from_range, one_operand}
 use Rattle.declarations.specs.declared.class.Class.{Class}
 use Rattle.declarations.specs.declared.class.Class.TheVariants as signs
 
--- a segment of an entry's path: any identifier but `_`, `true` and `false`
+-- whether the sign can be a segment of an entry's path: any identifier except `_`, `true` and `false`
 abbrev pub is_entry_segment : Class → Bool
 is_entry_segment c =
     is_word c || (is_keyword c || one_of (signs.SelfValue ∷ signs.SelfType ∷ signs.Super ∷ signs.Crate ∷ signs.As
@@ -19,11 +19,11 @@ is_entry_segment c =
 abbrev pub next_segment : G
 next_segment = Then (one signs.PathSeparator) (Sign is_entry_segment)
 
--- more segments
+-- more segments, each after `::`
 abbrev pub more_segments : G
 more_segments = Many next_segment
 
--- a segment, and more of them
+-- a segment and more of them
 abbrev pub segments : G
 segments = Then (Sign is_entry_segment) more_segments
 
@@ -31,11 +31,11 @@ segments = Then (Sign is_entry_segment) more_segments
 abbrev pub entry_path : G
 entry_path = Then (perhaps (one signs.PathSeparator)) segments
 
--- the signs that may begin what a walk over an expression goes on with, but no value
+-- whether the sign can follow an operand in an expression, but cannot begin the value of an entry
 abbrev pub continues : Class → Bool
 continues = one_of (signs.Equals ∷ signs.Greater ∷ signs.Arrow ∷ [])
 
--- the value of an entry: an expression, which neither `=` nor `>` nor `->` begins
+-- the value of an entry: an expression that begins with neither `=` nor `>` nor `->`
 abbrev pub entry_value : G
 entry_value = alt (
     To one_operand ExpressionWhole
@@ -52,11 +52,11 @@ entry_value = alt (
 abbrev pub with_value : G
 with_value = seq (Mark Rest ∷ one signs.Equals ∷ Mark Value ∷ entry_value ∷ [])
 
--- a group with delimiters
+-- whether the sign is a group with delimiters
 abbrev pub is_list : Class → Bool
 is_list = one_of (signs.Restriction ∷ signs.Parentheses ∷ signs.Brackets ∷ signs.Braces ∷ [])
 
--- a list in a group
+-- the list of an entry, which is a group with delimiters
 abbrev pub entry_list : G
 entry_list = Then (Mark Body) (Sign is_list)
 
@@ -68,15 +68,15 @@ entry_rest = perhaps (Either entry_list with_value)
 abbrev pub named_entry : G
 named_entry = seq (Mark Named ∷ entry_path ∷ entry_rest ∷ [])
 
--- a literal without a sign, or `true` or `false`
+-- whether the sign is a literal, `true` or `false`
 abbrev pub is_literal : Class → Bool
 is_literal = one_of (signs.Literal ∷ signs.Truth ∷ [])
 
--- a literal, which may have a sign, or be `true` or `false`
+-- a literal, `-` and a literal, `true` or `false`
 abbrev pub entry_literal : G
 entry_literal = Either (Then (one signs.Minus) (one signs.Literal)) (Sign is_literal)
 
--- an entry that is a literal
+-- an entry that is a literal, without a path
 abbrev pub literal_entry : G
 literal_entry = Then (Mark Value) entry_literal
 

@@ -1,4 +1,4 @@
--- The expressions of discriminants, whose end alone is read.
+-- The expressions of discriminants. Only their ends are found.
 use Rattle.std.specs.Prelude.{Bool, not, ◌||◌, List, [], ◌∷◌}
 use Rattle.grammars.specs.Grammar.{To, Then, Either, perhaps}
 use Rattle.declarations.specs.rules.Classes.{is, is_keyword, is_word, one_of}
@@ -8,23 +8,23 @@ use Rattle.declarations.specs.rules.Types.{angle}
 use Rattle.declarations.specs.declared.class.Class.{Class}
 use Rattle.declarations.specs.declared.class.Class.TheVariants as signs
 
--- the groups
+-- the classes of groups that can be operands
 abbrev pub groups : List Class
 groups = signs.Restriction ∷ signs.Parentheses ∷ signs.Brackets ∷ signs.Braces ∷ signs.Invisible ∷ []
 
--- the operands of a cast that are one sign
+-- whether the sign is an operand of a cast
 abbrev pub cast_operand : Class → Bool
 cast_operand c =
     one_of groups c || (is_word c || one_of (signs.SelfValue ∷ signs.SelfType ∷ signs.Super ∷ signs.Crate
     ∷ signs.Underscore ∷ signs.Truth ∷ []) c)
 
--- the operands that are one sign
+-- whether the sign is an operand
 abbrev pub one_operand : Class → Bool
 one_operand c =
     one_of groups c || (is_word c || one_of (signs.SelfValue ∷ signs.SelfType ∷ signs.Super ∷ signs.Crate
     ∷ signs.Underscore ∷ signs.Truth ∷ signs.Literal ∷ signs.Await ∷ []) c)
 
--- where an operand is wanted, but for angle brackets and ranges
+-- what comes where an operand must come, except operands of one sign, angle brackets and ranges
 abbrev pub other_operand : G
 other_operand = alt (
     To (one_of (signs.Lifetime ∷ signs.Jump ∷ [])) ExpressionOpen
@@ -35,7 +35,7 @@ other_operand = alt (
     ∷ To (is signs.Arrow) Cast
     ∷ [])
 
--- where an operand is wanted, but for ranges
+-- what comes where an operand must come, except ranges
 abbrev pub wanted_operand : G
 wanted_operand = alt (To one_operand ExpressionWhole ∷ angle ExpressionWhole ∷ other_operand ∷ [])
 
@@ -43,11 +43,11 @@ wanted_operand = alt (To one_operand ExpressionWhole ∷ angle ExpressionWhole �
 abbrev pub from_range : G
 from_range = Then (one signs.Dot) (To (is signs.Dot) ExpressionOpen)
 
--- where an operand is wanted
+-- an expression, from where an operand must come
 abbrev pub expression : G
 expression = Either wanted_operand from_range
 
--- where an operand may stand, or the expression may end
+-- the rest of an expression, where an operand may come or the expression may end
 abbrev pub open_end : G
 open_end = perhaps (alt (
     To (is signs.Dot) ExpressionOpen
@@ -56,7 +56,7 @@ open_end = perhaps (alt (
     ∷ wanted_operand
     ∷ []))
 
--- after an operand, of an expression or of a cast
+-- what may follow an operand of an expression or of a cast, except `::` and `<`
 abbrev pub operator : G
 operator = alt (
     To (λ c. one_of groups c || one_of (signs.Question ∷ signs.Await ∷ []) c) ExpressionWhole
@@ -68,7 +68,7 @@ operator = alt (
     Expression
     ∷ [])
 
--- after an operand
+-- the rest of an expression after an operand
 abbrev pub whole : G
 whole = perhaps (alt (
     To (one_of (signs.PathSeparator ∷ signs.Less ∷ [])) Expression
@@ -76,7 +76,7 @@ whole = perhaps (alt (
     ∷ operator
     ∷ []))
 
--- after `<` that is an operator and Joint: another belongs to it
+-- the rest of an expression after a `Joint` `<` that is an operator, which a second mark may belong to
 abbrev pub less : G
 less = alt (
     To (one_of (signs.Less ∷ signs.LessJoint ∷ signs.LessEquals ∷ [])) Expression
@@ -85,11 +85,11 @@ less = alt (
     ∷ from_range
     ∷ [])
 
--- after an operand and `.`
+-- the rest of an expression after an operand and `.`
 abbrev pub dot : G
 dot = Either (To (is signs.Dot) ExpressionOpen) wanted_operand
 
--- within the bars of a closure
+-- the rest of an expression from within the bars of a closure
 abbrev pub closure : G
 closure = alt (
     To (is signs.Bar) Expression
@@ -97,7 +97,7 @@ closure = alt (
     ∷ To (λ c. not (one_of (signs.Bar ∷ signs.Less ∷ signs.LessJoint ∷ signs.Semicolon ∷ []) c)) Closure
     ∷ [])
 
--- where the type of a cast is wanted
+-- the rest of an expression from where the type of a cast must come
 abbrev pub cast : G
 cast = alt (
     To cast_operand CastWhole
@@ -106,6 +106,6 @@ cast = alt (
     ∷ signs.Exclamation ∷ signs.As ∷ signs.Jump ∷ signs.Await ∷ []) c) Cast
     ∷ [])
 
--- after the type of a cast
+-- the rest of an expression after the type of a cast
 abbrev pub cast_whole : G
 cast_whole = perhaps (alt (To (is signs.PathSeparator) Cast ∷ angle CastWhole ∷ operator ∷ []))

@@ -14,23 +14,23 @@ use Rattle.declarations.specs.declared.class.Word.TheVariants as words
 abbrev pub fn : G
 fn = To (keyword keywords.Fn) Function
 
--- a function, from its `extern` on, or from `fn` on
+-- a function, from its `extern` or its `fn` on
 abbrev pub qualified : G
 qualified = Either (seq (key keywords.Extern ∷ perhaps (one signs.Literal) ∷ fn ∷ [])) fn
 
--- `unsafe` or `safe`
+-- whether the sign is `unsafe` or `safe`
 abbrev pub is_safe : Class → Bool
 is_safe c = keyword keywords.Unsafe c || is (signs.Word words.Safe) c
 
--- a segment of a path
+-- whether the sign can be a segment of a path
 abbrev pub is_segment : Class → Bool
 is_segment c = is_word c || one_of (signs.SelfValue ∷ signs.Super ∷ signs.Crate ∷ []) c
 
--- after the `extern` and the ABI of a block or a function
+-- the rest of an `extern` block or a function after `extern` and its ABI
 abbrev pub extern_rest : G
 extern_rest = Either braces fn
 
--- after the `extern` of a block or a function
+-- the rest of an `extern` block or a function after `extern`
 abbrev pub unsafe_extern : G
 unsafe_extern = Either (Then (one signs.Literal) extern_rest) extern_rest
 
@@ -38,33 +38,33 @@ unsafe_extern = Either (Then (one signs.Literal) extern_rest) extern_rest
 abbrev pub new_name : G
 new_name = Sign (λ c. is_word c || is signs.Underscore c)
 
--- `as` and such a name, or nothing
+-- `as` and a name or `_`, or nothing
 abbrev pub renamed : G
 renamed = perhaps (Then (one signs.As) new_name)
 
--- the name of a crate
+-- the name of an external crate, or `self`
 abbrev pub crate_name : G
 crate_name = Sign (λ c. is_word c || is signs.SelfValue c)
 
--- after `extern`
+-- the rest of an item after `extern`
 abbrev pub extern_front : G
 extern_front = Either
     (seq (one signs.Crate ∷ Mark Named ∷ crate_name ∷ Mark Rest ∷ renamed ∷ semicolon ∷ []))
     unsafe_extern
 
--- after `auto`
+-- the rest of a trait after `auto`
 abbrev pub auto_front : G
 auto_front = To (keyword keywords.Trait) Trait
 
--- after `safe`
+-- the rest of an item after `safe`
 abbrev pub safe_front : G
 safe_front = Either (To (keyword keywords.Static) Static) qualified
 
--- after `default unsafe`
+-- the rest of an item after `default unsafe`
 abbrev pub default_unsafe : G
 default_unsafe = Either (To (keyword keywords.Impl) Impl) qualified
 
--- after `default`
+-- the rest of an item after `default`
 abbrev pub default_front : G
 default_front = alt (
     To (keyword keywords.Async) Async
@@ -76,7 +76,7 @@ default_front = alt (
     ∷ qualified
     ∷ [])
 
--- after `unsafe`
+-- the rest of an item after `unsafe`
 abbrev pub unsafe_front : G
 unsafe_front = alt (
     Then (key keywords.Extern) unsafe_extern
@@ -88,11 +88,11 @@ unsafe_front = alt (
     ∷ Then (one (signs.Word words.Auto)) auto_front
     ∷ [])
 
--- after `async`
+-- the rest of a function after `async`
 abbrev pub async_front : G
 async_front = Either (To is_safe Qualified) qualified
 
--- after `const`
+-- the rest of an item after `const`
 abbrev pub const_front : G
 const_front = alt (
     To (keyword keywords.Async) Async

@@ -1,4 +1,4 @@
--- Implementations, after `impl`: whether `<` begins their generic parameters or a type is seen up to two signs later.
+-- Implementations, after `impl`. Up to two signs after `<` decide whether it begins generic parameters or a type.
 use Rattle.std.specs.Prelude.{Bool, true, false, [], ◌∷◌}
 use Rattle.grammars.specs.Grammar.{Mark, Sign, To, Then, Either, further, perhaps}
 use Rattle.declarations.specs.rules.Classes.{is, opens}
@@ -12,19 +12,19 @@ use Rattle.declarations.specs.declared.class.Class.TheVariants as signs
 use Rattle.declarations.specs.declared.class.Keyword.TheVariants as keywords
 use Rattle.declarations.specs.declared.types.TypeState.TheVariants as types
 
--- after `!`, which is itself a type if no type follows it
+-- the rest of an `impl` after `!`. If no type follows, the `!` is the type
 abbrev pub negative : G
 negative = Then (perhaps (range types.Wanted Target)) braced
 
--- the trait and the type but `!`, with angle brackets or not
+-- the rest of an `impl` from its trait or its type on, which is not `!`
 abbrev pub target_but : Bool → G
 target_but angles = Then (Either (named_operand Target) (operand_but (is signs.Exclamation) angles Target)) braced
 
--- after `const`
+-- the rest of an `impl` after its `const`
 abbrev pub const_target : G
 const_target = Either (Then (one signs.Exclamation) negative) (target_but true)
 
--- after the generic parameters, or after `impl` but for angle brackets
+-- the rest of an `impl` after its generic parameters, or after `impl` if it has none
 abbrev pub target : Bool → G
 target angles = alt (
     Then (key keywords.Const) const_target
@@ -32,15 +32,15 @@ target angles = alt (
     ∷ target_but angles
     ∷ [])
 
--- after a generic parameter
+-- the rest of an `impl` after one of its generic parameters
 abbrev pub more_parameters : G
 more_parameters = seq (further parameter comma ∷ Mark Rest ∷ one signs.Greater ∷ target true ∷ [])
 
--- after the arguments of a type that angle brackets begin
+-- the rest of an `impl` after the arguments of a type that begins with `<`
 abbrev pub angle_target : G
 angle_target = Then (To (is signs.Greater) (Range types.Whole Target)) braced
 
--- after a word that is a generic parameter, or begins a type
+-- the rest of an `impl` after `<` and a word, which is a generic parameter or begins a type
 abbrev pub impl_word : G
 impl_word = alt (
     seq (one signs.Colon ∷ Mark Bounds ∷ bounds ∷ perhaps default_type ∷ more_parameters ∷ [])
@@ -49,7 +49,7 @@ impl_word = alt (
     ∷ Then (Either (To (is signs.As) (Range types.Wanted Inside)) (plain_continuation Inside)) angle_target
     ∷ [])
 
--- after `impl <`: generic parameters, or a type
+-- the rest of an `impl` after `<`, which begins generic parameters or a type
 abbrev pub impl_angle : G
 impl_angle = alt (
     Then (one signs.Greater) (target true)
@@ -60,6 +60,6 @@ impl_angle = alt (
     ∷ Then (all_operand Inside) angle_target
     ∷ [])
 
--- after `impl`
+-- the rest of an `impl` after the keyword
 abbrev pub impl_front : G
 impl_front = Either (Then (Sign opens) impl_angle) (target false)

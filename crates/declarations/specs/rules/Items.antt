@@ -15,28 +15,28 @@ use Rattle.declarations.specs.declared.class.Word.TheVariants as words
 
 -- ---- macros and imports
 
--- the group of a macro call
+-- the group of a macro call, and the `;` that must follow parentheses and brackets
 abbrev pub call_end : G
 call_end = Either braces
     (seq (Mark Body ∷ Sign (one_of (signs.Parentheses ∷ signs.Restriction ∷ signs.Brackets ∷ [])) ∷ semicolon ∷ []))
 
--- after the `!` of a macro call
+-- the rest of a macro call after its `!`
 abbrev pub call_name : G
 call_name = Either (Then name call_end) call_end
 
--- after a segment of the path of a macro call
+-- the rest of a macro call after a segment of its path
 abbrev pub call : G
 call = Either (Then (one signs.Exclamation) call_name) (Then (one signs.PathSeparator) (To is_segment Call))
 
--- after the name of a `macro`
+-- the rest of a `macro` after its name
 abbrev pub macro_rest : G
 macro_rest = Then (perhaps (Sign is_round)) braces
 
--- after a segment of the path of an import
+-- the rest of an import after a segment of its path
 abbrev pub use_segment : G
 use_segment = Either (To (is signs.PathSeparator) UsePath) (Then renamed semicolon)
 
--- where the path of an import wants a segment
+-- the rest of an import from a segment of its path, `*` or braces on
 abbrev pub use_path : G
 use_path = Either
     (Then (Sign is_segment) use_segment)
@@ -73,11 +73,11 @@ declaration = alt (
     ∷ keyworded
     ∷ [])
 
--- what begins a macro call, but the words that may begin another item
+-- whether the sign begins a macro call and no other item
 abbrev pub begins_call : Class → Bool
 begins_call c = is (signs.Word words.Plain) c || one_of (signs.SelfValue ∷ signs.Super ∷ signs.Crate ∷ []) c
 
--- items without one: macro calls and groups without delimiters too
+-- items without a visibility. They may be macro calls, or groups without delimiters
 abbrev pub unmarked : G
 unmarked = alt (
     Then (one (signs.Word words.Auto)) (Either call auto_front)
@@ -90,7 +90,7 @@ unmarked = alt (
     ∷ keyworded
     ∷ [])
 
--- an item of any kind, after its attributes
+-- an item of any kind after its attributes
 abbrev pub any_rest : G
 any_rest = Either (seq (Mark Visible ∷ visible ∷ Mark Front ∷ declaration ∷ [])) (Then (Mark Front) unmarked)
 
@@ -98,7 +98,7 @@ any_rest = Either (seq (Mark Visible ∷ visible ∷ Mark Front ∷ declaration 
 abbrev pub any_item : G
 any_item = Then attributes any_rest
 
--- the keyword of a struct, an enum or a union, and the rest
+-- the keyword of a struct, an enum or a union, and the rest of the item
 abbrev pub type_keyword : G
 type_keyword = alt (
     To (keyword keywords.Struct) Struct
@@ -106,10 +106,10 @@ type_keyword = alt (
     ∷ To (is (signs.Word words.Union)) Union
     ∷ [])
 
--- a struct, an enum or a union: attributes, a visibility and the rest
+-- a struct, an enum or a union, with its attributes and its visibility
 abbrev pub type_item : G
 type_item = seq (attributes ∷ visibility ∷ Mark Front ∷ type_keyword ∷ [])
 
--- a file: inner attributes and items
+-- a file: inner attributes, and then items
 abbrev pub file : G
 file = Then inner_attributes (Many any_item)

@@ -1,4 +1,4 @@
--- The names of the rules of declarations, the labels of parts, and shorter words for grammars.
+-- The names of the rules of declarations, the labels of parts, and short words for grammars.
 use Rattle.std.specs.Prelude.{List, [], ◌∷◌}
 use Rattle.grammars.specs.Grammar.{Grammar, Nothing, Sign, Mark, Then, Either, Listed}
 use Rattle.declarations.specs.rules.Classes.{is, is_word}
@@ -7,17 +7,17 @@ use Rattle.declarations.specs.declared.class.Class.TheVariants as signs
 use Rattle.declarations.specs.declared.class.Keyword.{Keyword}
 use Rattle.declarations.specs.declared.types.TypeState.{TypeState}
 
--- where a type stands: within angle brackets, or not, or after `impl`, where `for` and another type may follow it
+-- where a type is: within angle brackets, outside of them, or after `impl`, where `for` and another type may follow
 pub data Context : Type 0 where
   Inside : Context
   Outside : Context
   Target : Context
 
--- the rules with names, which a sign leads to
+-- the names of rules, to which a sign can lead
 pub data Name : Type 0 where
-  -- a type or bounds, from a state on
+  -- a type or bounds, from a state of the walk on
   Range : TypeState → Context → Name
-  -- the expression of a discriminant, from a state on
+  -- the expression of a discriminant, from a state of the walk on
   Expression : Name
   ExpressionOpen : Name
   ExpressionWhole : Name
@@ -26,7 +26,7 @@ pub data Name : Type 0 where
   Closure : Name
   Cast : Name
   CastWhole : Name
-  -- items, after the keyword that says what they are
+  -- items, after the keyword that says what kind they are
   Function : Name
   Qualified : Name
   Async : Name
@@ -43,7 +43,7 @@ pub data Name : Type 0 where
   UsePath : Name
   Call : Name
 
--- what the parts are
+-- the labels of parts
 pub data Label : Type 0 where
   Attributes : Label
   Visible : Label
@@ -62,17 +62,17 @@ pub data Label : Type 0 where
   Body : Label
   Rest : Label
 
--- a grammar of declarations
+-- grammars of declarations
 abbrev pub G : Type 0
 G = Grammar Class Name Label
 
--- these, one after the other
+-- these grammars, one after the other
 abbrev pub seq : List G → G
 seq [] = Nothing
 seq (g ∷ []) = g
 seq (g ∷ (h ∷ k)) = Then g (seq (h ∷ k))
 
--- one of these
+-- one of these grammars
 abbrev pub alt : List G → G
 alt [] = Nothing
 alt (g ∷ []) = g
@@ -86,7 +86,7 @@ one c = Sign (is c)
 abbrev pub key : Keyword → G
 key k = one (signs.Keyword k)
 
--- a word that may be a name
+-- a word, which can be a name
 abbrev pub word : G
 word = Sign is_word
 
@@ -94,6 +94,6 @@ word = Sign is_word
 abbrev pub comma : G
 comma = Then (Mark Rest) (one signs.Comma)
 
--- any number of it, with `,` between two and perhaps after the last
+-- any number of this, with `,` between two and perhaps after the last
 abbrev pub listed : G → G
 listed g = Listed g comma

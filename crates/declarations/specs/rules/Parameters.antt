@@ -13,18 +13,18 @@ use Rattle.declarations.specs.declared.types.TypeState.TheVariants as types
 
 -- ---- patterns
 
--- a sign with which a pattern may begin, but for angle brackets
+-- whether a pattern can begin with the sign, apart from angle brackets
 abbrev pub is_pattern : Class → Bool
 is_pattern c =
     is_word c || (keyword keywords.Mut c || (keyword keywords.Other c || one_of (signs.SelfType ∷ signs.Super
     ∷ signs.Crate ∷ signs.Underscore ∷ signs.Truth ∷ signs.Literal ∷ signs.PathSeparator ∷ signs.Restriction
     ∷ signs.Parentheses ∷ signs.Brackets ∷ signs.Invisible ∷ signs.And ∷ signs.Minus ∷ []) c))
 
--- a sign with which it may go on
+-- whether the sign can be in a pattern after its first sign
 abbrev pub continues : Class → Bool
 continues c = is_pattern c || one_of (signs.Braces ∷ signs.Exclamation ∷ signs.Dot ∷ signs.Equals ∷ signs.Infix ∷ []) c
 
--- one such sign
+-- one more sign of a pattern
 abbrev pub pattern_sign : G
 pattern_sign = Sign continues
 
@@ -32,7 +32,7 @@ pattern_sign = Sign continues
 abbrev pub pattern_signs : G
 pattern_signs = Many pattern_sign
 
--- a path from its angle brackets on, and perhaps fields in braces
+-- the end of a path from its angle brackets on, and perhaps fields in braces
 abbrev pub pattern_angle : G
 pattern_angle = Then (angle (Range types.Whole Outside)) (perhaps (one signs.Braces))
 
@@ -40,7 +40,7 @@ pattern_angle = Then (angle (Range types.Whole Outside)) (perhaps (one signs.Bra
 abbrev pub pattern_rest : G
 pattern_rest = Then pattern_signs (perhaps pattern_angle)
 
--- a pattern that begins with no sign that passes the test
+-- a pattern whose first sign does not pass the test
 abbrev pub pattern_but : (Class → Bool) → G
 pattern_but without = Either (Then (Sign (λ c. is_pattern c && not (without c))) pattern_rest) pattern_angle
 
@@ -74,7 +74,7 @@ typed = seq (Mark Rest ∷ one signs.Colon ∷ Mark OfType ∷ typed_end ∷ [])
 abbrev pub typed_pattern : G
 typed_pattern = Then pattern typed
 
--- after `self` or `mut self`: `:` and a type, or nothing
+-- what follows `self` or `mut self`: `:` and a type, or nothing
 abbrev pub self_type : G
 self_type = perhaps with_type
 
@@ -84,25 +84,25 @@ self_type = perhaps with_type
 abbrev pub may_mutate : G
 may_mutate = Either (Then (key keywords.Mut) (one signs.SelfValue)) (one signs.SelfValue)
 
--- the receiver after its `&`
+-- a receiver after its `&`
 abbrev pub referred : G
 referred = Either (Then (one signs.Lifetime) may_mutate) may_mutate
 
--- `self`, with `mut`, `&` and a lifetime before it or not
+-- a receiver: `self`, perhaps with `mut`, `&` and a lifetime before it
 abbrev pub receiver : G
 receiver = Either (Then (one signs.And) referred) may_mutate
 
 -- ---- parameters
 
--- after `mut`
+-- the rest of a parameter after `mut`
 abbrev pub after_mut : G
 after_mut = Either (Then (one signs.SelfValue) self_type) typed_pattern
 
--- after `& mut`
+-- the rest of a parameter after `& mut`
 abbrev pub after_and_mut : G
 after_and_mut = Either (one signs.SelfValue) typed_pattern
 
--- after `&`
+-- the rest of a parameter after `&`
 abbrev pub after_and : G
 after_and = alt (
     Then (one signs.Lifetime) may_mutate
@@ -111,11 +111,11 @@ after_and = alt (
     ∷ Then (pattern_but (keyword keywords.Mut)) typed
     ∷ [])
 
--- a sign that may begin a receiver and a pattern
+-- whether both a receiver and a pattern can begin with the sign
 abbrev pub is_shared : Class → Bool
 is_shared c = keyword keywords.Mut c || is signs.And c
 
--- a parameter with a name, after its attributes: a receiver, or a pattern and its type
+-- a parameter after its attributes, except `...`: a receiver, or a pattern and its type
 abbrev pub named_parameter : G
 named_parameter = alt (
     Then (one signs.SelfValue) self_type
@@ -124,14 +124,14 @@ named_parameter = alt (
     ∷ Then (pattern_but is_shared) typed
     ∷ [])
 
--- a parameter, after its attributes
+-- a parameter after its attributes
 abbrev pub parameter_rest : G
 parameter_rest = Then (Mark Named) (Either dots named_parameter)
 
--- a parameter of a function: attributes, and a receiver, a pattern and its type, or `...`
+-- a parameter of a function: attributes, and then a receiver, a pattern and its type, or `...`
 abbrev pub function_parameter : G
 function_parameter = Then (Mark Parameter) (Then attributes parameter_rest)
 
--- parameters, with `,` between two and perhaps after the last
+-- parameters of a function, with `,` between two and perhaps after the last
 abbrev pub function_parameters : G
 function_parameters = listed function_parameter

@@ -10,7 +10,7 @@ use Rattle.declarations.specs.rules.Expressions.{expression}
 use Rattle.declarations.specs.declared.class.Class.TheVariants as signs
 use Rattle.declarations.specs.declared.class.Keyword.TheVariants as keywords
 
--- ---- what stands in front
+-- ---- attributes and visibilities
 
 -- an attribute
 abbrev pub attribute : G
@@ -28,7 +28,7 @@ inner_attributes = Many (seq (Mark Attributes ∷ one signs.HashBang ∷ one sig
 abbrev pub restriction : G
 restriction = perhaps (one signs.Restriction)
 
--- `pub`, perhaps with a restriction; or the invisible group of a visibility
+-- `pub`, perhaps with a restriction, or a group without delimiters that holds a visibility
 abbrev pub visible : G
 visible = Either (Then (key keywords.Pub) restriction) (one signs.Visibility)
 
@@ -42,17 +42,17 @@ visibility = perhaps (Then (Mark Visible) visible)
 abbrev pub field : G
 field = seq (attributes ∷ visibility ∷ Mark Named ∷ word ∷ Mark Rest ∷ one signs.Colon ∷ Mark OfType ∷ type ∷ [])
 
--- fields
+-- fields, with `,` between two and perhaps after the last
 abbrev pub fields : G
 fields = listed field
 
--- the type of a field that has no name, after `pub`: parentheses that can be a restriction are one
+-- the type of a field that has no name, after `pub`. Parentheses that can be a restriction are one
 abbrev pub public_type : G
 public_type = Either
     (seq (one signs.Restriction ∷ Mark OfType ∷ type ∷ []))
     (Then (Mark OfType) (Either (named_operand Outside) (operand_but (is signs.Restriction) true Outside)))
 
--- such a field, after its attributes
+-- a field without a name, after its attributes
 abbrev pub tuple_field_rest : G
 tuple_field_rest = alt (
     seq (Mark Visible ∷ key keywords.Pub ∷ public_type ∷ [])
@@ -82,7 +82,7 @@ variant_fields = perhaps (Then (Mark Fields) (Either (Sign is_round) (one signs.
 abbrev pub variant : G
 variant = seq (attributes ∷ visibility ∷ Mark Named ∷ word ∷ variant_fields ∷ discriminant ∷ [])
 
--- variants
+-- variants, with `,` between two and perhaps after the last
 abbrev pub variants : G
 variants = listed variant
 
@@ -96,7 +96,7 @@ with_bounds = perhaps (seq (Mark Rest ∷ one signs.Colon ∷ Mark Bounds ∷ bo
 abbrev pub default_type : G
 default_type = seq (Mark Rest ∷ one signs.Equals ∷ Mark Default ∷ type ∷ [])
 
--- the default of a constant
+-- the default of a constant parameter
 abbrev pub constant_default : G
 constant_default = alt (
     Then (one signs.Minus) (one signs.Literal)
@@ -106,16 +106,16 @@ constant_default = alt (
     ∷ type
     ∷ [])
 
--- `=` and the default of a constant, or nothing
+-- `=` and the default of a constant parameter, or nothing
 abbrev pub with_constant : G
 with_constant = perhaps (seq (Mark Rest ∷ one signs.Equals ∷ Mark Default ∷ constant_default ∷ []))
 
--- a parameter that is a constant, after `const`
+-- a constant parameter, after `const`
 abbrev pub constant_rest : G
 constant_rest = seq (
     Mark Named ∷ word ∷ Mark Rest ∷ one signs.Colon ∷ Mark Bounds ∷ type ∷ with_constant ∷ [])
 
--- a parameter, after its attributes
+-- a generic parameter, after its attributes
 abbrev pub parameter_rest : G
 parameter_rest = alt (
     seq (Mark Named ∷ one signs.Lifetime ∷ with_bounds ∷ [])
@@ -123,15 +123,15 @@ parameter_rest = alt (
     ∷ seq (Mark Rest ∷ key keywords.Const ∷ constant_rest ∷ [])
     ∷ [])
 
--- a parameter: a lifetime, a type or a constant
+-- a generic parameter: a lifetime, a type or a constant
 abbrev pub parameter : G
 parameter = seq (Mark Parameter ∷ attributes ∷ parameter_rest ∷ [])
 
--- parameters
+-- generic parameters, with `,` between two and perhaps after the last
 abbrev pub parameters : G
 parameters = listed parameter
 
--- parameters and the `>` after them
+-- generic parameters and the `>` after them
 abbrev pub closed_parameters : G
 closed_parameters = seq (parameters ∷ Mark Rest ∷ one signs.Greater ∷ [])
 

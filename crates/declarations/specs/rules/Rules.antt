@@ -1,4 +1,4 @@
--- The rules with names, and what may follow them.
+-- The grammar of each named rule, and the signs that may follow it.
 use Rattle.std.specs.Prelude.{Bool, true, ◌||◌, [], ◌∷◌}
 use Rattle.grammars.specs.Grammar.{To, Then, Either, perhaps}
 use Rattle.declarations.specs.rules.Classes.{is, keyword, one_of}
@@ -19,7 +19,7 @@ use Rattle.declarations.specs.declared.class.Class.{Class}
 use Rattle.declarations.specs.declared.class.Class.TheVariants as signs
 use Rattle.declarations.specs.declared.class.Keyword.TheVariants as keywords
 
--- what each rule says
+-- the grammar of each named rule
 abbrev pub rules : Name → G
 rules (Range state context) = range state context
 rules Expression = expressions.expression
@@ -46,7 +46,7 @@ rules Use = Either (To (is signs.PathSeparator) UsePath) use_path
 rules UsePath = use_path
 rules Call = call
 
--- the classes of signs that may follow each rule
+-- whether a sign of this class may follow the rule
 abbrev pub follows : Name → Class → Bool
 follows (Range state Inside) c = is signs.Greater c
 follows (Range state Outside) c =

@@ -1,4 +1,4 @@
--- Types and bounds: from each state of the walk over them, what may follow.
+-- Types and bounds: what may follow in each state of the walk over them.
 use Rattle.std.specs.Prelude.{Bool, true, false, not, ◌&&◌, ◌||◌, [], ◌∷◌, if◌then◌else◌}
 use Rattle.grammars.specs.Grammar.{To, Then, Either, perhaps}
 use Rattle.declarations.specs.rules.Classes.{one_of, is, is_round, is_word, keyword, opens}
@@ -9,16 +9,16 @@ use Rattle.declarations.specs.declared.class.Keyword.TheVariants as keywords
 use Rattle.declarations.specs.declared.types.TypeState.{TypeState}
 use Rattle.declarations.specs.declared.types.TypeState.TheVariants as types
 
--- an operand that is one sign, wherever types stand, but for words and lifetimes
+-- whether the sign is an operand in every type, except words and lifetimes
 abbrev pub plain_operand : Class → Bool
 plain_operand = one_of (signs.SelfValue ∷ signs.SelfType ∷ signs.Super ∷ signs.Crate ∷ signs.Underscore
     ∷ signs.Restriction ∷ signs.Parentheses ∷ signs.Brackets ∷ signs.Invisible ∷ signs.Exclamation ∷ [])
 
--- an operand that is one sign, within angle brackets alone
+-- whether the sign is an operand only within angle brackets
 abbrev pub constant_operand : Class → Bool
 constant_operand = one_of (signs.Truth ∷ signs.Literal ∷ signs.Braces ∷ [])
 
--- what may stand before an operand
+-- whether the sign can come before an operand
 abbrev pub type_front : Class → Bool
 type_front c =
     one_of (signs.PathSeparator ∷ signs.And ∷ signs.Question ∷ []) c
@@ -29,7 +29,7 @@ type_front c =
 abbrev pub angle : Name → G
 angle n = Then (To opens (Range types.Argument Inside)) (To (is signs.Greater) n)
 
--- where an operand may stand, but for words, lifetimes and signs that pass the test, with angle brackets or not
+-- an operand, except words, lifetimes and signs that pass the test. The second argument allows `<`
 abbrev pub operand_but : (Class → Bool) → Bool → Context → G
 operand_but without angles context = alt (
     To (λ c. plain_operand c && not (without c)) (Range types.Whole context)
@@ -40,7 +40,7 @@ operand_but without angles context = alt (
     ∷ To (keyword keywords.For) (Range types.For context)
     ∷ (if angles then angle (Range types.Whole context) ∷ [] else []))
 
--- an operand but words and lifetimes, wherever types stand
+-- an operand that any type can have, except words and lifetimes
 abbrev pub other_operand : Context → G
 other_operand = operand_but (λ c. false) true
 
@@ -49,11 +49,11 @@ abbrev pub named_operand : Context → G
 named_operand context =
     Either (To is_word (Range types.Whole context)) (To (is signs.Lifetime) (Range types.Lifetime context))
 
--- an operand that may stand within angle brackets alone
+-- an operand that can be only within angle brackets
 abbrev pub constant : G
 constant = Either (To constant_operand (Range types.Whole Inside)) (To (is signs.Minus) (Range types.Minus Inside))
 
--- an operand but words and lifetimes
+-- an operand, except words and lifetimes
 abbrev pub all_operand : Context → G
 all_operand Inside = Either (other_operand Inside) constant
 all_operand context = other_operand context
@@ -62,12 +62,12 @@ all_operand context = other_operand context
 abbrev pub operand : Context → G
 operand context = Either (named_operand context) (all_operand context)
 
--- it, or within angle brackets a `,` and another argument
+-- this grammar, or within angle brackets a `,` and another argument
 abbrev pub comma_inside : Context → G → G
 comma_inside Inside g = Either (To (is signs.Comma) (Range types.Argument Inside)) g
 comma_inside context g = g
 
--- after an operand, but for what generic parameters have there too
+-- what may follow an operand, except what may also follow a generic parameter
 abbrev pub plain_continuation : Context → G
 plain_continuation context = alt (
     To is_round (Range types.Whole context)
@@ -77,7 +77,7 @@ plain_continuation context = alt (
     ∷ angle (Range types.Whole context)
     ∷ [])
 
--- after an operand
+-- what may follow an operand
 abbrev pub continuation : Context → G
 continuation Inside = alt (
     To (is signs.As) (Range types.Wanted Inside)
@@ -89,7 +89,7 @@ continuation Inside = alt (
 continuation Outside = plain_continuation Outside
 continuation Target = Either (To (keyword keywords.For) (Range types.Wanted Outside)) (plain_continuation Target)
 
--- after `extern`, if no literal stands there
+-- what may follow `extern`, except a literal
 abbrev pub abi : Context → G
 abi Inside = alt (
     named_operand Inside
@@ -99,7 +99,7 @@ abi Inside = alt (
     ∷ [])
 abi context = operand context
 
--- a type or bounds, from a state on
+-- a type or bounds, from a state of the walk on
 abbrev pub range : TypeState → Context → G
 range types.Wanted context = operand context
 range types.Bound context = perhaps (comma_inside context (operand context))

@@ -1,4 +1,4 @@
-//! Literals between quotes that a few bytes tell.
+//! Literals between quotes that a few bytes decide.
 
 ghost use Rattle.std.specs.Prelude.{◌≡◌, ◌++◌, ◌<◌, ◌^◌, ◌&&◌, List, ℕ, IfSome, IsTrue};
 ghost use Rattle.std.specs.Prelude.{codes, get_or, nat_lt, not, take};
@@ -23,7 +23,7 @@ use crate::single_quotes::stands_bare;
 use crate::text::{split_first, strip};
 use memchr::memchr3;
 
-/// Whether a literal between quotes that the byte follows ends there, with no suffix.
+/// Whether a literal between quotes ends before this byte and has no suffix.
 #[inline(always)]
 fn ends_literal(byte: u8) -> bool
     ensures { result ≡ (nat_lt byte 128 && not (is_ident_start byte)) }
@@ -31,8 +31,8 @@ fn ends_literal(byte: u8) -> bool
     byte.is_ascii() && !holds_ascii(Class::IdentifierStart, byte)
 }
 
-/// Whether the byte may be the first of the two digits after `x`. In a C string no byte may: two zeros are forbidden
-/// there, which is left to the slower way.
+/// Whether the byte may be the first of the two digits after `\x`. It returns false for C strings, where two zeros are
+/// forbidden: the slower functions read those.
 #[inline(always)]
 fn begins_pair(byte: u8, kind: StringKind) -> bool
     ensures { result ≡ (nat_lt byte 128 && pair_front kind byte) }
@@ -44,7 +44,7 @@ fn begins_pair(byte: u8, kind: StringKind) -> bool
     }
 }
 
-/// How many bytes `x` and its two digits have at the front, by the rule `hex-escape`.
+/// Returns how many bytes `x` and its two digits at the start have, by the rule `hex-escape`.
 #[inline(always)]
 fn hex_size(bytes: &[u8], kind: StringKind) -> Option<usize>
     ensures { IfSome result (IsAsciiAt (Anywhere (Stands (hex (pair kind)))) bytes.now) }
@@ -59,7 +59,7 @@ fn hex_size(bytes: &[u8], kind: StringKind) -> Option<usize>
     }
 }
 
-/// How many bytes `u{`, a character's code and `}` have at the front, by the rule `unicode-escape`.
+/// Returns how many bytes `u{`, the code of a character and `}` at the start have, by the rule `unicode-escape`.
 #[inline(never)]
 fn unicode_size(bytes: &[u8], kind: StringKind) -> Option<usize>
     ensures { IfSome result (IsAsciiAt (Anywhere (Stands (unicode (allows kind)))) bytes.now) }
@@ -78,7 +78,7 @@ fn unicode_size(bytes: &[u8], kind: StringKind) -> Option<usize>
     Some(digits + 3)
 }
 
-/// How many bytes the escape of one letter has at the front, after its backslash.
+/// Returns how many bytes the escape of one letter has, without its backslash.
 #[inline(always)]
 fn letter_size(bytes: &[u8], kind: StringKind) -> Option<usize>
     ensures { IfSome result (IsAsciiAt (Anywhere (Stands (escape kind))) bytes.now) }
@@ -90,8 +90,7 @@ fn letter_size(bytes: &[u8], kind: StringKind) -> Option<usize>
     None
 }
 
-/// How many bytes the escape has at the front, after its backslash: a letter, `x` and two digits, or the code of a
-/// character.
+/// Returns how many bytes the escape at the start has, without its backslash.
 #[inline(always)]
 fn escape_size(bytes: &[u8], kind: StringKind) -> Option<usize>
     ensures { IfSome result (IsAsciiAt (Anywhere (Stands (escape kind))) bytes.now) }
@@ -105,8 +104,8 @@ fn escape_size(bytes: &[u8], kind: StringKind) -> Option<usize>
     }
 }
 
-/// How many bytes the literal between single quotes has that stands at the front, after its first quote: one of ASCII
-/// that stands for itself, and the other quote.
+/// Returns how many bytes a literal between single quotes has after its first quote, if it holds one ASCII character
+/// that is no escape.
 #[inline(always)]
 fn bare_size(inside: &[u8], kind: StringKind) -> Option<usize>
     ensures { IfSome result (IsAsciiAt (Single kind) inside.now) }
@@ -122,8 +121,8 @@ fn bare_size(inside: &[u8], kind: StringKind) -> Option<usize>
     None
 }
 
-/// How many bytes the literal between single quotes has that stands at the front, after its first quote: a backslash
-/// with a letter, and the other quote.
+/// Returns how many bytes a literal between single quotes has after its first quote, if it holds a backslash and a
+/// letter.
 #[inline(always)]
 fn backslash_size(inside: &[u8], kind: StringKind) -> Option<usize>
     ensures { IfSome result (IsAsciiAt (Single kind) inside.now) }
@@ -138,8 +137,8 @@ fn backslash_size(inside: &[u8], kind: StringKind) -> Option<usize>
     None
 }
 
-/// How many bytes the literal between single quotes has that stands at the front, after its first quote: one of ASCII
-/// or an escape, and the other quote.
+/// Returns how many bytes a literal between single quotes has after its first quote, if it holds one ASCII character or
+/// an escape.
 #[inline(always)]
 fn single_size(inside: &[u8], kind: StringKind) -> Option<usize>
     ensures { IfSome result (IsAsciiAt (Single kind) inside.now) }
@@ -154,7 +153,7 @@ fn single_size(inside: &[u8], kind: StringKind) -> Option<usize>
     None
 }
 
-/// How many bytes the character has that stands at the front, between its quotes one of ASCII or an escape.
+/// Returns how many bytes the character literal at the start has, if it holds one ASCII character or an escape.
 #[inline(always)]
 pub fn character_size(text: &str) -> Option<usize>
     ensures { IfSome result (IsAsciiAt Character text.now) }
@@ -166,7 +165,7 @@ pub fn character_size(text: &str) -> Option<usize>
     Some(single_size(&bytes[1..], StringKind::Plain)? + 1)
 }
 
-/// The extent of the character at the front, between its quotes one of ASCII that stands for itself.
+/// Returns the extent of the character literal at the start, if it holds one ASCII character that is no escape.
 #[inline(always)]
 pub fn bare_character(text: &str) -> Option<Extent>
     ensures { IfSome result (IsLiteralAt (chars text.now)) }
@@ -179,7 +178,7 @@ pub fn bare_character(text: &str) -> Option<Extent>
     Some(ascii_extent(size + 1))
 }
 
-/// The extent of the character at the front, between its quotes a backslash with a letter.
+/// Returns the extent of the character literal at the start, if it holds a backslash and a letter.
 #[inline(always)]
 pub fn letter_character(text: &str) -> Option<Extent>
     ensures { IfSome result (IsLiteralAt (chars text.now)) }
@@ -192,7 +191,7 @@ pub fn letter_character(text: &str) -> Option<Extent>
     Some(ascii_extent(size + 1))
 }
 
-/// The extent of the character at the front, between its quotes one of ASCII or an escape.
+/// Returns the extent of the character literal at the start, if it holds one ASCII character or an escape.
 #[inline(always)]
 pub fn character(text: &str) -> Option<Extent>
     ensures { IfSome result (IsLiteralAt (chars text.now)) }
@@ -200,7 +199,7 @@ pub fn character(text: &str) -> Option<Extent>
     Some(ascii_extent(character_size(text)?))
 }
 
-/// How many bytes the byte literal has that stands at the front.
+/// Returns how many bytes the byte literal at the start has.
 #[inline(always)]
 pub fn byte_size(text: &str) -> Option<usize>
     ensures { IfSome result (IsAsciiAt Byte text.now) }
@@ -212,7 +211,8 @@ pub fn byte_size(text: &str) -> Option<usize>
     Some(single_size(&bytes[2..], StringKind::Byte)? + 2)
 }
 
-/// The extent of the character that stands at the front, between its quotes one that stands for itself, past ASCII too.
+/// Returns the extent of the character literal at the start, if it holds one character that is no escape, past ASCII
+/// too.
 #[inline(always)]
 pub fn wide_character(text: &str) -> Option<Extent>
     ensures { IfSome result (IsLiteralAt (chars text.now)) }
@@ -230,7 +230,7 @@ pub fn wide_character(text: &str) -> Option<Extent>
     Some(Extent { bytes, chars: 3 })
 }
 
-/// How many bytes may stand after a backslash in a string, at the front: a LF, or an escape.
+/// Returns how many bytes follow a backslash in a string: a LF or an escape.
 #[inline(always)]
 fn escaped_size(bytes: &[u8], kind: StringKind) -> Option<usize>
     ensures { IfSome result (IsAsciiAt (Anywhere (Stands (escaped kind))) bytes.now) }
@@ -241,8 +241,8 @@ fn escaped_size(bytes: &[u8], kind: StringKind) -> Option<usize>
     escape_size(bytes, kind)
 }
 
-/// Whether a string of the kind may have each character of the stretch. In a C string none may: zeros are forbidden
-/// there, which is left to the slower way.
+/// Whether a string of the kind may contain each character of the bytes. It returns false for C strings, where zeros
+/// are forbidden: the slower functions read those.
 #[inline(always)]
 fn may_hold(stretch: &[u8], kind: StringKind) -> bool
     ensures { IsTrue result → IsTrue (list_all (may_stand_raw kind) (chars stretch.now)) }
@@ -254,7 +254,7 @@ fn may_hold(stretch: &[u8], kind: StringKind) -> bool
     }
 }
 
-/// How many bytes stand before the first quote, backslash or CR, if there is one.
+/// Returns how many bytes come before the first quote, backslash or CR, or `None` if there is none.
 #[inline(always)]
 fn plain_size(bytes: &[u8]) -> Option<usize>
     ensures { IsFirstByte (is_byte3 double_quote backslash carriage_return) bytes.now result }
@@ -267,7 +267,7 @@ fn plain_size(bytes: &[u8]) -> Option<usize>
     memchr3(b'"', b'\\', b'\r', bytes)
 }
 
-/// The same, if a string of the kind may have all that stands before it.
+/// Returns how many bytes come before the first quote, backslash or CR, if a string of the kind may contain them all.
 #[inline(always)]
 fn stretch_size(bytes: &[u8], kind: StringKind) -> Option<usize>
     ensures { IfSome result (IsStretch kind bytes.now) }
@@ -280,11 +280,11 @@ fn stretch_size(bytes: &[u8], kind: StringKind) -> Option<usize>
     }
 }
 
-/// How many bytes the string has that stands at the front, after its first quote, with no CR: units up to a quote. The
-/// first stretch of them that stand for themselves has so many bytes.
+/// Returns how many bytes a string has after its first quote, if it has no CR. `inside` is the text after that quote,
+/// and `stretch` is the number of bytes in it before the first quote, backslash or CR.
 ///
-/// Quotes, backslashes and CR are searched for among its bytes: what stands between them, past ASCII too, stands for
-/// itself. The search goes on after each escape: the string is searched once.
+/// Quotes, backslashes and CR are searched for among the bytes. The search goes on after each escape, so it passes the
+/// string once.
 #[inline(always)]
 fn body_size(inside: &str, stretch: usize, kind: StringKind) -> Option<usize>
     requires { IsStretch kind inside.now stretch }
@@ -304,8 +304,8 @@ fn body_size(inside: &str, stretch: usize, kind: StringKind) -> Option<usize>
     None
 }
 
-/// The extent of the string after whose first quote `inside` stands: so many bytes of ASCII that stand for themselves,
-/// and the other quote.
+/// Returns the extent of a string of `stretch` ASCII bytes that are no escapes. `inside` is the text after its first
+/// quote.
 #[inline(always)]
 pub fn plain_string(inside: &str, stretch: usize) -> Option<Extent>
     requires { IsTrue (list_all is_plain_ascii (take stretch inside.now)) }
@@ -318,8 +318,8 @@ pub fn plain_string(inside: &str, stretch: usize) -> Option<Extent>
     None
 }
 
-/// The extent of the string that `text` begins with, after whose first quote `inside` stands: so many bytes of ASCII
-/// that stand for themselves, and then an escape.
+/// Returns the extent of the string at the start of `text`, which has `stretch` ASCII bytes before its first escape.
+/// `inside` is the text after its first quote.
 #[inline(always)]
 pub fn escaped_string(text: &str, inside: &str, stretch: usize) -> Option<Extent>
     requires split { chars text.now ≡ codes "\"" ++ chars inside.now }
@@ -331,7 +331,7 @@ pub fn escaped_string(text: &str, inside: &str, stretch: usize) -> Option<Extent
     Some(counted(text, size + 1))
 }
 
-/// The extent of the string that stands at the front, with no CR.
+/// Returns the extent of the string at the start, if it has no CR.
 #[inline(always)]
 pub fn string(text: &str) -> Option<Extent>
     ensures { IfSome result (IsLiteralAt (chars text.now)) }
@@ -342,7 +342,7 @@ pub fn string(text: &str) -> Option<Extent>
     Some(counted(text, size + 1))
 }
 
-/// How many bytes the string has that stands at the front, with no CR.
+/// Returns how many bytes the string at the start has, if it has no CR.
 #[inline(always)]
 pub fn string_size(text: &str) -> Option<usize>
     ensures { IfSome result (IsAt Str (chars text.now)) }
@@ -352,7 +352,7 @@ pub fn string_size(text: &str) -> Option<usize>
     Some(body_size(inside, stretch, StringKind::Plain)? + 1)
 }
 
-/// How many bytes the byte string has that stands at the front, with no CR.
+/// Returns how many bytes the byte string at the start has, if it has no CR.
 #[inline(always)]
 pub fn byte_string_size(text: &str) -> Option<usize>
     ensures { IfSome result (IsAt ByteStr (chars text.now)) }

@@ -1,4 +1,4 @@
-//! What the map is asked of positions.
+//! Looks up positions and spans in the map.
 ghost use Rattle.std.specs.Prelude.{◌≡◌, ◌≤◌, [], IfNone, IfSome, OnSome};
 ghost use Rattle.proc_macro2.specs.Files.{Holds};
 ghost use Rattle.pm_c.specs.Calls.{
@@ -18,7 +18,7 @@ use pm_span::parts::{bounds, span_of};
 use proc_macro2::Span;
 
 impl Session {
-    /// The span between two positions, if the map holds it.
+    /// Returns the span between two positions, if one file of the map contains it.
     fn held(&self, lo: u32, hi: u32) -> Option<Span>
         ensures found { IfSome result (λ found. (found ≡ span lo hi) × Holds self.now.map found) }
         ensures held { IfNone result (IsHeld self.now.map lo hi → ⊥) }
@@ -35,7 +35,7 @@ impl Session {
         }
     }
 
-    /// The line and column of a position.
+    /// Returns the line and column of a position.
     pub(crate) fn line_column(&self, position: u32) -> PmLineColumn
         ensures { LineColumnAnswer self.now.map position result }
     {
@@ -52,7 +52,7 @@ impl Session {
         }
     }
 
-    /// The bytes of its file that a span takes.
+    /// Returns the byte offsets in its file where a span begins and ends.
     pub(crate) fn byte_range(&mut self, lo: u32, hi: u32) -> PmRange
         ensures answer { ByteRangeAnswer self.old.map lo hi result }
         ensures kept { self.new ≡ self.old }
@@ -66,7 +66,7 @@ impl Session {
         }
     }
 
-    /// The source text of a span, as the session's text.
+    /// Writes the source text of a span into the session's text.
     pub(crate) fn source_text(&mut self, lo: u32, hi: u32) -> PmAnswer
         ensures { SourceTextAnswer self.old lo hi self.new result }
     {
@@ -83,7 +83,7 @@ impl Session {
         }
     }
 
-    /// The name of the file that a span is in, as the session's text.
+    /// Writes the name of the file that contains a span into the session's text.
     pub(crate) fn file_name(&mut self, lo: u32, hi: u32) -> PmAnswer
         ensures { FileNameAnswer self.old lo hi self.new result }
     {
@@ -99,7 +99,7 @@ impl Session {
         }
     }
 
-    /// The span of two, where one file has both.
+    /// Returns the span that joins two spans, if one file contains both.
     pub(crate) fn join(&self, lo: u32, hi: u32, other_lo: u32, other_hi: u32) -> PmRange
         ensures { JoinAnswer self.now.map lo hi other_lo other_hi result }
     {
@@ -118,7 +118,7 @@ impl Session {
         }
     }
 
-    /// Takes all files of the map away but the empty one.
+    /// Removes all files but the empty one from the map.
     pub(crate) fn forget(&mut self)
         ensures { self.new ≡ record self.old { map = record { texts = []; limit = self.old.map.limit } } }
     {

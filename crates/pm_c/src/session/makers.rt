@@ -1,4 +1,4 @@
-//! The texts of literals.
+//! Makes the texts of literals.
 ghost use Rattle.std.specs.Prelude.{◌≡◌, IfOk, IsOk};
 ghost use Rattle.proc_macro2.specs.CString.{has_no_zero};
 ghost use Rattle.proc_macro2.specs.Escaped.{byte_string_text, byte_text};
@@ -24,7 +24,7 @@ use std::alloc::AllocError;
 use std::str;
 
 impl Session {
-    /// Takes the text of a literal for the session's.
+    /// Replaces the session's text by the text of the literal.
     fn take_text(&mut self, literal: Result<Literal, AllocError>) -> PmAnswer
         ensures made { result.code ≡ DONE → IsOk literal }
         ensures text { result.code ≡ DONE → IfOk literal (λ literal. HasText self.new literal.text result) }
@@ -41,7 +41,7 @@ impl Session {
         }
     }
 
-    /// Reads the text of a literal, which becomes a file of the map, and answers where it stands.
+    /// Reads the text of a literal, which becomes a file of the map, and returns where the literal is.
     pub(crate) fn read_literal(&mut self, text: &[u8]) -> PmAnswer
         ensures { ReadLiteralAnswer self.old text.now self.new result }
     {
@@ -59,7 +59,7 @@ impl Session {
         }
     }
 
-    /// The string literal of a text.
+    /// Writes the string literal of a text into the session's text.
     pub(crate) fn string(&mut self, text: &[u8]) -> PmAnswer
         ensures { StringAnswer text.now self.old self.new result }
     {
@@ -69,7 +69,7 @@ impl Session {
         }
     }
 
-    /// The literal of a character.
+    /// Writes the literal of a character into the session's text.
     pub(crate) fn character(&mut self, c: u32) -> PmAnswer
         ensures { CharacterAnswer c self.old self.new result }
     {
@@ -79,21 +79,21 @@ impl Session {
         }
     }
 
-    /// The literal of a byte.
+    /// Writes the literal of a byte into the session's text.
     pub(crate) fn byte_character(&mut self, byte: u8) -> PmAnswer
         ensures { MakeAnswer (byte_text byte) self.old self.new result }
     {
         self.take_text(Literal::byte_character(self.alloc, byte))
     }
 
-    /// The byte string literal of some bytes.
+    /// Writes the byte string literal of some bytes into the session's text.
     pub(crate) fn byte_string(&mut self, bytes: &[u8]) -> PmAnswer
         ensures { MakeAnswer (byte_string_text bytes.now) self.old self.new result }
     {
         self.take_text(Literal::byte_string(self.alloc, bytes))
     }
 
-    /// The C string literal of some bytes, none of which is zero.
+    /// Writes the C string literal of some bytes into the session's text, if none of them is zero.
     pub(crate) fn c_string(&mut self, bytes: &[u8]) -> PmAnswer
         ensures { CStringAnswer bytes.now self.old self.new result }
     {

@@ -1,4 +1,4 @@
-//! The values of literals.
+//! Reads the values of literals.
 ghost use Rattle.std.specs.Prelude.{◌≡◌, ◌↔◌, [], ◌∷◌, IfErr, IfOk, OnOk};
 ghost use Rattle.std.specs.Str.{chars, IsUtf8};
 ghost use Rattle.proc_macro2.specs.LiteralText.{IsWholeLiteral};
@@ -26,7 +26,7 @@ use std::alloc::Global;
 use std::str;
 
 impl Session {
-    /// The value of a string literal, as the session's text.
+    /// Writes the value of a string literal into the session's text.
     pub(crate) fn str_value(&mut self, text: &[u8]) -> PmAnswer
         ensures answer { ValueAnswer (str_value (chars text.now)) text.now self.old self.new result }
         ensures done { result.code ≡ DONE → HasTextValue (str_value (chars text.now)) self.new result }
@@ -45,7 +45,7 @@ impl Session {
         }
     }
 
-    /// The value of a byte string literal, as the session's bytes.
+    /// Writes the value of a byte string literal into the session's bytes.
     pub(crate) fn byte_str_value(&mut self, text: &[u8]) -> PmAnswer
         ensures answer { ValueAnswer (byte_str_value (chars text.now)) text.now self.old self.new result }
         ensures done { result.code ≡ DONE → HasBytesValue (byte_str_value (chars text.now)) self.new result }
@@ -64,7 +64,7 @@ impl Session {
         }
     }
 
-    /// The value of a C string literal, with the zero that ends it, as the session's bytes.
+    /// Writes the value of a C string literal, with the zero at its end, into the session's bytes.
     pub(crate) fn cstr_value(&mut self, text: &[u8]) -> PmAnswer
         ensures answer { ValueAnswer (cstr_value (chars text.now)) text.now self.old self.new result }
         ensures done { result.code ≡ DONE → HasBytesValue (cstr_value (chars text.now)) self.new result }
@@ -84,7 +84,7 @@ impl Session {
     }
 }
 
-/// The literal that the whole text is.
+/// Returns the literal that the whole text is, or the result that says why it is none.
 fn literal_of(alloc: Global, text: &[u8]) -> Result<Literal, PmAnswer>
     ensures ok { IfOk result (λ literal. literal.text ≡ chars text.now) }
     ensures utf8 { OnOk result (IsUtf8 text.now) }
@@ -105,7 +105,7 @@ fn literal_of(alloc: Global, text: &[u8]) -> Result<Literal, PmAnswer>
     }
 }
 
-/// Why there is no value.
+/// Returns the result that says why a literal has no value.
 fn refusal(error: ConversionErrorKind) -> PmAnswer
     ensures codes { IsAmong (NO_MEMORY ∷ NOT_UNESCAPED ∷ OTHER_KIND ∷ []) result.code }
     ensures kind { result.code ≡ OTHER_KIND → error ≡ InvalidLiteralKind }

@@ -58,7 +58,7 @@ stream::TokenStream::drop-drop-here-requires t c =
     let left = count-left _ _ c.in_default-take_group-2.ensures in
     (omega (arith, left, c.loop.invariant.here, c.decreases), tt)
 
--- or goes back
+-- the walk goes back
 pub stream::TokenStream::drop-drop-here-requires-in_default-take_group-2 :
     goal.stream::TokenStream::drop-drop-here-requires-in_default-take_group-2
 stream::TokenStream::drop-drop-here-requires-in_default-take_group-2 t c =

@@ -1,4 +1,4 @@
-//! What std collects and extends by.
+//! The traits `FromIterator` and `Extend` for streams.
 ghost use Rattle.pm_stream.specs.Building.{PutsIn, split};
 ghost use Rattle.pm_stream.specs.Forest.{nil};
 
@@ -6,7 +6,7 @@ use crate::stream::{Group, TokenStream, TokenTree};
 use pm_token::{Ident, Literal, Punct};
 use std::alloc::{AllocError, Global};
 
-/// As [`TokenStream::from_trees`].
+/// Collects trees into a stream, as [`TokenStream::from_trees`] does.
 impl FromIterator<TokenTree> for TokenStream {
     type Alloc = Global;
 
@@ -20,7 +20,7 @@ impl FromIterator<TokenTree> for TokenStream {
     }
 }
 
-/// As [`TokenStream::from_streams`].
+/// Collects the trees of streams into one stream, as [`TokenStream::from_streams`] does.
 impl FromIterator<TokenStream> for TokenStream {
     type Alloc = Global;
 
@@ -34,7 +34,7 @@ impl FromIterator<TokenStream> for TokenStream {
     }
 }
 
-/// As [`TokenStream::extend_trees`].
+/// Appends trees, as [`TokenStream::extend_trees`] does.
 impl Extend<TokenTree> for TokenStream {
     ghost extend_gives = { PutsIn split };
 
@@ -43,7 +43,7 @@ impl Extend<TokenTree> for TokenStream {
     }
 }
 
-/// As [`TokenStream::extend_streams`].
+/// Appends the trees of streams, as [`TokenStream::extend_streams`] does.
 impl Extend<TokenStream> for TokenStream {
     ghost extend_gives = { PutsIn (λ stream. stream) };
 
@@ -55,7 +55,7 @@ impl Extend<TokenStream> for TokenStream {
     }
 }
 
-/// As [`TokenStream::extend_groups`].
+/// Appends groups, as [`TokenStream::extend_groups`] does.
 impl Extend<Group> for TokenStream {
     ghost use Rattle.pm_stream.specs.declared.stream.TokenTree.TheVariants.{Group as GroupTree};
 
@@ -66,7 +66,7 @@ impl Extend<Group> for TokenStream {
     }
 }
 
-/// As [`TokenStream::extend_idents`].
+/// Appends identifiers, as [`TokenStream::extend_idents`] does.
 impl Extend<Ident> for TokenStream {
     ghost use Rattle.pm_stream.specs.declared.stream.TokenTree.TheVariants.{Ident as IdentTree};
 
@@ -77,7 +77,7 @@ impl Extend<Ident> for TokenStream {
     }
 }
 
-/// As [`TokenStream::extend_puncts`].
+/// Appends marks, as [`TokenStream::extend_puncts`] does.
 impl Extend<Punct> for TokenStream {
     ghost use Rattle.pm_stream.specs.declared.stream.TokenTree.TheVariants.{Punct as PunctTree};
 
@@ -88,7 +88,7 @@ impl Extend<Punct> for TokenStream {
     }
 }
 
-/// As [`TokenStream::extend_literals`].
+/// Appends literals, as [`TokenStream::extend_literals`] does.
 impl Extend<Literal> for TokenStream {
     ghost use Rattle.pm_stream.specs.declared.stream.TokenTree.TheVariants.{Literal as LiteralTree};
 

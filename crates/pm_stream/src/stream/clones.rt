@@ -5,9 +5,9 @@ ghost use Rattle.pm_stream.specs.Forest.{nil};
 use super::{Group, TokenStream, TokenTree};
 use std::alloc::AllocError;
 
-/// The same trees. They are shared until one of the two streams is changed, so that this takes no
-/// memory, however many they are. It fails only where they have more owners than can be counted, and
-/// never without trees.
+/// Returns a stream of the same trees. They are shared until one of the two streams is changed, so this allocates
+/// nothing, however many trees there are. It fails only if the trees have more owners than can be counted, and never
+/// for an empty stream.
 impl Clone for TokenStream {
     ghost is_clone = { λ stream copy. copy ≡ stream };
 
@@ -28,7 +28,7 @@ impl Clone for TokenStream {
     }
 }
 
-/// The same tree, with the same spans. Fails where memory for its text runs out.
+/// Returns the same tree, with the same spans. Fails if memory for its text runs out.
 impl Clone for TokenTree {
     ghost is_clone = { λ tree copy. copy ≡ tree };
 
@@ -43,7 +43,7 @@ impl Clone for TokenTree {
     }
 }
 
-/// The same group, whose trees are shared as those of a stream are.
+/// Returns the same group. The trees inside are shared, as those of a cloned stream are.
 impl Clone for Group {
     ghost is_clone = { λ group copy. copy ≡ group };
 

@@ -1,9 +1,9 @@
-//! Trees of tokens and groups.
+//! Conversions of tokens and groups to trees.
 
 use super::{Group, TokenTree};
 use pm_token::{Ident, Literal, Punct};
 
-/// The tree that is this group.
+/// Makes a tree of a group.
 impl From<Group> for TokenTree {
     ghost use Rattle.std.specs.Prelude.{◌≡◌};
     ghost use Rattle.pm_stream.specs.declared.stream.TokenTree.TheVariants as trees;
@@ -15,7 +15,7 @@ impl From<Group> for TokenTree {
     }
 }
 
-/// The tree that is this identifier.
+/// Makes a tree of an identifier.
 impl From<Ident> for TokenTree {
     ghost use Rattle.std.specs.Prelude.{◌≡◌};
     ghost use Rattle.pm_stream.specs.declared.stream.TokenTree.TheVariants as trees;
@@ -27,7 +27,7 @@ impl From<Ident> for TokenTree {
     }
 }
 
-/// The tree that is this mark.
+/// Makes a tree of a mark.
 impl From<Punct> for TokenTree {
     ghost use Rattle.std.specs.Prelude.{◌≡◌};
     ghost use Rattle.pm_stream.specs.declared.stream.TokenTree.TheVariants as trees;
@@ -39,7 +39,7 @@ impl From<Punct> for TokenTree {
     }
 }
 
-/// The tree that is this literal.
+/// Makes a tree of a literal.
 impl From<Literal> for TokenTree {
     ghost use Rattle.std.specs.Prelude.{◌≡◌};
     ghost use Rattle.pm_stream.specs.declared.stream.TokenTree.TheVariants as trees;

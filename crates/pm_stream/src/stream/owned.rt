@@ -1,4 +1,4 @@
-//! The trees of a stream as a list of one owner.
+//! The trees of a stream as a list with one owner.
 ghost use Rattle.std.specs.Prelude.{◌≡◌, IfOk};
 ghost use Rattle.pm_stream.specs.Forest.{IsBuilt};
 ghost use Rattle.pm_stream.specs.Trees.{forest, held};
@@ -8,8 +8,8 @@ use std::alloc::{AllocError, Global};
 use std::rc::Rc;
 
 impl TokenStream {
-    /// Its trees, in order. A list that no other stream shares is taken over. Another is copied, which
-    /// fails where memory runs out.
+    /// Returns the stream's trees, in order. A list that no other stream shares is moved. A shared list is copied,
+    /// which fails if memory runs out.
     pub(crate) fn into_list(self) -> Result<Vec<TokenTree>, AllocError>
         ensures value { IfOk result (λ list. forest list.items ≡ self) }
         ensures built { IsBuilt self }
@@ -19,7 +19,7 @@ impl TokenStream {
     }
 }
 
-/// The trees that a stream holds: the list itself where this was its last owner, and else a copy.
+/// Returns the trees that a stream holds: the list itself if this was its last owner, and otherwise a copy.
 fn owned(alloc: Global, trees: Option<Rc<Vec<TokenTree>>>) -> Result<Vec<TokenTree>, AllocError>
     ensures { IfOk result (λ list. forest list.items ≡ held trees) }
 {
@@ -29,7 +29,7 @@ fn owned(alloc: Global, trees: Option<Rc<Vec<TokenTree>>>) -> Result<Vec<TokenTr
     }
 }
 
-/// The list itself where this was its last owner, and else a copy.
+/// Returns the list itself if this was its last owner, and otherwise a copy.
 #[tactic(auto, using(crate::proofs::BuildingLemmas::clones_same))]
 pub(super) fn unshared(shared: Rc<Vec<TokenTree>>) -> Result<Vec<TokenTree>, AllocError>
     ensures { IfOk result (λ list. list.items ≡ shared.value.items) }

@@ -1,4 +1,4 @@
-//! How bytes are written between quotes.
+//! Writes bytes for literals that have quotes.
 ghost use Rattle.std.specs.Prelude.{◌≡◌, ◌<◌, ◌++◌, ◌&&◌, codes, nat_le, nat_lt, true, OnOk};
 ghost use Rattle.std.specs.Fmt.{digit_glyph};
 ghost use Rattle.lexical.specs.Text.{first_passes};
@@ -9,7 +9,7 @@ use crate::escapes::TextBuilder;
 use std::alloc::AllocError;
 
 impl TextBuilder {
-    /// Writes the bytes between these quotes, each by the rules `escaped` and `written-byte`.
+    /// Writes the bytes for a literal in these quotes (`escaped`, `written-byte`).
     pub(crate) fn push_bytes(&mut self, quote: u8, bytes: &[u8]) -> Result<(), AllocError>
         ensures ok { OnOk result (self.new ≡ self.old ++ content quote written_byte bytes.now) }
     {
@@ -21,7 +21,7 @@ impl TextBuilder {
         Ok(())
     }
 
-    /// Writes the byte between these quotes, where the rest of the content follows.
+    /// Writes the byte for a literal in these quotes, whose content goes on with `rest`.
     pub(crate) fn push_byte(&mut self, quote: u8, byte: u8, rest: &[u8]) -> Result<(), AllocError>
         ensures ok { OnOk result (self.new ≡ self.old ++ written quote written_byte byte rest.now) }
     {
@@ -48,7 +48,7 @@ impl TextBuilder {
         }
     }
 
-    /// Writes the byte by its number, as `\xFF`.
+    /// Writes the byte as its number, such as `\xFF`.
     pub(crate) fn push_hex(&mut self, byte: u8) -> Result<(), AllocError>
         ensures ok { OnOk result (self.new ≡ self.old ++ (codes "\\x" ++ hex_pair byte)) }
     {
@@ -58,7 +58,7 @@ impl TextBuilder {
     }
 }
 
-/// Whether the bytes begin with one of the digits 0 to 7.
+/// Returns whether the bytes begin with one of the digits 0 to 7.
 fn begins_octal(bytes: &[u8]) -> bool
     ensures { result ≡ first_passes is_octal_digit bytes.now }
 {
@@ -68,14 +68,14 @@ fn begins_octal(bytes: &[u8]) -> bool
     }
 }
 
-/// Whether the byte prints in ASCII.
+/// Returns whether the byte is a printable ASCII character.
 fn is_bare(byte: u8) -> bool
     ensures { result ≡ (nat_le 32 byte && nat_lt byte 127) }
 {
     byte >= b' ' && byte < 0x7F
 }
 
-/// The hex digit of this value, in upper case.
+/// Returns the hex digit of this value, in upper case.
 fn hex_digit(value: u8) -> char
     requires { value < 16 }
     ensures { result ≡ digit_glyph true value }

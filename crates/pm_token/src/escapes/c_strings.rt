@@ -1,4 +1,4 @@
-//! How the bytes of a C string are written.
+//! Writes the bytes of a C string.
 ghost use Rattle.std.specs.Prelude.{◌≡◌, ◌≢◌, ◌++◌, List, [], IfOk, IsTrue, OnOk};
 ghost use Rattle.pm_token.specs.CString.{AreParts, Part, WritesFront, has_no_zero, parts_text};
 
@@ -6,7 +6,7 @@ use crate::escapes::TextBuilder;
 use std::alloc::AllocError;
 
 impl TextBuilder {
-    /// Writes the bytes, none of which is zero, by the rule `c-string-parts`.
+    /// Writes the bytes, none of which is zero (`c-string-parts`).
     pub(crate) fn push_c_string(&mut self, bytes: &[u8]) -> Result<(), AllocError>
         requires { IsTrue (has_no_zero bytes.now) }
         ensures ok { OnOk result ((parts : List Part) × AreParts parts bytes.now
@@ -19,8 +19,8 @@ impl TextBuilder {
         Ok(())
     }
 
-    /// Writes the text at the front of the bytes, and the byte after it that begins no character.
-    /// Answers the bytes after these.
+    /// Writes the text that the bytes begin with, and the byte after it, which begins no character. It returns
+    /// the bytes after that byte.
     fn push_front<'a>(&mut self, bytes: &'a [u8]) -> Result<&'a [u8], AllocError>
         requires nonzero { IsTrue (has_no_zero bytes.now) }
         requires some { bytes.now ≢ [] }

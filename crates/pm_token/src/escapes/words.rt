@@ -1,14 +1,14 @@
-//! The front of a string's text that stands for itself, by words of 8 bytes.
+//! Counts the first bytes of a text that need no escape in a string, in words of 8 bytes.
 ghost use Rattle.std.specs.Prelude.{◌≡◌, ◌<◌, IfNone, IfSome, length};
 ghost use Rattle.lexical.specs.Finder.{while_front};
 ghost use Rattle.pm_token.specs.Escaped.{is_plain_ascii};
 
 use crate::escapes::count_by_bytes;
 
-/// How many of the 8 bytes stand for themselves between double quotes, from the first of them on: `None` says all.
+/// Returns how many of the first bytes need no escape between double quotes, or `None` if no byte needs one.
 ///
-/// They are looked at in one word. Without its highest bit, a byte sets that bit of each sum unless it is a control
-/// character, DEL, a backslash or a quote.
+/// All 8 are tested in one word, without their highest bits. Each addition sets that bit again unless the byte
+/// is one that it looks for: a control character, DEL, a backslash or a quote.
 #[inline(always)]
 fn count_in_word(bytes: &[u8; 8]) -> Option<usize>
     ensures all { IfNone result (8 ≡ length (while_front (is_plain_ascii 34) bytes.now)) }
@@ -28,7 +28,7 @@ fn count_in_word(bytes: &[u8; 8]) -> Option<usize>
     Some((stops.trailing_zeros() / 8) as usize)
 }
 
-/// How many bytes at the front are ASCII characters that stand for themselves between double quotes.
+/// Returns how many of the first bytes are ASCII characters that need no escape between double quotes.
 pub(crate) fn count_in_string(bytes: &[u8]) -> usize
     ensures { result ≡ length (while_front (is_plain_ascii 34) bytes.now) }
 {

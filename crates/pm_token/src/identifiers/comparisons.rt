@@ -1,4 +1,4 @@
-//! Identifiers are compared, ordered and hashed by the bytes that they are written with.
+//! Equality, order and hash of identifiers. All three use the bytes of an identifier as it is written.
 ghost use Rattle.std.specs.Prelude.{◌≡◌, ◌↔◌, ◌∷◌, ◌++◌, [], IsTrue, Some, fold, refl};
 ghost use Rattle.std.specs.Cmp.{on_equiv, on_per, on_po, on_total, partial_equiv_from_equiv};
 ghost use Rattle.std.specs.Cmp.Lexicographic.{nat_list_cmp_total, nat_list_eq_equiv, texts_po, texts_ties};
@@ -14,8 +14,8 @@ impl PartialEq for Ident {
 
     ghost laws = { on_per spelling (partial_equiv_from_equiv nat_list_eq_equiv) };
 
-    /// Whether both have the same name, and both are raw or both plain, by the rule
-    /// `identifier-equality`. Their spans don't count.
+    /// Returns whether both have the same name, and are both raw or both plain (`identifier-equality`). Spans
+    /// are ignored.
     #[inline(always)]
     fn eq(&self, other: &Ident) -> bool
         ensures value { result ≡ name_eq self.now other.now }
@@ -49,8 +49,8 @@ impl Ord for Ident {
 
     ghost matches_eq = { λ a b. texts_ties (spelling a) (spelling b) };
 
-    /// The order of the bytes that the identifiers are written with, by the rule
-    /// `identifier-order`: `r`, then raw `a`, then `ra`.
+    /// Compares the bytes of both identifiers as they are written (`identifier-order`): `r`, then raw `a`, then
+    /// `ra`.
     fn cmp(&self, other: &Ident) -> Ordering
         ensures value { result ≡ name_cmp self.now other.now }
         ensures equal { (result ≡ Ordering.Equal) ↔ (name_text self.now ≡ name_text other.now) }
@@ -61,7 +61,7 @@ impl Ord for Ident {
         if raw == other.name.is_raw() {
             return name.cmp(other_name);
         }
-        // A plain name has no `#`, so that its first two characters decide.
+        // A plain name has no `#`, so its first two characters decide.
         if raw {
             "r#".cmp(other_name)
         } else {
@@ -75,8 +75,8 @@ impl Hash for Ident {
 
     ghost respects_eq = { fed_alike };
 
-    /// Feeds the hasher what the text of the identifier does, but `r#` in a write of its own, by the
-    /// rule `identifier-hash`.
+    /// Feeds the hasher what the text of the identifier would, but `r#` in a separate write
+    /// (`identifier-hash`).
     fn hash<H: Hasher>(&self, state: &mut H)
         ensures value { state.new ≡ fold H.write state.old (fed_for (spelling self.now)) }
         ensures text { concat (fed_for (spelling self.now)) ≡ spelling self.now ++ 255 ∷ [] }

@@ -1,4 +1,4 @@
-//! Which names identifiers refuse.
+//! Tests whether a name is valid for an identifier.
 ghost use Rattle.std.specs.Prelude.{◌≡◌, ◌==◌, Bool, IsTrue, None, Some, false, length};
 ghost use Rattle.std.specs.Str.{chars};
 ghost use Rattle.std.specs.List.{list_all};
@@ -12,19 +12,19 @@ use std::alloc::AllocError;
 use std::error::Error;
 use std::fmt;
 
-/// Why an identifier was not made: the first of these that holds of its name.
+/// Why a name is not valid for an identifier: the first variant that is true of the name.
 #[derive(Debug, Drop, PartialEq, Eq)]
 pub enum IdentError {
-    /// It has no character.
+    /// The name has no characters.
     Empty,
-    /// It has ASCII digits only, as `255`.
+    /// The name has only ASCII digits, such as `255`.
     Number,
-    /// It isn't a character that may begin an identifier and then characters that may go on with
-    /// one, as `a#`.
+    /// The name is not a character that may begin an identifier, followed by characters that may continue one.
+    /// An example is `a#`.
     Invalid,
-    /// It is `_`, `super`, `self`, `Self` or `crate`, which no raw identifier is called.
+    /// The name is `_`, `super`, `self`, `Self` or `crate`, which a raw identifier can't have.
     Reserved,
-    /// Memory ran out, and none of the others holds.
+    /// Memory ran out. The name is valid.
     Memory(AllocError),
 }
 
@@ -57,21 +57,21 @@ impl From<AllocError> for IdentError {
     }
 }
 
-/// Whether the text has no character.
+/// Returns whether the text has no characters.
 fn is_empty(text: &str) -> bool
     ensures { result ≡ (length (chars text.now) == 0) }
 {
     text.is_empty()
 }
 
-/// Whether the text has ASCII digits only.
+/// Returns whether the text has only ASCII digits.
 fn is_number(text: &str) -> bool
     ensures { result ≡ digits_only (chars text.now) }
 {
     text.chars().all(|c| c.is_ascii_digit())
 }
 
-/// Whether an identifier may begin with the character, by the rule `identifier-start`.
+/// Returns whether an identifier may begin with the character (`identifier-start`).
 fn begins_name(c: char) -> bool
     ensures { result ≡ is_ident_start c }
 {
@@ -81,15 +81,15 @@ fn begins_name(c: char) -> bool
     !c.is_whitespace() && c != '\u{200E}' && c != '\u{200F}' && c != '\u{FEFF}'
 }
 
-/// Whether an identifier may go on with each of the characters, by the rule `identifier-continue`.
+/// Returns whether each of the characters may continue an identifier (`identifier-continue`).
 fn all_continue(text: &str) -> bool
     ensures { result ≡ list_all is_ident_continue (chars text.now) }
 {
     text.chars().all(|c| unicode_ident::is_xid_continue(c))
 }
 
-/// Whether the whole text is a name.
-// It looks at each character once, which the lexer's steps to the end of a name don't.
+/// Returns whether the whole text is a name.
+// This reads each character once, while the lexer's search for the end of a name may read some twice.
 #[tactic(auto, using(std::proofs::lemmas::Str::chars_past_char))]
 fn is_name(text: &str) -> bool
     ensures { result ≡ name_only (chars text.now) }
@@ -101,7 +101,7 @@ fn is_name(text: &str) -> bool
     }
 }
 
-/// Whether the byte is an ASCII letter or `_`.
+/// Returns whether the byte is an ASCII letter or `_`.
 #[inline(always)]
 fn begins_plain(byte: u8) -> bool
     ensures { result ≡ is_plain_start byte }
@@ -109,12 +109,12 @@ fn begins_plain(byte: u8) -> bool
     byte.is_ascii_alphabetic() || byte == b'_'
 }
 
-/// Words that make the table below a square.
+/// Short words that make the table below a square.
 const NO: bool = false;
 
 const YES: bool = true;
 
-/// Whether each byte is an ASCII letter, a digit or `_`.
+/// For each byte, whether it is an ASCII letter, a digit or `_`.
 #[rattlefmt::skip]
 static CONTINUES: [bool; 256] = [
     NO, NO, NO, NO, NO, NO, NO, NO, NO, NO, NO, NO, NO, NO, NO, NO,
@@ -135,7 +135,7 @@ static CONTINUES: [bool; 256] = [
     NO, NO, NO, NO, NO, NO, NO, NO, NO, NO, NO, NO, NO, NO, NO, NO,
 ];
 
-/// Whether the byte is an ASCII letter, a digit or `_`.
+/// Returns whether the byte is an ASCII letter, a digit or `_`.
 #[inline(always)]
 fn continues_plain(byte: u8) -> bool
     ensures { result ≡ is_plain_continue byte }
@@ -143,7 +143,7 @@ fn continues_plain(byte: u8) -> bool
     CONTINUES[byte as usize]
 }
 
-/// How many bytes at the front are ASCII letters, digits or `_`.
+/// Returns how many of the first bytes are ASCII letters, digits or `_`.
 #[inline(always)]
 fn count_plain(bytes: &[u8]) -> usize
     ensures { result ≡ length (while_front is_plain_continue bytes.now) }
@@ -158,7 +158,7 @@ fn count_plain(bytes: &[u8]) -> usize
     count
 }
 
-/// Whether the text is a name of ASCII letters, digits and `_`. It says nothing of other names.
+/// Returns whether the text is a name of ASCII letters, digits and `_`. Other names are left to `other_fault`.
 #[inline(always)]
 fn is_plain_name(text: &str) -> bool
     ensures { IsTrue result → (ident_fault false (chars text.now) ≡ None) }
@@ -172,8 +172,8 @@ fn is_plain_name(text: &str) -> bool
     count_plain(rest) == rest.len()
 }
 
-/// Why no identifier has the name, by the rule `identifier-fault`.
-// Most names are ASCII, which one look at their bytes tells.
+/// Returns why the name is not valid, if it isn't (`identifier-fault`).
+// Most names are ASCII, and one pass over the bytes decides about these.
 #[inline(always)]
 pub(crate) fn fault(name: &str, raw: bool) -> Option<IdentError>
     ensures { result ≡ ident_fault raw (chars name.now) }
@@ -184,7 +184,7 @@ pub(crate) fn fault(name: &str, raw: bool) -> Option<IdentError>
     other_fault(name, raw)
 }
 
-/// The same of any name.
+/// Does what `fault` does, for any name.
 #[inline(never)]
 fn other_fault(name: &str, raw: bool) -> Option<IdentError>
     ensures { result ≡ ident_fault raw (chars name.now) }
@@ -198,7 +198,7 @@ fn other_fault(name: &str, raw: bool) -> Option<IdentError>
     None
 }
 
-/// Why a text that is no name is none.
+/// Returns why a text is not a name.
 fn fault_of_other(text: &str) -> IdentError
     requires { name_only (chars text.now) ≡ false }
     ensures { (raw : Bool) → ident_fault raw (chars text.now) ≡ Some result }

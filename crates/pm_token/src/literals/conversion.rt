@@ -1,4 +1,4 @@
-//! Why a literal has no value.
+//! The errors of a literal that has no value.
 ghost use Rattle.std.specs.Prelude.{◌≡◌, alloc_error};
 ghost use Rattle.pm_token.specs.declared.literals.conversion.ConversionErrorKind.TheVariants.{FailedToUnescape, Memory};
 
@@ -7,13 +7,13 @@ use std::alloc::{AllocError, AllocFailed};
 use std::error::Error;
 use std::fmt;
 
-/// Why the value of a literal was not answered.
+/// The reason why a literal's value was not returned.
 #[derive(Debug, Drop, PartialEq, Eq)]
 pub enum ConversionErrorKind {
-    /// The last fault of the content, where a warning is none: `BareCarriageReturn` for `"a` CR LF
-    /// `b"`.
+    /// The content has a syntax error; this is the last one, and warnings don't count. `"a` CR LF `b"` gives
+    /// `BareCarriageReturn`.
     FailedToUnescape(EscapeError),
-    /// It isn't a literal of the kind that was asked for, or it has a suffix: `1`, or `"a"s`.
+    /// The literal is of another kind than the call reads, or it has a suffix: `1`, or `"a"s`.
     InvalidLiteralKind,
     /// Memory ran out.
     Memory(AllocError),

@@ -1,4 +1,4 @@
-//! The literals of integers.
+//! Makes the literals of integers.
 ghost use Rattle.std.specs.Prelude.{◌≡◌, ◌++◌, IfOk, codes};
 ghost use Rattle.std.specs.Fmt.{decimal, signed_decimal};
 ghost use Rattle.pm_span.specs.Extent.{nowhere};
@@ -11,7 +11,7 @@ use itoa::Buffer;
 use pm_span::Span;
 use std::alloc::{AllocError, Global};
 
-/// What stands after the digits of a number: nothing, or the name of a type.
+/// The text after the digits of a number: nothing, or the name of a type.
 #[derive(Clone, Copy)]
 enum Suffix {
     /// Nothing.
@@ -43,7 +43,7 @@ enum Suffix {
 }
 
 impl Suffix {
-    /// The suffix as it is written.
+    /// Returns the suffix as it is written.
     #[inline(always)]
     fn name(self) -> &'static str
         ensures { result.now ≡ suffix_text self }
@@ -66,7 +66,7 @@ impl Suffix {
     }
 }
 
-/// The text of a number of 64 bits and its suffix. Fails where memory runs out.
+/// Returns the text of a number of 64 bits with its suffix. Out of memory is the only error.
 #[inline(always)]
 fn narrow_unsigned(alloc: Global, value: u64, suffix: Suffix) -> Result<Symbol, AllocError>
     ensures value { IfOk result (λ text. text ≡ decimal value ++ suffix_text suffix) }
@@ -78,7 +78,7 @@ fn narrow_unsigned(alloc: Global, value: u64, suffix: Suffix) -> Result<Symbol, 
     }
 }
 
-/// The same of a number with a sign.
+/// Returns the text of a signed number of 64 bits with its suffix. Out of memory is the only error.
 #[inline(always)]
 fn narrow_signed(alloc: Global, value: i64, suffix: Suffix) -> Result<Symbol, AllocError>
     ensures value { IfOk result (λ text. text ≡ signed_decimal value ++ suffix_text suffix) }
@@ -90,7 +90,7 @@ fn narrow_signed(alloc: Global, value: i64, suffix: Suffix) -> Result<Symbol, Al
     }
 }
 
-/// The text of any number and its suffix. Fails where memory runs out.
+/// Returns the text of any number with its suffix. Out of memory is the only error.
 fn wide_unsigned(alloc: Global, value: u128, suffix: Suffix) -> Result<Symbol, AllocError>
     ensures value { IfOk result (λ text. text ≡ decimal value ++ suffix_text suffix) }
     ensures text { IfOk result IsText }
@@ -100,7 +100,7 @@ fn wide_unsigned(alloc: Global, value: u128, suffix: Suffix) -> Result<Symbol, A
     Ok(text)
 }
 
-/// The same of a number with a sign.
+/// Returns the text of any signed number with its suffix. Out of memory is the only error.
 fn wide_signed(alloc: Global, value: i128, suffix: Suffix) -> Result<Symbol, AllocError>
     ensures value { IfOk result (λ text. text ≡ signed_decimal value ++ suffix_text suffix) }
     ensures text { IfOk result IsText }
@@ -110,7 +110,7 @@ fn wide_signed(alloc: Global, value: i128, suffix: Suffix) -> Result<Symbol, All
     Ok(text)
 }
 
-/// The text of a number and its suffix. Fails where memory runs out.
+/// Returns the text of a number with its suffix, in a faster way for 64 bits. Out of memory is the only error.
 #[inline(always)]
 fn unsigned_text(alloc: Global, value: u128, suffix: Suffix) -> Result<Symbol, AllocError>
     ensures value { IfOk result (λ text. text ≡ decimal value ++ suffix_text suffix) }
@@ -122,7 +122,7 @@ fn unsigned_text(alloc: Global, value: u128, suffix: Suffix) -> Result<Symbol, A
     wide_unsigned(alloc, value, suffix)
 }
 
-/// The same of a number with a sign.
+/// Returns the text of a signed number with its suffix, as `unsigned_text` does. Out of memory is the only error.
 #[inline(always)]
 fn signed_text(alloc: Global, value: i128, suffix: Suffix) -> Result<Symbol, AllocError>
     ensures value { IfOk result (λ text. text ≡ signed_decimal value ++ suffix_text suffix) }
@@ -134,7 +134,7 @@ fn signed_text(alloc: Global, value: i128, suffix: Suffix) -> Result<Symbol, All
     wide_signed(alloc, value, suffix)
 }
 
-/// The literal of a number without a sign.
+/// Makes the literal of a number without a sign.
 #[inline(always)]
 fn unsigned(alloc: Global, value: u128, suffix: Suffix) -> Result<Literal, AllocError>
     ensures ok { IfOk result (λ literal.
@@ -146,7 +146,7 @@ fn unsigned(alloc: Global, value: u128, suffix: Suffix) -> Result<Literal, Alloc
     })
 }
 
-/// The literal of a number, with `-` before it where it is negative.
+/// Makes the literal of a number, with `-` before it if it is negative.
 #[inline(always)]
 fn signed(alloc: Global, value: i128, suffix: Suffix) -> Result<Literal, AllocError>
     ensures ok { IfOk result (λ literal.
@@ -158,13 +158,13 @@ fn signed(alloc: Global, value: i128, suffix: Suffix) -> Result<Literal, AllocEr
     })
 }
 
-/// The literals of integers.
+/// Literals of integers.
 ///
-/// Without a suffix the literal is the decimal text of the number, by the rule `integer-text`, which
-/// is the same for a number of a wider type; with one the type's name follows it.
+/// A literal without a suffix is the decimal text of the number (`integer-text`), which is the same for
+/// a wider type. A literal with a suffix has the type's name after the digits.
 impl Literal {
-    /// The literal of the number, without its type, with the span 0..0. For 255 it is `255`.
-    /// Fails where memory runs out.
+    /// Makes the literal of the number without a suffix, with the span 0..0. For 255 it is `255`.
+    /// Out of memory is the only error.
     #[inline]
     pub fn u8_unsuffixed(alloc: Global, value: u8) -> Result<Literal, AllocError>
         ensures ok { IfOk result (λ literal.
@@ -173,8 +173,8 @@ impl Literal {
         Literal::u16_unsuffixed(alloc, u16::from(value))
     }
 
-    /// The literal of the number, without its type, with the span 0..0. For 65535 it is `65535`.
-    /// Fails where memory runs out.
+    /// Makes the literal of the number without a suffix, with the span 0..0. For 65535 it is `65535`.
+    /// Out of memory is the only error.
     #[inline]
     pub fn u16_unsuffixed(alloc: Global, value: u16) -> Result<Literal, AllocError>
         ensures ok { IfOk result (λ literal.
@@ -183,8 +183,8 @@ impl Literal {
         Literal::u32_unsuffixed(alloc, u32::from(value))
     }
 
-    /// The literal of the number, without its type, with the span 0..0. For 3 it is `3`.
-    /// Fails where memory runs out.
+    /// Makes the literal of the number without a suffix, with the span 0..0. For 3 it is `3`.
+    /// Out of memory is the only error.
     #[inline]
     pub fn u32_unsuffixed(alloc: Global, value: u32) -> Result<Literal, AllocError>
         ensures ok { IfOk result (λ literal.
@@ -193,8 +193,8 @@ impl Literal {
         Literal::u64_unsuffixed(alloc, u64::from(value))
     }
 
-    /// The literal of the number, without its type, with the span 0..0. For 10 it is `10`.
-    /// Fails where memory runs out.
+    /// Makes the literal of the number without a suffix, with the span 0..0. For 10 it is `10`.
+    /// Out of memory is the only error.
     #[inline]
     pub fn u64_unsuffixed(alloc: Global, value: u64) -> Result<Literal, AllocError>
         ensures ok { IfOk result (λ literal.
@@ -203,8 +203,8 @@ impl Literal {
         Literal::u128_unsuffixed(alloc, u128::from(value))
     }
 
-    /// The literal of the number, without its type, with the span 0..0. For 7 it is `7`.
-    /// Fails where memory runs out.
+    /// Makes the literal of the number without a suffix, with the span 0..0. For 7 it is `7`.
+    /// Out of memory is the only error.
     #[inline]
     pub fn u128_unsuffixed(alloc: Global, value: u128) -> Result<Literal, AllocError>
         ensures ok { IfOk result (λ literal.
@@ -213,8 +213,8 @@ impl Literal {
         unsigned(alloc, value, Suffix::Nothing)
     }
 
-    /// The literal of the number, without its type, with the span 0..0. For 0 it is `0`.
-    /// Fails where memory runs out.
+    /// Makes the literal of the number without a suffix, with the span 0..0. For 0 it is `0`.
+    /// Out of memory is the only error.
     #[inline]
     pub fn usize_unsuffixed(alloc: Global, value: usize) -> Result<Literal, AllocError>
         ensures ok { IfOk result (λ literal.
@@ -223,8 +223,8 @@ impl Literal {
         unsigned(alloc, value as u128, Suffix::Nothing)
     }
 
-    /// The literal of the number and `u8`, with the span 0..0. For 255 it is `255u8`.
-    /// Fails where memory runs out.
+    /// Makes the literal of the number followed by `u8`, with the span 0..0. For 255 it is `255u8`.
+    /// Out of memory is the only error.
     #[inline]
     pub fn u8_suffixed(alloc: Global, value: u8) -> Result<Literal, AllocError>
         ensures ok { IfOk result (λ literal.
@@ -233,8 +233,8 @@ impl Literal {
         unsigned(alloc, u128::from(value), Suffix::U8)
     }
 
-    /// The literal of the number and `u16`, with the span 0..0. For 65535 it is `65535u16`.
-    /// Fails where memory runs out.
+    /// Makes the literal of the number followed by `u16`, with the span 0..0. For 65535 it is `65535u16`.
+    /// Out of memory is the only error.
     #[inline]
     pub fn u16_suffixed(alloc: Global, value: u16) -> Result<Literal, AllocError>
         ensures ok { IfOk result (λ literal.
@@ -243,8 +243,8 @@ impl Literal {
         unsigned(alloc, u128::from(value), Suffix::U16)
     }
 
-    /// The literal of the number and `u32`, with the span 0..0. For 3 it is `3u32`.
-    /// Fails where memory runs out.
+    /// Makes the literal of the number followed by `u32`, with the span 0..0. For 3 it is `3u32`.
+    /// Out of memory is the only error.
     #[inline]
     pub fn u32_suffixed(alloc: Global, value: u32) -> Result<Literal, AllocError>
         ensures ok { IfOk result (λ literal.
@@ -253,8 +253,8 @@ impl Literal {
         unsigned(alloc, u128::from(value), Suffix::U32)
     }
 
-    /// The literal of the number and `u64`, with the span 0..0. For 10 it is `10u64`.
-    /// Fails where memory runs out.
+    /// Makes the literal of the number followed by `u64`, with the span 0..0. For 10 it is `10u64`.
+    /// Out of memory is the only error.
     #[inline]
     pub fn u64_suffixed(alloc: Global, value: u64) -> Result<Literal, AllocError>
         ensures ok { IfOk result (λ literal.
@@ -263,8 +263,8 @@ impl Literal {
         unsigned(alloc, u128::from(value), Suffix::U64)
     }
 
-    /// The literal of the number and `u128`, with the span 0..0. For 7 it is `7u128`.
-    /// Fails where memory runs out.
+    /// Makes the literal of the number followed by `u128`, with the span 0..0. For 7 it is `7u128`.
+    /// Out of memory is the only error.
     #[inline]
     pub fn u128_suffixed(alloc: Global, value: u128) -> Result<Literal, AllocError>
         ensures ok { IfOk result (λ literal.
@@ -273,8 +273,8 @@ impl Literal {
         unsigned(alloc, value, Suffix::U128)
     }
 
-    /// The literal of the number and `usize`, with the span 0..0. For 0 it is `0usize`.
-    /// Fails where memory runs out.
+    /// Makes the literal of the number followed by `usize`, with the span 0..0. For 0 it is `0usize`.
+    /// Out of memory is the only error.
     #[inline]
     pub fn usize_suffixed(alloc: Global, value: usize) -> Result<Literal, AllocError>
         ensures ok { IfOk result (λ literal.
@@ -283,8 +283,8 @@ impl Literal {
         unsigned(alloc, value as u128, Suffix::Usize)
     }
 
-    /// The literal of the number, without its type, with the span 0..0. For -128 it is `-128`.
-    /// Fails where memory runs out.
+    /// Makes the literal of the number without a suffix, with the span 0..0. For -128 it is `-128`.
+    /// Out of memory is the only error.
     #[inline]
     pub fn i8_unsuffixed(alloc: Global, value: i8) -> Result<Literal, AllocError>
         ensures ok { IfOk result (λ literal.
@@ -293,8 +293,8 @@ impl Literal {
         Literal::i16_unsuffixed(alloc, i16::from(value))
     }
 
-    /// The literal of the number, without its type, with the span 0..0. For -3 it is `-3`.
-    /// Fails where memory runs out.
+    /// Makes the literal of the number without a suffix, with the span 0..0. For -3 it is `-3`.
+    /// Out of memory is the only error.
     #[inline]
     pub fn i16_unsuffixed(alloc: Global, value: i16) -> Result<Literal, AllocError>
         ensures ok { IfOk result (λ literal.
@@ -303,8 +303,8 @@ impl Literal {
         Literal::i32_unsuffixed(alloc, i32::from(value))
     }
 
-    /// The literal of the number, without its type, with the span 0..0. For -3 it is `-3`.
-    /// Fails where memory runs out.
+    /// Makes the literal of the number without a suffix, with the span 0..0. For -3 it is `-3`.
+    /// Out of memory is the only error.
     #[inline]
     pub fn i32_unsuffixed(alloc: Global, value: i32) -> Result<Literal, AllocError>
         ensures ok { IfOk result (λ literal.
@@ -313,8 +313,8 @@ impl Literal {
         Literal::i64_unsuffixed(alloc, i64::from(value))
     }
 
-    /// The literal of the number, without its type, with the span 0..0. For 12 it is `12`.
-    /// Fails where memory runs out.
+    /// Makes the literal of the number without a suffix, with the span 0..0. For 12 it is `12`.
+    /// Out of memory is the only error.
     #[inline]
     pub fn i64_unsuffixed(alloc: Global, value: i64) -> Result<Literal, AllocError>
         ensures ok { IfOk result (λ literal.
@@ -323,8 +323,8 @@ impl Literal {
         Literal::i128_unsuffixed(alloc, i128::from(value))
     }
 
-    /// The literal of the number, without its type, with the span 0..0. For -1 it is `-1`.
-    /// Fails where memory runs out.
+    /// Makes the literal of the number without a suffix, with the span 0..0. For -1 it is `-1`.
+    /// Out of memory is the only error.
     #[inline]
     pub fn i128_unsuffixed(alloc: Global, value: i128) -> Result<Literal, AllocError>
         ensures ok { IfOk result (λ literal.
@@ -333,8 +333,8 @@ impl Literal {
         signed(alloc, value, Suffix::Nothing)
     }
 
-    /// The literal of the number, without its type, with the span 0..0. For 0 it is `0`.
-    /// Fails where memory runs out.
+    /// Makes the literal of the number without a suffix, with the span 0..0. For 0 it is `0`.
+    /// Out of memory is the only error.
     #[inline]
     pub fn isize_unsuffixed(alloc: Global, value: isize) -> Result<Literal, AllocError>
         ensures ok { IfOk result (λ literal.
@@ -343,8 +343,8 @@ impl Literal {
         signed(alloc, value as i128, Suffix::Nothing)
     }
 
-    /// The literal of the number and `i8`, with the span 0..0. For -128 it is `-128i8`.
-    /// Fails where memory runs out.
+    /// Makes the literal of the number followed by `i8`, with the span 0..0. For -128 it is `-128i8`.
+    /// Out of memory is the only error.
     #[inline]
     pub fn i8_suffixed(alloc: Global, value: i8) -> Result<Literal, AllocError>
         ensures ok { IfOk result (λ literal.
@@ -353,8 +353,8 @@ impl Literal {
         signed(alloc, i128::from(value), Suffix::I8)
     }
 
-    /// The literal of the number and `i16`, with the span 0..0. For -3 it is `-3i16`.
-    /// Fails where memory runs out.
+    /// Makes the literal of the number followed by `i16`, with the span 0..0. For -3 it is `-3i16`.
+    /// Out of memory is the only error.
     #[inline]
     pub fn i16_suffixed(alloc: Global, value: i16) -> Result<Literal, AllocError>
         ensures ok { IfOk result (λ literal.
@@ -363,8 +363,8 @@ impl Literal {
         signed(alloc, i128::from(value), Suffix::I16)
     }
 
-    /// The literal of the number and `i32`, with the span 0..0. For -3 it is `-3i32`.
-    /// Fails where memory runs out.
+    /// Makes the literal of the number followed by `i32`, with the span 0..0. For -3 it is `-3i32`.
+    /// Out of memory is the only error.
     #[inline]
     pub fn i32_suffixed(alloc: Global, value: i32) -> Result<Literal, AllocError>
         ensures ok { IfOk result (λ literal.
@@ -373,8 +373,8 @@ impl Literal {
         signed(alloc, i128::from(value), Suffix::I32)
     }
 
-    /// The literal of the number and `i64`, with the span 0..0. For 12 it is `12i64`.
-    /// Fails where memory runs out.
+    /// Makes the literal of the number followed by `i64`, with the span 0..0. For 12 it is `12i64`.
+    /// Out of memory is the only error.
     #[inline]
     pub fn i64_suffixed(alloc: Global, value: i64) -> Result<Literal, AllocError>
         ensures ok { IfOk result (λ literal.
@@ -383,8 +383,8 @@ impl Literal {
         signed(alloc, i128::from(value), Suffix::I64)
     }
 
-    /// The literal of the number and `i128`, with the span 0..0. For -1 it is `-1i128`.
-    /// Fails where memory runs out.
+    /// Makes the literal of the number followed by `i128`, with the span 0..0. For -1 it is `-1i128`.
+    /// Out of memory is the only error.
     #[inline]
     pub fn i128_suffixed(alloc: Global, value: i128) -> Result<Literal, AllocError>
         ensures ok { IfOk result (λ literal.
@@ -393,8 +393,8 @@ impl Literal {
         signed(alloc, value, Suffix::I128)
     }
 
-    /// The literal of the number and `isize`, with the span 0..0. For 0 it is `0isize`.
-    /// Fails where memory runs out.
+    /// Makes the literal of the number followed by `isize`, with the span 0..0. For 0 it is `0isize`.
+    /// Out of memory is the only error.
     #[inline]
     pub fn isize_suffixed(alloc: Global, value: isize) -> Result<Literal, AllocError>
         ensures ok { IfOk result (λ literal.

@@ -1,4 +1,4 @@
-//! Negative literals in two parts.
+//! Splits a negative literal into its `-` and its number.
 ghost use Rattle.std.specs.Prelude.{◌≡◌, MatchOption, false, true};
 ghost use Rattle.pm_token.specs.Negative.{has_minus, minus_of, number_of};
 
@@ -6,7 +6,7 @@ use crate::literals::Literal;
 use crate::marks::{Punct, Spacing};
 
 impl Literal {
-    /// The `-` of a negative literal, and the rest.
+    /// Splits a negative literal into its `-` and its number. Any other literal is returned whole.
     pub(crate) fn split_minus(self) -> (Option<Punct>, Literal)
         ensures { MatchOption result.0 ((has_minus self.text ≡ false) × (result.1 ≡ self))
             (λ minus. (has_minus self.text ≡ true)

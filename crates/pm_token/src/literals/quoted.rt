@@ -1,4 +1,4 @@
-//! The literals of texts, characters and bytes.
+//! Makes literals of texts, characters and bytes.
 ghost use Rattle.std.specs.Prelude.{◌≡◌, IfOk, IfSome, IsTrue};
 ghost use Rattle.std.specs.Str.{chars};
 ghost use Rattle.pm_span.specs.Extent.{nowhere};
@@ -13,7 +13,7 @@ use pm_span::Span;
 use std::alloc::{AllocError, Global};
 use std::str;
 
-/// The text of the character between quotes, if it is ASCII and stands for itself. It takes no memory.
+/// Returns the character literal's text if the character is ASCII and needs no escape. This allocates nothing.
 fn plain_character(c: char) -> Option<Symbol>
     ensures value { IfSome result (λ text. text ≡ character_text c) }
     ensures text { IfSome result IsText }
@@ -29,7 +29,7 @@ fn plain_character(c: char) -> Option<Symbol>
     Some(text)
 }
 
-/// The text of the character between quotes. Fails where memory runs out.
+/// Returns the text of the character's literal. Out of memory is the only error.
 fn between_quotes(alloc: Global, c: char) -> Result<Symbol, AllocError>
     ensures value { IfOk result (λ text. text ≡ character_text c) }
     ensures text { IfOk result IsText }
@@ -45,10 +45,10 @@ fn between_quotes(alloc: Global, c: char) -> Result<Symbol, AllocError>
     Ok(text)
 }
 
-/// The literals of texts, characters and bytes.
+/// Literals of texts, characters and bytes.
 impl Literal {
-    /// The string literal of the text, by the rule `string-text`, with the span 0..0. For CR, a quote
-    /// and U+0301 it is `"\r\"\u{301}"`. Fails where memory runs out.
+    /// Makes the string literal of the text (`string-text`), with the span 0..0. For CR, a quote and U+0301 it
+    /// is `"\r\"\u{301}"`. Out of memory is the only error.
     pub fn string(alloc: Global, text: &str) -> Result<Literal, AllocError>
         ensures ok { IfOk result (λ literal.
             literal ≡ record { text = string_text (chars text.now); span = nowhere }) }
@@ -56,12 +56,12 @@ impl Literal {
         Literal::string_at(alloc, text, Span::call_site())
     }
 
-    /// The string literal of the text, where it stands. Fails where memory runs out.
+    /// Makes the string literal of the text, with this span. Out of memory is the only error.
     pub(crate) fn string_at(alloc: Global, text: &str, span: Span) -> Result<Literal, AllocError>
         ensures ok { IfOk result (λ literal.
             literal ≡ record { text = string_text (chars text.now); span = span }) }
     {
-        // Most texts have nothing to escape. One that has grows.
+        // Most texts have nothing to escape. Otherwise the builder grows.
         let mut builder = TextBuilder::with_room(alloc, text.len() + 2)?;
         builder.push('"')?;
         builder.push_content('"', text)?;
@@ -72,8 +72,8 @@ impl Literal {
         })
     }
 
-    /// The literal of the character, by the rule `character-text`, with the span 0..0. For `'` it is
-    /// `'\''`, for `"` it is `'"'`. Fails where memory runs out.
+    /// Makes the literal of the character (`character-text`), with the span 0..0. For `'` it is `'\''`, and for
+    /// `"` it is `'"'`. Out of memory is the only error.
     pub fn character(alloc: Global, c: char) -> Result<Literal, AllocError>
         ensures ok { IfOk result (λ literal.
             literal ≡ record { text = character_text c; span = nowhere }) }
@@ -84,8 +84,8 @@ impl Literal {
         })
     }
 
-    /// The literal of the byte, by the rule `byte-text`, with the span 0..0. For 0x1F it is
-    /// `b'\x1F'`. Fails where memory runs out.
+    /// Makes the literal of the byte (`byte-text`), with the span 0..0. For 0x1F it is `b'\x1F'`. Out of memory
+    /// is the only error.
     pub fn byte_character(alloc: Global, byte: u8) -> Result<Literal, AllocError>
         ensures ok { IfOk result (λ literal.
             literal ≡ record { text = byte_text byte; span = nowhere }) }
@@ -101,8 +101,8 @@ impl Literal {
         })
     }
 
-    /// The byte string literal of the bytes, by the rule `byte-string-text`, with the span 0..0. For
-    /// `"`, 0 and `7` it is `b"\"\x007"`. Fails where memory runs out.
+    /// Makes the byte string literal of the bytes (`byte-string-text`), with the span 0..0. For `"`, 0 and `7`
+    /// it is `b"\"\x007"`. Out of memory is the only error.
     pub fn byte_string(alloc: Global, bytes: &[u8]) -> Result<Literal, AllocError>
         ensures ok { IfOk result (λ literal.
             literal ≡ record { text = byte_string_text bytes.now; span = nowhere }) }
@@ -118,9 +118,9 @@ impl Literal {
         })
     }
 
-    /// The C string literal of the bytes, none of which is zero, by the rule `c-string-text`: the
-    /// zero that ends a C string is no part of its literal, whose span is 0..0. For 0x7F, 0xFF and
-    /// the bytes of U+0333 it is `c"\u{7f}\xFF\u{333}"`. Fails where memory runs out.
+    /// Makes the C string literal of the bytes (`c-string-text`), with the span 0..0. No byte may be zero: the
+    /// zero that ends a C string is not written in its literal. For 0x7F, 0xFF and the bytes of U+0333 it is
+    /// `c"\u{7f}\xFF\u{333}"`. Out of memory is the only error.
     pub fn c_string(alloc: Global, bytes: &[u8]) -> Result<Literal, AllocError>
         requires { IsTrue (has_no_zero bytes.now) }
         ensures ok { IfOk result (λ literal.

@@ -1,4 +1,4 @@
-//! Literals from their text.
+//! Parses a literal from its text.
 ghost use Rattle.std.specs.Prelude.{◌≡◌, ◌==◌, ◌+◌, ◌↔◌, ◌∷◌, [], length, IfOk, IfErr, IfSome, IsTrue, MatchOption};
 ghost use Rattle.std.specs.Prelude.{MatchResult, false, if◌then◌else◌};
 ghost use Rattle.std.specs.Char.{is_ascii_digit};
@@ -18,16 +18,16 @@ use pm_span::{SourceMap, Span};
 use std::alloc::{AllocError, Global};
 
 impl Literal {
-    /// The literal that the whole text is, or `-` and one that begins with a digit
-    /// (`whole-literal`). The text becomes the next file of the map, and the literal's span is all
-    /// of it.
+    /// Parses a text that is one literal, or `-` and a literal that begins with a digit (`whole-literal`).
     ///
-    /// Nothing may stand before or after the literal, not even white space. Any other text is
-    /// refused as `Lex` with the span 0..0, and is a file of the map then too. `MapFull` is answered
-    /// exactly where the text would end past the map's limit (`fits`), and `Memory` where a growth
-    /// was refused; both leave the map as it was.
+    /// The text becomes the next file of the map, and the literal's span is all of it. Nothing may be before or
+    /// after the literal, not even white space.
     ///
-    /// In a new map `-1u12` gives the literal of this text at 1..6. `- 1` and `-""` are refused.
+    /// A text that is anything else is rejected with `Lex` and the span 0..0, and becomes a file of the map
+    /// too. `MapFull` comes exactly if the text would end past the map's limit (`fits`), and `Memory` if memory
+    /// runs out. Both leave the map as it was.
+    ///
+    /// In a new map `-1u12` gives the literal of this text at 1..6. `- 1` and `-""` are rejected.
     pub fn from_str(text: &str, map: &mut SourceMap) -> Result<Literal, ParseError>
         ensures ok { IfOk result (λ literal. literal ≡ record {
           text = chars text.now;
@@ -58,7 +58,7 @@ impl Literal {
         literal
     }
 
-    /// The literal that the whole text is, which stands at this span. Any other text is a fault.
+    /// Parses a text that is one literal, and gives the literal this span. Any other text is a syntax error.
     fn whole_at(alloc: Global, text: &str, span: Span) -> Result<Literal, ParseError>
         ensures ok { IfOk result (λ literal. literal ≡ record { text = chars text.now; span = span }) }
         ensures whole { IfOk result (λ _. IsWholeLiteral (chars text.now)) }
@@ -70,8 +70,8 @@ impl Literal {
         Ok(Literal::from_parts(alloc, text, span)?)
     }
 
-    /// The literal of this text, which is a whole one (`is_whole`), with the span 0..0. Fails where
-    /// memory runs out. For `1.5` it is `1.5`.
+    /// Makes the literal of this text, with the span 0..0. The text must be a literal (`is_whole`). Out of
+    /// memory is the only error. For `1.5` it is `1.5`.
     pub fn from_str_unchecked(alloc: Global, text: &str) -> Result<Literal, AllocError>
         requires { IsWholeLiteral (chars text.now) }
         ensures ok { IfOk result (λ literal. literal ≡ record { text = chars text.now; span = nowhere }) }
@@ -79,9 +79,8 @@ impl Literal {
         Literal::from_parts(alloc, text, Span::call_site())
     }
 
-    /// Whether the text is a literal, or `-` and one that begins with a digit (`whole-literal`):
-    /// the texts that `from_str` accepts. It is so of `1u8`, `-0.1` and `"a"`, and not of `- 1`,
-    /// `1 ` or `-""`.
+    /// Returns whether the text is a literal, or `-` and a literal that begins with a digit (`whole-literal`).
+    /// These are the texts that `from_str` accepts: `1u8`, `-0.1` and `"a"`, but not `- 1`, `1 ` or `-""`.
     pub fn is_whole(text: &str) -> bool
         ensures { IsTrue result ↔ IsWholeLiteral (chars text.now) }
     {
@@ -92,7 +91,7 @@ impl Literal {
     }
 }
 
-/// What follows the `-` that the text begins with.
+/// Returns the text after its first character if that is `-`.
 fn behind_minus(text: &str) -> Option<&str>
     ensures split { MatchOption result (first_passes (λ c. c == 45) (chars text.now) ≡ false)
         (λ number. chars text.now ≡ 45 ∷ chars number.now) }
@@ -101,7 +100,7 @@ fn behind_minus(text: &str) -> Option<&str>
     text.strip_prefix('-')
 }
 
-/// Whether an ASCII digit stands at the front of the text.
+/// Returns whether the text begins with an ASCII digit.
 #[tactic(auto, using(std::proofs::lemmas::Str::chars_past_char))]
 fn begins_with_digit(text: &str) -> bool
     ensures { result ≡ first_passes is_ascii_digit (chars text.now) }
@@ -112,7 +111,7 @@ fn begins_with_digit(text: &str) -> bool
     }
 }
 
-/// Whether the whole text is a literal of the grammar.
+/// Returns whether the whole text is a literal of the grammar.
 fn is_literal(text: &str) -> bool
     ensures { IsTrue result ↔ literals.Literal (chars text.now) [] }
 {

@@ -1,4 +1,4 @@
-//! Names, raw and plain.
+//! The names of identifiers, raw and plain.
 ghost use Rattle.std.specs.Prelude.{◌≡◌, ◌↔◌, ◌≤◌, IfOk, IfSome, IsOk, IsTrue, Some, false, length};
 ghost use Rattle.std.specs.Rc.{rc_str_bytes};
 ghost use Rattle.std.specs.Str.{IsUtf8, chars, encode_utf8_all};
@@ -11,7 +11,7 @@ use std::alloc::{AllocError, Global};
 use std::fmt;
 use std::marker::Model;
 
-/// A plain or a raw name, short or long. One enum tells all four apart, so a name is as long as a text. Copies of a
+/// A plain or raw name, short or long. With one enum for all four, a name is no larger than a text. Copies of a
 /// long name share it.
 #[derive(Drop)]
 enum NameText {
@@ -22,7 +22,7 @@ enum NameText {
 }
 
 impl NameText {
-    /// A copy of a short text as a name.
+    /// Makes a name with a copy of a short text.
     #[inline(always)]
     fn short(text: &str, raw: bool) -> NameText
         requires { length text.now ≤ ROOM }
@@ -36,7 +36,7 @@ impl NameText {
         }
     }
 
-    /// The text as a name.
+    /// Makes a name of a long text.
     fn long(text: Shared, raw: bool) -> NameText
         ensures bytes { name_bytes result ≡ rc_str_bytes text.text }
         ensures raw { is_raw result ≡ raw }
@@ -49,7 +49,7 @@ impl NameText {
     }
 }
 
-/// The name of an identifier, in characters and without `r#`, and whether it is raw.
+/// The name of an identifier without `r#`, and whether it is raw. Contracts speak of its characters.
 #[derive(Drop)]
 pub struct Name {
     text: NameText,
@@ -62,7 +62,7 @@ impl Model for Name {
 }
 
 impl Name {
-    /// Keeps a copy of the name. Fails where memory runs out.
+    /// Copies the name. Out of memory is the only error.
     #[inline(always)]
     pub fn new(alloc: Global, name: &str, raw: bool) -> Result<Name, AllocError>
         ensures ok { IfOk result (λ kept. kept ≡ record { name = chars name.now; raw = raw }) }
@@ -75,7 +75,7 @@ impl Name {
         Ok(Name { text })
     }
 
-    /// Drops the name, part by part, so that a short one need not be in memory.
+    /// Drops the name field by field, so that a short one need not be written to memory first.
     #[inline(always)]
     pub(crate) fn discard(self) {
         match self.text {
@@ -84,7 +84,7 @@ impl Name {
         }
     }
 
-    /// The name, without `r#`.
+    /// Returns the name, without `r#`.
     #[inline(always)]
     pub fn as_str(&self) -> &str
         ensures { chars result.now ≡ self.now.name }
@@ -95,7 +95,7 @@ impl Name {
         }
     }
 
-    /// The bytes of the name, without `r#`. Names are compared by them.
+    /// Returns the bytes of the name, without `r#`. Names are compared by them.
     #[inline(always)]
     pub fn as_bytes(&self) -> &[u8]
         ensures value { chars result.now ≡ self.now.name }
@@ -107,7 +107,7 @@ impl Name {
         }
     }
 
-    /// The bytes of a short plain name, and `None` of another.
+    /// Returns the bytes of a short plain name, or `None` for any other name.
     #[inline(always)]
     pub fn plain_bytes(&self) -> Option<&[u8]>
         ensures { IfSome result (λ bytes. (chars bytes.now ≡ self.now.name)
@@ -119,7 +119,7 @@ impl Name {
         }
     }
 
-    /// Whether both are the same name, and both are raw or both plain.
+    /// Returns whether both names are the same, and both raw or both plain.
     #[inline(always)]
     pub fn same(&self, other: &Name) -> bool
         ensures { IsTrue result ↔ (self.now ≡ other.now) }
@@ -130,7 +130,7 @@ impl Name {
         }
     }
 
-    /// The same, of any names.
+    /// Does what `same` does, for any names.
     #[inline(never)]
     fn has_same_bytes(&self, other: &Name) -> bool
         ensures { IsTrue result ↔ (self.now ≡ other.now) }
@@ -138,7 +138,7 @@ impl Name {
         self.is_raw() == other.is_raw() && self.as_bytes() == other.as_bytes()
     }
 
-    /// Whether it is raw.
+    /// Returns whether the name is raw.
     #[inline(always)]
     pub fn is_raw(&self) -> bool
         ensures { result ≡ self.now.raw }
@@ -150,7 +150,7 @@ impl Name {
     }
 }
 
-/// The same name, which a long one shares. It fails where that has more owners than can be counted.
+/// Copies the name; a long one is shared. The copy fails if a long name has more owners than can be counted.
 impl Clone for Name {
     ghost is_clone = { λ name copy. copy ≡ name };
 

@@ -1,4 +1,4 @@
-//! Long texts, which their copies share.
+//! Long texts, which are shared by their copies.
 ghost use Rattle.std.specs.Prelude.{◌≡◌, ◌<◌, ◌≤◌, IfOk, IsOk, false, length, string_bytes};
 ghost use Rattle.std.specs.Rc.{rc_str_bytes};
 ghost use Rattle.std.specs.Str.{chars, encode_utf8_all};
@@ -8,7 +8,7 @@ ghost use Rattle.pm_token.specs.declared.symbols.short.TheConstants.{ROOM};
 use std::alloc::{AllocError, Global};
 use std::rc::RcStr;
 
-/// A text of more than 22 bytes. Its copies share it.
+/// A text of more than 22 bytes, which its copies share.
 #[derive(Drop)]
 pub(crate) struct Shared {
     text: RcStr,
@@ -16,7 +16,7 @@ pub(crate) struct Shared {
 }
 
 impl Shared {
-    /// A copy of the text. Fails where memory runs out.
+    /// Copies the text. Out of memory is the only error.
     pub(crate) fn new(alloc: Global, text: &str) -> Result<Shared, AllocError>
         requires { ROOM < length text.now }
         ensures ok { IfOk result (λ shared. rc_str_bytes shared.text ≡ text.now) }
@@ -26,7 +26,7 @@ impl Shared {
         })
     }
 
-    /// The text itself. Fails where memory runs out.
+    /// Takes the text without a copy. Out of memory is the only error.
     pub(crate) fn from_string(text: String) -> Result<Shared, AllocError>
         requires { ROOM < length (string_bytes text) }
         ensures ok { IfOk result (λ shared. rc_str_bytes shared.text ≡ string_bytes text) }
@@ -36,7 +36,7 @@ impl Shared {
         })
     }
 
-    /// The text.
+    /// Returns the text.
     #[inline(always)]
     pub(crate) fn as_str(&self) -> &str
         ensures { result.now ≡ rc_str_bytes self.now.text }
@@ -44,13 +44,13 @@ impl Shared {
         self.text.as_str()
     }
 
-    /// The same text. It takes no memory, and fails where the text has more owners than can be counted.
+    /// Shares the text. This allocates nothing, and fails if the text has more owners than can be counted.
     #[inline(always)]
     pub(crate) fn share(&self) -> Result<Shared, AllocError>
         ensures ok { IfOk result (λ shared. rc_str_bytes shared.text ≡ rc_str_bytes self.now.text) }
         ensures short { length (encode_utf8_all (chars (rc_str_bytes self.now.text))) ≤ ROOM → IsOk result }
     {
-        // It computes nothing: proofs learn that the bytes are UTF-8.
+        // This computes nothing. It shows to the proof that the bytes are UTF-8.
         self.text.as_str();
         Ok(Shared {
             text: self.text.clone()?,
@@ -66,7 +66,7 @@ pub(crate) struct Unsigned {
 }
 
 impl Unsigned {
-    /// The text, which is long.
+    /// Makes an unsigned text of a long one, which must not begin with `-`.
     pub(crate) fn new(text: Shared) -> Unsigned
         requires { has_minus (chars (rc_str_bytes text.text)) ≡ false }
         ensures { rc_str_bytes result.text.text ≡ rc_str_bytes text.text }
@@ -74,7 +74,7 @@ impl Unsigned {
         Unsigned { text }
     }
 
-    /// The text.
+    /// Returns the text.
     #[inline(always)]
     pub(crate) fn as_str(&self) -> &str
         ensures value { result.now ≡ rc_str_bytes self.now.text.text }
@@ -83,7 +83,7 @@ impl Unsigned {
         self.text.as_str()
     }
 
-    /// The same text. It takes no memory, and fails where the text has more owners than can be counted.
+    /// Shares the text. This allocates nothing, and fails if the text has more owners than can be counted.
     #[inline(always)]
     pub(crate) fn share(&self) -> Result<Unsigned, AllocError>
         ensures ok { IfOk result (λ shared. rc_str_bytes shared.text.text ≡ rc_str_bytes self.now.text.text) }

@@ -1,4 +1,4 @@
-//! Short texts, which stand in place.
+//! Short texts, which are kept in place.
 ghost use Rattle.std.specs.Prelude.{◌≡◌, ◌↔◌, ◌≤◌, ◌+◌, ◌++◌, ℕ, List, drop, length, replicate, take, false, true};
 ghost use Rattle.std.specs.Prelude.{codes, IfSome, IsTrue, IsUtf8, MatchOption, if◌then◌else◌};
 ghost use Rattle.std.specs.Fmt.{decimal};
@@ -10,10 +10,11 @@ use itoa::write_digits;
 use std::marker::Model;
 use std::str;
 
-/// How many bytes a short text has at most. With its length and the tag of an enum it is as long as three pointers.
+/// The largest number of bytes in a short text. With its length and the tag of an enum it is as long as three
+/// pointers.
 pub(crate) const ROOM: usize = 22;
 
-/// A text of at most 22 bytes. Those past it are zero, so that texts can be compared in whole words.
+/// A text of at most 22 bytes. The bytes after it are zero, so that texts can be compared as whole words.
 #[derive(Drop)]
 pub(crate) struct Short {
     len: u8,
@@ -30,7 +31,7 @@ impl Model for Short {
 }
 
 impl Short {
-    /// A copy of the text.
+    /// Copies the text.
     #[inline(always)]
     pub(crate) fn new(text: &str) -> Short
         requires { length text.now ≤ ROOM }
@@ -44,7 +45,7 @@ impl Short {
         }
     }
 
-    /// A copy of both texts, one after the other.
+    /// Copies both texts, one after the other.
     #[inline(always)]
     pub(crate) fn joined(front: &str, back: &str) -> Short
         requires { length front.now + length back.now ≤ ROOM }
@@ -60,7 +61,8 @@ impl Short {
         }
     }
 
-    /// The number in decimal digits, behind a `-` where it is negative, and what follows it, if that is short.
+    /// Returns a number in decimal digits, after a `-` if it is negative, joined with `suffix`; `None` if this
+    /// is too long.
     #[inline(always)]
     pub(crate) fn number(negative: bool, value: u64, suffix: &str) -> Option<Short>
         ensures { IfSome result (λ short.
@@ -73,7 +75,7 @@ impl Short {
         }
         let end = digits_end + suffix.len();
         let mut bytes = [0; ROOM];
-        // Where the number has no `-`, its first digit takes that place.
+        // If the number has no `-`, its first digit overwrites this byte.
         bytes[0] = b'-';
         write_digits(value, &mut bytes, digits_end);
         bytes[digits_end..end].copy_from_slice(suffix.as_bytes());
@@ -83,7 +85,7 @@ impl Short {
         })
     }
 
-    /// Whether both are the same text.
+    /// Returns whether both texts are the same.
     #[inline(always)]
     pub(crate) fn same(&self, other: &Short) -> bool
         ensures { IsTrue result ↔ (chars self.now ≡ chars other.now) }
@@ -91,7 +93,7 @@ impl Short {
         self.len == other.len && self.bytes == other.bytes
     }
 
-    /// The bytes of the text.
+    /// Returns the bytes of the text.
     #[inline(always)]
     pub(crate) fn as_bytes(&self) -> &[u8]
         ensures value { result.now ≡ self.now }
@@ -100,17 +102,17 @@ impl Short {
         &self.bytes[..self.len as usize]
     }
 
-    /// The text.
+    /// Returns the text.
     #[inline(always)]
     pub(crate) fn as_str(&self) -> &str
         ensures value { result.now ≡ self.now }
         ensures fits { length result.now ≤ ROOM }
     {
-        // The invariant says that the bytes are UTF-8, so they aren't looked at again.
+        // By the invariant the bytes are UTF-8, so this need not be tested again.
         unsafe { str::from_utf8_unchecked(&self.bytes[..self.len as usize]) }
     }
 
-    /// Takes away the `-` that the text begins with, and answers whether there was one.
+    /// Removes the `-` that the text begins with, and returns whether there was one.
     pub(crate) fn strip_minus(&mut self) -> bool
         ensures found { result ≡ has_minus (chars self.old) }
         ensures rest { chars self.new ≡ (if result then drop 1 (chars self.old) else chars self.old) }
@@ -122,7 +124,7 @@ impl Short {
         true
     }
 
-    /// The same text.
+    /// Copies the text.
     #[inline(always)]
     pub(crate) fn copy(&self) -> Short
         ensures { result ≡ self.now }
@@ -134,7 +136,7 @@ impl Short {
     }
 }
 
-/// How many decimal digits the number has.
+/// Returns how many decimal digits the number has.
 #[inline(always)]
 fn count_digits(value: u64) -> usize
     ensures { result ≡ length (decimal value) }
@@ -145,7 +147,7 @@ fn count_digits(value: u64) -> usize
     value.ilog10() as usize + 1
 }
 
-/// The text after the `-` that it begins with, if there is one.
+/// Returns the text after the `-` that it begins with, or `None` if it begins otherwise.
 #[tactic(auto, using(std::proofs::lemmas::Str::chars_past_char))]
 fn past_minus(text: &str) -> Option<&str>
     ensures found { MatchOption result (has_minus (chars text.now) ≡ false)

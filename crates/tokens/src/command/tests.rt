@@ -22,17 +22,17 @@ fn one_word(alloc: Global, word: &str) -> Result<Vec<String>, AllocError> {
     Ok(words)
 }
 
-/// Asserts that a status is the wanted one, of the row that `at` shows.
+/// Asserts that the status is the expected one; a failure shows `at`.
 fn check_status(rt: &impl Abort, at: &impl Debug, found: u8, want: u8) {
     assert_eq!(rt; found, want, "at {at:?}");
 }
 
-/// Asserts that bytes are the wanted ones, of the row that `at` shows.
+/// Asserts that the bytes are the expected ones; a failure shows `at`.
 fn check_bytes(rt: &impl Abort, at: &impl Debug, found: &[u8], want: &[u8]) {
     assert_eq!(rt; found, want, "at {at:?}");
 }
 
-/// Asserts the status, the output and the messages of a call, of the row that `at` shows.
+/// Asserts the status, the output and the messages of a call; a failure shows `at`.
 fn check_command(
     rt: &(impl Abort + AllocGlobal),
     at: &impl Debug,
@@ -50,7 +50,7 @@ fn check_command(
     check_bytes(rt, at, errors.bytes(), said);
 }
 
-/// Asserts what a word writes, says and answers of an input.
+/// Asserts the output, the message and the status for a word and an input.
 fn check_input(
     rt: &(impl Abort + AllocGlobal),
     word: &str,
@@ -94,7 +94,7 @@ fn each_tree_of_a_doc_comment_stands_where_it_does(rt: HostRuntime) {
     check_input(&rt, "spans", input, lines, b"", 0);
 }
 
-/// The words of the text.
+/// Returns the words of the text.
 fn words_of(alloc: Global, text: &str) -> Result<Vec<String>, AllocError> {
     let mut words = Vec::new(alloc);
     for word in text.split_whitespace() {
@@ -103,7 +103,7 @@ fn words_of(alloc: Global, text: &str) -> Result<Vec<String>, AllocError> {
     Ok(words)
 }
 
-/// Asserts that the words of the text are told the usage, and write nothing.
+/// Asserts that the words of the text get the usage line and no output.
 fn check_usage(rt: &(impl Abort + AllocGlobal), text: &str) {
     let words = words_of(rt.alloc(), text).expect(rt, text);
     let reader = &mut MemorySource::new(ROW);
@@ -137,7 +137,8 @@ fn words_without_memory_move_no_byte(rt: HostRuntime) {
     check_bytes(&rt, at, errors.bytes(), b"no memory\n");
 }
 
-/// Asserts that nothing is written where any of the reads fails that give the row, a byte each, and then its end.
+/// Asserts that nothing is written if a read fails, for each of the reads that give the row, one byte each, and then
+/// its end.
 fn check_reads(rt: &(impl Abort + AllocGlobal), word: &str) {
     let words = one_word(rt.alloc(), word).expect(rt, "no memory");
     for reads in 0..=ROW.len() {
@@ -159,8 +160,8 @@ fn a_read_that_fails_writes_nothing(rt: HostRuntime) -> Result<(), Fail> {
     Ok(())
 }
 
-/// Asserts what is written, said and answered of these bytes, so many times, from a terminal, and
-/// that nothing is read after their end.
+/// Asserts the output, the message and the status for the bytes, which come `times` times from a terminal, and that
+/// nothing is read after their end.
 fn check_terminal(
     rt: &(impl Abort + AllocGlobal),
     bytes: &[u8],
@@ -184,7 +185,7 @@ fn nothing_is_read_after_the_end(rt: HostRuntime) {
     check_terminal(&rt, b"a\xFF", 2, 2, b"", b"not utf-8\n");
 }
 
-/// Asserts what stands after so many writes of at most so many bytes, where the next one fails.
+/// Asserts what is written if each write takes at most `most` bytes and a write after `writes` writes fails.
 fn check_front(
     rt: &(impl Abort + AllocGlobal),
     word: &str,
@@ -211,7 +212,7 @@ fn check_front(
 
 #[test]
 fn a_write_that_fails_leaves_a_beginning(rt: HostRuntime) {
-    // How many bytes a write takes, how many writes there are, and what then stands.
+    // The size of a write, the number of writes, and what is written then.
     check_front(&rt, "print", 4, 0, b"");
     check_front(&rt, "print", 4, 1, b"fn f");
     check_front(&rt, "print", 4, 4, b"fn f (x) { x + y");
@@ -245,8 +246,7 @@ fn a_byte_a_call_is_enough(rt: HostRuntime) -> Result<(), Fail> {
     Ok(())
 }
 
-/// Asserts the message and the status of a refusal, and that a message that can't be written
-/// changes no status.
+/// Asserts the message and the status of an error, and that the status stays the same if the message cannot be written.
 fn check_refusal(rt: &(impl Abort + AllocGlobal), error: RunError, said: &[u8], status: u8) {
     let mut errors = MemorySink::new(rt.alloc());
     check_status(rt, &error, conclude(Err(error), &mut errors), status);

@@ -5,31 +5,31 @@ use crate::declarations::item::split_group;
 use crate::pm_stream::{Group, TokenTree};
 use crate::pm_token::{Delimiter, Literal, Punct};
 
-/// An attribute, as `#[derive(Clone)]` or `#![no_std]`. A doc comment is one too.
+/// An attribute, such as `#[derive(Clone)]` or `#![no_std]`. A doc comment is an attribute too.
 #[derive(Clone, Copy, Debug)]
 pub struct Attribute<'a> {
-    /// `#`, or `#` and `!`.
+    /// The `#` of an outer attribute, or the `#` and the `!` of an inner one.
     pub marks: &'a [TokenTree],
-    /// The brackets, with what stands in them.
+    /// The brackets, with the trees in them.
     pub group: &'a Group,
 }
 
-/// What follows the path of an attribute.
+/// What comes after the path of an attribute.
 #[derive(Clone, Copy, Debug)]
 pub enum AttributeArgs<'a> {
     /// Nothing, as in `#[no_mangle]`.
     Nothing,
     /// A group alone, as in `#[derive(Clone)]`.
     Group(&'a Group),
-    /// The trees after `=`, as in `#[path = "a.rs"]`.
+    /// The trees after the `=`, as in `#[path = "a.rs"]`.
     Value(&'a [TokenTree]),
-    /// A group, and trees after it, which no attribute of Rust has.
+    /// A group and more trees after it. No attribute of Rust has this form.
     Other(&'a Group, &'a [TokenTree]),
 }
 
-/// The attributes at the front of trees, in order, as of those of an item, a field or a variant.
+/// The attributes at the start of trees, such as those of an item, a field or a variant, in order.
 ///
-/// It ends before the first trees that are no attribute, which stay in `left`. It takes no memory.
+/// The iterator ends before the first trees that are no attribute, which stay in `left`. It allocates nothing.
 ///
 /// ```text
 /// for attribute in Attributes::new(field.attributes) {
@@ -38,12 +38,12 @@ pub enum AttributeArgs<'a> {
 /// ```
 #[derive(Clone, Copy, Debug)]
 pub struct Attributes<'a> {
-    /// The trees that are left.
+    /// The trees that are not yet read.
     pub left: &'a [TokenTree],
 }
 
 impl<'a> Attributes<'a> {
-    /// The attributes at the front of these trees.
+    /// Returns an iterator over the attributes at the start of these trees.
     ///
     /// # Contract
     ///
@@ -57,7 +57,7 @@ impl<'a> Attributes<'a> {
 impl<'a> Iterator for Attributes<'a> {
     type Item = Attribute<'a>;
 
-    // What is given are the attributes at the front of the trees, each once.
+    // The iterator gives the attributes at the start of the trees, each of them once.
 
     fn next(&mut self) -> Option<Attribute<'a>> {
         let (attribute, rest) = split_attribute(self.left)?;
@@ -66,9 +66,9 @@ impl<'a> Iterator for Attributes<'a> {
     }
 }
 
-/// The attribute at the front of the trees, outer or inner, and the trees after it. `None` where none stands there.
+/// Returns the attribute at the start of the trees, outer or inner, and the trees after it.
 ///
-/// Of `#[a] #[b] pub x` it is `#[a]`, and `#[b] pub x` is left.
+/// It returns `None` if the trees begin with no attribute. For `#[a] #[b] pub x` it returns `#[a]` and `#[b] pub x`.
 ///
 /// # Contract
 ///
@@ -94,7 +94,7 @@ pub fn split_attribute(trees: &[TokenTree]) -> Option<(Attribute<'_>, &[TokenTre
     }
 }
 
-/// The same, where an inner attribute alone may stand: these trees follow the first mark.
+/// The inner attribute at the start of `trees`, and the trees after it. `rest` are the trees after `hash`.
 fn split_inner<'a>(
     trees: &'a [TokenTree],
     hash: &Punct,
@@ -139,7 +139,7 @@ fn is_bracket(delimiter: Delimiter) -> bool
 }
 
 impl<'a> Attribute<'a> {
-    /// Whether it is an inner attribute, as `#![a]`.
+    /// Returns whether this is an inner attribute, such as `#![a]`.
     ///
     /// # Contract
     ///
@@ -151,9 +151,9 @@ impl<'a> Attribute<'a> {
         self.marks.len() == 2
     }
 
-    /// Its path: the trees in the brackets before the first `=` or group with delimiters.
+    /// Returns the path: the trees in the brackets before the first `=` or the first group with delimiters.
     ///
-    /// Of `#[rustfmt::skip]` it is `rustfmt::skip`, of `#[doc = "a"]` `doc`, and of `#[unsafe(no_mangle)]` `unsafe`.
+    /// It is `rustfmt::skip` in `#[rustfmt::skip]`, `doc` in `#[doc = "a"]`, and `unsafe` in `#[unsafe(no_mangle)]`.
     ///
     /// # Contract
     ///
@@ -168,7 +168,7 @@ impl<'a> Attribute<'a> {
         path
     }
 
-    /// What follows its path.
+    /// Returns what comes after the path.
     ///
     /// # Contract
     ///
@@ -184,7 +184,7 @@ impl<'a> Attribute<'a> {
         args_of(rest)
     }
 
-    /// Whether its path is this one identifier. A raw identifier is written with its `r#`.
+    /// Returns whether the path is this one identifier. A raw identifier is compared with its `r#`.
     ///
     /// # Contract
     ///
@@ -202,7 +202,7 @@ impl<'a> Attribute<'a> {
         }
     }
 
-    /// The literal of a doc comment, or of `#[doc = "text"]`, and `None` of every other attribute.
+    /// Returns the literal of a doc comment or of `#[doc = "text"]`, and `None` for every other attribute.
     ///
     /// # Contract
     ///
@@ -216,7 +216,7 @@ impl<'a> Attribute<'a> {
     }
 }
 
-/// How many trees a path at the front has.
+/// The number of trees in the path at the start of the trees.
 fn path_len(trees: &[TokenTree]) -> usize
 {
     let mut left = trees;
@@ -229,7 +229,7 @@ fn path_len(trees: &[TokenTree]) -> usize
     trees.len()
 }
 
-/// Whether a path may go on with the tree.
+/// Whether the tree can be in a path: it is not `=`, and not a group with delimiters.
 fn goes_on(tree: &TokenTree) -> bool
 {
     match tree {
@@ -247,7 +247,7 @@ pub(crate) fn has_no_delimiters(delimiter: Delimiter) -> bool
     }
 }
 
-/// The arguments that these trees after a path are.
+/// The form of the trees after a path.
 fn args_of(rest: &[TokenTree]) -> AttributeArgs<'_>
 {
     match rest.split_first() {

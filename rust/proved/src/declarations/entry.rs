@@ -1,5 +1,5 @@
 // Made from crates/declarations/src/entry.rt by rust/erase: change that file, not this one.
-//! The entries of attributes' lists.
+//! The entries of an attribute's list.
 
 use crate::declarations::attribute::has_no_delimiters;
 use crate::declarations::class::Class;
@@ -13,37 +13,37 @@ use crate::pm_span::Span;
 use crate::pm_stream::{Group, TokenTree};
 use crate::pm_token::Ident;
 
-/// What an entry of an attribute's list is.
+/// The form of an entry in an attribute's list.
 #[derive(Clone, Copy, Debug)]
 pub enum EntryKind<'a> {
-    /// A path alone, as `skip`.
+    /// A path alone, such as `skip`.
     Path,
-    /// A path and a group, as `rename(a, b)`. What stands in the group isn't read.
+    /// A path and a group, such as `rename(a, b)`. The trees inside the group are not read.
     List(&'a Group),
-    /// A path, `=` and this expression, as `rename = "a"`.
+    /// A path, `=` and this expression, such as `rename = "a"`.
     Value(&'a [TokenTree]),
-    /// This literal, as `"a"`, `-1` or `true`; there is no path.
+    /// This literal, such as `"a"`, `-1` or `true`. There is no path.
     Literal(&'a [TokenTree]),
 }
 
-/// An entry of an attribute's list, as `skip`, `rename = "a"` or `bound(T, U)`.
+/// An entry of an attribute's list, such as `skip`, `rename = "a"` or `bound(T, U)`.
 #[derive(Clone, Copy, Debug)]
 pub struct Entry<'a> {
-    /// The path, as `a` or `a::b`. It has no trees if the entry is a literal.
+    /// The path, such as `a` or `a::b`. It has no trees if the entry is a literal.
     pub path: &'a [TokenTree],
-    /// What the entry is, with what follows its path.
+    /// The form of the entry, with what comes after its path.
     pub kind: EntryKind<'a>,
 }
 
-/// The entry at the front of the trees, and the trees after it.
+/// Returns the entry at the start of the trees, and the trees after it.
 ///
-/// The trees are those in a group of an attribute, or what an earlier call left of them. An entry is a literal, or a
-/// path with nothing, a group, or `=` and an expression after it. The segments of a path are any identifiers but `_`,
-/// `true` and `false`, keywords too, so `unsafe(no_mangle)` is an entry with the path `unsafe`. As elsewhere only the
-/// end of an expression is found. Of `a::b = f(1) + 2, c` the path is `a::b`, the value `f(1) + 2`, and `, c` is left.
+/// Pass the trees in a group of an attribute, or the rest that an earlier call returned. An entry is a literal or a
+/// path. After a path there may be a group, or `=` and an expression; of an expression only the end is found. A segment
+/// of a path is any identifier except `_`, `true` and `false`. It may be a keyword: `unsafe(no_mangle)` has the path
+/// `unsafe`.
 ///
-/// Where no entry stands it answers the fault. The grammar is that of crates/declarations/README.md, with the one
-/// reading that the grammar gives. It takes no memory.
+/// If the trees begin with no entry, the call returns a `Fault`. The rule `entry` is in crates/declarations/README.md.
+/// The call allocates nothing. For `a::b = f(1) + 2, c` the path is `a::b`, the value `f(1) + 2`, and the rest `, c`.
 ///
 /// # Contract
 ///
@@ -71,7 +71,7 @@ pub fn parse_entry(trees: &[TokenTree]) -> Result<(Entry<'_>, &[TokenTree]), Fau
 }
 
 impl<'a> Entry<'a> {
-    /// Whether its path is this one identifier. A raw identifier is written with its `r#`.
+    /// Returns whether the path is this one identifier. A raw identifier is compared with its `r#`.
     ///
     /// # Contract
     ///
@@ -87,9 +87,9 @@ impl<'a> Entry<'a> {
         }
     }
 
-    /// The identifier that its path is alone, and `None` of a literal or a path of several segments.
+    /// Returns the path if it is one identifier, and `None` for a literal or a longer path.
     ///
-    /// Of `rename = "a"` it is `rename`.
+    /// For `rename = "a"` it returns `rename`.
     ///
     /// # Contract
     ///
@@ -105,7 +105,7 @@ impl<'a> Entry<'a> {
         }
     }
 
-    /// The span of its first tree; each entry that is read has one.
+    /// Returns the span of the first tree. An entry that a call of this crate returned always has one.
     ///
     /// # Contract
     ///
@@ -121,7 +121,7 @@ impl<'a> Entry<'a> {
     }
 }
 
-/// The span of the first of the trees.
+/// The span of the first tree.
 fn first_span(trees: &[TokenTree]) -> Option<Span>
 {
     match trees.first() {
@@ -130,7 +130,7 @@ fn first_span(trees: &[TokenTree]) -> Option<Span>
     }
 }
 
-/// The entry that all of these trees are.
+/// The entry that all of the trees are.
 pub(crate) fn whole_entry(trees: &[TokenTree]) -> Result<Entry<'_>, Fault>
 {
     match parse_entry(trees) {
@@ -155,7 +155,7 @@ fn is_segment(class: Class) -> bool
     }
 }
 
-/// Past a segment of a path.
+/// Skips a segment of a path.
 fn segment(trees: &[TokenTree]) -> Result<&[TokenTree], &[TokenTree]>
 {
     match first_sign(trees) {
@@ -170,7 +170,7 @@ fn segment(trees: &[TokenTree]) -> Result<&[TokenTree], &[TokenTree]>
     }
 }
 
-/// Past a `::`, or nothing.
+/// Skips `::`, if it is next.
 fn separator(trees: &[TokenTree]) -> Result<&[TokenTree], &[TokenTree]>
 {
     if begins(trees, Class::PathSeparator) {
@@ -180,13 +180,13 @@ fn separator(trees: &[TokenTree]) -> Result<&[TokenTree], &[TokenTree]>
     }
 }
 
-/// Past `::` and a segment.
+/// Skips `::` and a segment.
 fn next_segment(trees: &[TokenTree]) -> Result<&[TokenTree], &[TokenTree]>
 {
     segment(past(trees, Class::PathSeparator)?)
 }
 
-/// Past more segments.
+/// Skips more segments, each after `::`.
 fn more_segments(trees: &[TokenTree]) -> Result<&[TokenTree], &[TokenTree]>
 {
     let mut left = trees;
@@ -199,13 +199,13 @@ fn more_segments(trees: &[TokenTree]) -> Result<&[TokenTree], &[TokenTree]>
     Ok(left)
 }
 
-/// Past a segment, and more of them.
+/// Skips a segment and all that follow it after `::`.
 fn segments(trees: &[TokenTree]) -> Result<&[TokenTree], &[TokenTree]>
 {
     more_segments(segment(trees)?)
 }
 
-/// Past the path of an entry.
+/// Skips the path of an entry.
 fn entry_path(trees: &[TokenTree]) -> Result<&[TokenTree], &[TokenTree]>
 {
     segments(separator(trees)?)
@@ -219,7 +219,7 @@ fn is_literal(class: Class) -> bool
     }
 }
 
-/// Past a literal without a sign.
+/// Skips a literal without a minus sign.
 fn plain_literal(trees: &[TokenTree]) -> Result<&[TokenTree], &[TokenTree]>
 {
     match first_sign(trees) {
@@ -234,7 +234,7 @@ fn plain_literal(trees: &[TokenTree]) -> Result<&[TokenTree], &[TokenTree]>
     }
 }
 
-/// Past a literal.
+/// Skips a literal, with a minus sign or without.
 fn literal(trees: &[TokenTree]) -> Result<&[TokenTree], &[TokenTree]>
 {
     if begins(trees, Class::Minus) {
@@ -244,7 +244,7 @@ fn literal(trees: &[TokenTree]) -> Result<&[TokenTree], &[TokenTree]>
     }
 }
 
-/// Past an expression.
+/// Skips an expression.
 fn past_expression(trees: &[TokenTree]) -> Result<&[TokenTree], &[TokenTree]>
 {
     let start = Place {
@@ -256,7 +256,7 @@ fn past_expression(trees: &[TokenTree]) -> Result<&[TokenTree], &[TokenTree]>
     walk_past(trees, start)
 }
 
-/// Whether a sign goes on after an operand, but begins no value.
+/// Whether the sign can go on after an operand but can begin no value: `=`, `>` or `->`.
 fn continues(class: Class) -> bool
 {
     match class {
@@ -265,7 +265,7 @@ fn continues(class: Class) -> bool
     }
 }
 
-/// Past the value of an entry.
+/// Skips the value of an entry.
 fn past_value(trees: &[TokenTree]) -> Result<&[TokenTree], &[TokenTree]>
 {
     match first_sign(trees) {
@@ -280,7 +280,7 @@ fn past_value(trees: &[TokenTree]) -> Result<&[TokenTree], &[TokenTree]>
     }
 }
 
-/// The group at the front of the trees that is a list, and the trees after it.
+/// The group with delimiters at the start of the trees, and the trees after it.
 fn split_list(trees: &[TokenTree]) -> Option<(&Group, &[TokenTree])>
 {
     match split_group(trees) {
@@ -295,7 +295,7 @@ fn split_list(trees: &[TokenTree]) -> Option<(&Group, &[TokenTree])>
     }
 }
 
-/// What follows the path of an entry, and the trees after it.
+/// What comes after the path of an entry, and the trees after the entry.
 fn args_of(trees: &[TokenTree]) -> Result<(EntryKind<'_>, &[TokenTree]), &[TokenTree]>
 {
     match split_list(trees) {
@@ -304,7 +304,7 @@ fn args_of(trees: &[TokenTree]) -> Result<(EntryKind<'_>, &[TokenTree]), &[Token
     }
 }
 
-/// The value of an entry, or nothing, and the trees after it.
+/// The value of an entry, if `=` is next, and the trees after the entry.
 fn value_of(trees: &[TokenTree]) -> Result<(EntryKind<'_>, &[TokenTree]), &[TokenTree]>
 {
     match first_sign(trees) {
@@ -322,7 +322,7 @@ fn value_of(trees: &[TokenTree]) -> Result<(EntryKind<'_>, &[TokenTree]), &[Toke
     }
 }
 
-/// Whether a literal begins with a sign of this class.
+/// Whether a literal can begin with a sign of this class.
 fn begins_literal(class: Class) -> bool
 {
     match class {
@@ -331,7 +331,7 @@ fn begins_literal(class: Class) -> bool
     }
 }
 
-/// The entry at the front of the trees, and the trees after it; or those from the fault on.
+/// The entry at the start of the trees, and the trees after it; or the trees from the error on.
 fn entry_of(trees: &[TokenTree]) -> Result<(Entry<'_>, &[TokenTree]), &[TokenTree]>
 {
     match first_sign(trees) {
@@ -346,7 +346,7 @@ fn entry_of(trees: &[TokenTree]) -> Result<(Entry<'_>, &[TokenTree]), &[TokenTre
     }
 }
 
-/// The same, where a literal begins.
+/// The literal at the start of the trees as an entry, and the trees after it; or the trees from the error on.
 fn literal_of(trees: &[TokenTree]) -> Result<(Entry<'_>, &[TokenTree]), &[TokenTree]>
 {
     match literal(trees) {
@@ -364,7 +364,7 @@ fn literal_of(trees: &[TokenTree]) -> Result<(Entry<'_>, &[TokenTree]), &[TokenT
     }
 }
 
-/// The same, where no literal begins.
+/// The entry with a path at the start of the trees, and the trees after it; or the trees from the error on.
 fn named_of(trees: &[TokenTree]) -> Result<(Entry<'_>, &[TokenTree]), &[TokenTree]>
 {
     match entry_path(trees) {

@@ -1,5 +1,5 @@
 // Made from crates/declarations/src/entry_check.rt by rust/erase: change that file, not this one.
-//! Lists whose entries must have known names, each once.
+//! Checks that the entries of a list have known names, and no name twice.
 
 use crate::declarations::entry::Entry;
 use crate::declarations::entry_list::first_entry;
@@ -10,35 +10,35 @@ use crate::pm_token::Ident;
 use crate::shim::fmt;
 use crate::shim::fmt::Display;
 
-/// What is wrong with a list of entries.
+/// The kind of error in a list of entries.
 #[derive(Clone, Copy, Debug, PartialEq, Eq)]
 pub enum EntryProblem {
-    /// No entry stands there, or neither a `,` nor the end follows it.
+    /// There is no entry here, or neither a `,` nor the end of the list comes after it.
     NoEntry,
-    /// An entry has none of the known names. A literal or a path of several segments has none.
+    /// The entry has none of the known names. A literal, or a path of several segments, never has one.
     Unknown,
-    /// An earlier entry has the same name.
+    /// The entry has the name of an earlier entry.
     Repeated,
 }
 
-/// What is wrong with a list of entries, where, and which names are known.
+/// An error in a list of entries: its kind, where it is, and the names that are known.
 #[derive(Clone, Copy, Debug)]
 pub struct EntryError<'a> {
-    /// What is wrong.
+    /// The kind of error.
     pub problem: EntryProblem,
-    /// How many trees of the list stand before it.
+    /// The number of trees of the list before the error.
     pub at: usize,
-    /// The span of the first tree of it; `None` where the list ends too early.
+    /// The span of the first wrong tree, or `None` if the list ends too early.
     pub span: Option<Span>,
-    /// The name of the entry that is unknown or comes twice; `None` where it is a literal or another path, or where no
-    /// entry stands.
+    /// The name of the unknown or repeated entry. It is `None` if the entry is a literal or a path of several segments,
+    /// or if there is no entry.
     pub name: Option<&'a Ident>,
     /// The names that are known.
     pub known: &'a [&'a str],
 }
 
 impl<'a> EntryError<'a> {
-    /// The field [`span`](EntryError::span): where the first tree that is wrong stands.
+    /// Returns the field [`span`](EntryError::span): the span of the first wrong tree.
     ///
     /// # Contract
     ///
@@ -49,13 +49,15 @@ impl<'a> EntryError<'a> {
     }
 }
 
-/// Checks that each entry of the list has one of these names, and no two the same.
+/// Checks that each entry of the list has one of the known names, and that no two entries have the same name.
 ///
-/// The list is the trees in a group of an attribute, as `skip, rename = "a"` of `#[name(skip, rename = "a")]`. A name
-/// is a path of one identifier. The error is that of the first entry that has an unknown name or the name of an earlier
-/// one, or the fault where the list goes on with no entry. It has the names that are known, of which there can be 128.
-/// With the names `skip` and `rename` the list `skip, renam = "a"` has an error at `renam`, after 2 trees, which is
-/// printed as "unknown entry `renam`; known are `skip`, `rename`". It takes no memory.
+/// The list is the trees in a group of an attribute, such as `skip, rename = "a"` in `#[name(skip, rename = "a")]`. A
+/// name is a path of one identifier. At most 128 names can be known, which is a precondition. The call returns an error
+/// for the first entry with an unknown or a repeated name, or where the list goes on with no entry. It allocates
+/// nothing.
+///
+/// If `skip` and `rename` are known, the list `skip, renam = "a"` has an error at `renam`, after 2 trees. Its text is
+/// "unknown entry `renam`; known are `skip`, `rename`".
 ///
 /// # Contract
 ///
@@ -115,7 +117,7 @@ fn wrong<'a>(
     }
 }
 
-/// How many names come before that of the entry; all of them if it has none of these.
+/// The position of the entry's name among the known names, or their number if it is not among them.
 fn place_of(entry: &Entry<'_>, known: &[&str]) -> usize
 {
     let mut at = 0;
@@ -129,7 +131,7 @@ fn place_of(entry: &Entry<'_>, known: &[&str]) -> usize
 }
 
 impl<'a> PartialEq for EntryError<'a> {
-    /// Whether both are the same problem at the same place, whatever names are known.
+    /// Whether both errors have the same kind, position and span. The known names do not matter.
     fn eq(&self, other: &EntryError<'a>) -> bool {
         number_of(self.problem) == number_of(other.problem)
             && (self.at == other.at && are_same(self.span, other.span))
@@ -139,7 +141,7 @@ impl<'a> PartialEq for EntryError<'a> {
 impl<'a> Eq for EntryError<'a> {
 }
 
-/// The number of a problem, which differs from that of each other one.
+/// The number of an error's kind. No two kinds have the same number.
 fn number_of(problem: EntryProblem) -> u8
 {
     match problem {
@@ -149,7 +151,7 @@ fn number_of(problem: EntryProblem) -> u8
     }
 }
 
-/// Writes a space and the name, or nothing.
+/// Writes a space and the name in backticks, if there is a name.
 fn write_name<W: fmt::Write>(name: Option<&Ident>, f: &mut fmt::Formatter<W>) -> fmt::Result
 {
     match name {
@@ -162,7 +164,7 @@ fn write_name<W: fmt::Write>(name: Option<&Ident>, f: &mut fmt::Formatter<W>) ->
     }
 }
 
-/// Writes the end of the sentence, with the names that are known.
+/// Writes the end of the message, with the names that are known.
 fn write_known<W: fmt::Write>(known: &[&str], f: &mut fmt::Formatter<W>) -> fmt::Result
 {
     match known.split_first() {
@@ -175,7 +177,7 @@ fn write_known<W: fmt::Write>(known: &[&str], f: &mut fmt::Formatter<W>) -> fmt:
     }
 }
 
-/// Writes more names that are known.
+/// Writes more known names, each after a comma.
 fn write_more<W: fmt::Write>(words: &[&str], f: &mut fmt::Formatter<W>) -> fmt::Result
 {
     for word in words {
@@ -184,14 +186,14 @@ fn write_more<W: fmt::Write>(words: &[&str], f: &mut fmt::Formatter<W>) -> fmt::
     Ok(())
 }
 
-/// Writes one more name.
+/// Writes a comma and one more known name.
 fn write_next<W: fmt::Write>(word: &str, f: &mut fmt::Formatter<W>) -> fmt::Result
 {
     f.write_str(", ")?;
     write_quoted(word, f)
 }
 
-/// Writes a name, as it stands in a sentence.
+/// Writes a name in backticks.
 fn write_quoted<W: fmt::Write>(word: &str, f: &mut fmt::Formatter<W>) -> fmt::Result
 {
     f.write_str("`")?;

@@ -1,10 +1,10 @@
 // Made from crates/declarations/src/expression.rt by rust/erase: change that file, not this one.
-//! Where the expressions of discriminants end.
+//! The steps of the walk over an expression, up to its end. A step says where a sign leads.
 
 use crate::declarations::class::Class;
 use crate::declarations::place::{Item, Part, Rule, Shift, Spot, open_angle, to_spot};
 
-/// Where an operand is wanted.
+/// The step where an operand must come.
 pub(crate) fn expression(item: Item, class: Class) -> Option<Shift>
 {
     match class {
@@ -41,7 +41,7 @@ pub(crate) fn expression(item: Item, class: Class) -> Option<Shift>
     }
 }
 
-/// Where an operand may stand, or what follows one.
+/// The step where an operand may come, or what follows an operand.
 pub(crate) fn expression_open(item: Item, class: Class) -> Option<Shift>
 {
     match class {
@@ -53,7 +53,7 @@ pub(crate) fn expression_open(item: Item, class: Class) -> Option<Shift>
     }
 }
 
-/// After an operand, of an expression or of a cast.
+/// The step after an operand of an expression or of a cast.
 fn operator(item: Item, class: Class) -> Option<Shift>
 {
     match class {
@@ -85,7 +85,7 @@ fn operator(item: Item, class: Class) -> Option<Shift>
     }
 }
 
-/// After an operand.
+/// The step after an operand of an expression.
 pub(crate) fn expression_whole(item: Item, class: Class) -> Option<Shift>
 {
     match class {
@@ -95,7 +95,7 @@ pub(crate) fn expression_whole(item: Item, class: Class) -> Option<Shift>
     }
 }
 
-/// After `<` that is an operator and Joint: another belongs to it.
+/// The step after a `Joint` `<` that is an operator. A second mark may belong to the operator, as in `<<`.
 pub(crate) fn expression_less(item: Item, class: Class) -> Option<Shift>
 {
     match class {
@@ -104,7 +104,7 @@ pub(crate) fn expression_less(item: Item, class: Class) -> Option<Shift>
     }
 }
 
-/// After an operand and `.`.
+/// The step after an operand and `.`.
 pub(crate) fn expression_dot(item: Item, class: Class) -> Option<Shift>
 {
     match class {
@@ -113,7 +113,7 @@ pub(crate) fn expression_dot(item: Item, class: Class) -> Option<Shift>
     }
 }
 
-/// Within the bars of a closure.
+/// The step within the bars of a closure.
 pub(crate) fn closure(item: Item, class: Class) -> Option<Shift>
 {
     match class {
@@ -124,7 +124,7 @@ pub(crate) fn closure(item: Item, class: Class) -> Option<Shift>
     }
 }
 
-/// Where the type of a cast is wanted.
+/// The step where the type of a cast must come.
 pub(crate) fn cast(item: Item, class: Class) -> Option<Shift>
 {
     match class {
@@ -155,7 +155,7 @@ pub(crate) fn cast(item: Item, class: Class) -> Option<Shift>
     }
 }
 
-/// After the type of a cast, or a part of it.
+/// The step after the type of a cast, or after a part of it.
 pub(crate) fn cast_whole(item: Item, class: Class) -> Option<Shift>
 {
     match class {
@@ -165,7 +165,7 @@ pub(crate) fn cast_whole(item: Item, class: Class) -> Option<Shift>
     }
 }
 
-/// After a variant that is whole, in a list.
+/// The step after a whole variant in a list.
 pub(crate) fn variant_end(item: Item, class: Class) -> Option<Shift>
 {
     match (item, class) {

@@ -1,21 +1,21 @@
 // Made from crates/declarations/src/fault.rt by rust/erase: change that file, not this one.
-//! Where trees aren't as the grammar has them.
+//! Errors in trees that the grammar does not accept.
 
 use crate::pm_span::Span;
 use crate::pm_stream::TokenTree;
 use crate::shim::fmt;
 
-/// Where trees aren't as the grammar has them.
+/// An error: where trees do not fit the grammar.
 #[derive(Clone, Copy, Debug)]
 pub struct Fault {
-    /// How many trees stand before the first sign that doesn't fit. They are all of them where more are missing.
+    /// The number of trees before the first sign that does not fit. It is the number of all trees if more are missing.
     pub at: usize,
-    /// The span of the first tree of that sign; `None` where more trees are missing.
+    /// The span of the first tree of that sign, or `None` if more trees are missing.
     pub span: Option<Span>,
 }
 
 impl Fault {
-    /// The fault after so many trees, before those that are left.
+    /// The error after `at` trees, where `left` are the trees that remain.
     pub(crate) fn ahead_of(at: usize, left: &[TokenTree]) -> Fault
     {
         let span = match left.split_first() {
@@ -25,7 +25,7 @@ impl Fault {
         Fault { at, span }
     }
 
-    /// The field [`span`](Fault::span): where the first tree that doesn't fit stands.
+    /// Returns the field [`span`](Fault::span): the span of the first tree that does not fit.
     ///
     /// # Contract
     ///
@@ -37,7 +37,7 @@ impl Fault {
 }
 
 impl PartialEq for Fault {
-    /// Whether both count as many trees, and have the same span or none.
+    /// Whether both errors have the same number of trees before them, and the same span or none.
     fn eq(&self, other: &Fault) -> bool {
         self.at == other.at && are_same(self.span, other.span)
     }
@@ -46,7 +46,7 @@ impl PartialEq for Fault {
 impl Eq for Fault {
 }
 
-/// Whether both are the same span, or none.
+/// Whether both are the same span, or both are `None`.
 pub(crate) fn are_same(span: Option<Span>, other: Option<Span>) -> bool
 {
     match (span, other) {

@@ -1,5 +1,5 @@
 // Made from crates/declarations/src/file.rt by rust/erase: change that file, not this one.
-//! Files, and what modules, traits and the like have in their braces: inner attributes, and items one after the other.
+//! Files, and the bodies of modules, traits, `impl`s and `extern` blocks: inner attributes, and then items.
 
 use crate::declarations::any_item::{AnyItem, ItemKind, split_any_item};
 use crate::declarations::fault::Fault;
@@ -9,32 +9,33 @@ use crate::declarations::walk::read_whole;
 use crate::pm_stream::{Group, TokenTree};
 use crate::pm_token::Delimiter;
 
-/// A file, or what stands in the braces of a module, a trait, an `impl` or a block of foreign items.
+/// The content of a file, or of the braces of a module, a trait, an `impl` or an `extern` block.
 #[derive(Clone, Copy)]
 pub struct File<'a> {
-    /// The inner attributes, which may be none.
+    /// The inner attributes, perhaps none.
     pub inner: &'a [TokenTree],
-    /// The items after them.
+    /// The items after the inner attributes.
     pub items: Items<'a>,
 }
 
-/// The items that are left of a file, one after the other. It is copied freely.
+/// The remaining items of a file, in order. The iterator is `Copy`.
 ///
-/// It gives each item as [`split_any_item`] answers it of the trees that are left, or the fault where the trees go on
-/// with none. After a fault it gives nothing. Those that [`parse_file`] answers have no fault. Of `fn f() {} struct S;`
-/// it gives the function `f` and the struct `S`. It takes no memory.
+/// It gives each item as [`split_any_item`] reads it from the remaining trees. At an error it gives a `Fault`, whose
+/// `at` counts from the start of the remaining trees, and then ends. It allocates nothing. The items that
+/// [`parse_file`] returns have no error. For `fn f() {} struct S;` the iterator gives the function `f` and the struct
+/// `S`.
 #[derive(Clone, Copy, Debug)]
 pub struct Items<'a> {
-    /// The trees that are left.
+    /// The trees that are not yet read.
     pub left: &'a [TokenTree],
 }
 
-/// The inner attributes and the items that the trees are.
+/// Reads all of the trees as a file: inner attributes, and then items.
 ///
-/// It answers `Ok` exactly where the trees are inner attributes and then items, and else the fault: that of the inner
-/// attributes, or of the first item that [`split_any_item`] doesn't read, counted from the front of all trees. What
-/// stands within the items' groups isn't read. Of `#![a] fn f() {} struct S;` the inner attributes are `#![a]`, and
-/// there are two items. It takes no memory.
+/// If the trees are no file, the call returns a `Fault`. The error is in the inner attributes, or in the first item
+/// that [`split_any_item`] cannot read. Its `at` counts from the start of the file. The call does not read the trees
+/// inside the items' groups, and allocates nothing. For `#![a] fn f() {} struct S;` the inner attributes are `#![a]`,
+/// and there are two items.
 ///
 /// # Contract
 ///
@@ -72,11 +73,11 @@ pub fn parse_file(trees: &[TokenTree]) -> Result<File<'_>, Fault>
     })
 }
 
-/// The item that the trees are.
+/// Reads all of the trees as one item.
 ///
-/// It answers `Ok` exactly where [`split_any_item`] reads all of the trees, and else the fault, which stands before
-/// the first tree that is too many or doesn't fit. Of `fn f() {}` it is the function `f`; `fn f() {} fn g() {}` has
-/// its fault at the second `fn`. It takes no memory.
+/// It returns `Ok` exactly if [`split_any_item`] reads all of the trees. Otherwise it returns a `Fault` at the first
+/// tree that does not fit or is too many, or at the end if trees are missing. It allocates nothing. `fn f() {}` gives
+/// the function `f`, and `fn f() {} fn g() {}` has an error at the second `fn`.
 ///
 /// # Contract
 ///
@@ -102,7 +103,7 @@ pub fn parse_file(trees: &[TokenTree]) -> Result<File<'_>, Fault>
 /// [IsWhole]: crate::contracts#declarations.Whole.IsWhole
 /// [extent_at]: crate::contracts#declarations.Fault.extent_at
 pub fn parse_item(trees: &[TokenTree]) -> Result<AnyItem<'_>, Fault>
-    // The kind and the name are those of the one walk over the item's signs.
+    // The kind and the name are those that the walk over the item's signs finds.
 {
     let start = Place {
         item: Item::Alone,
@@ -118,7 +119,7 @@ pub fn parse_item(trees: &[TokenTree]) -> Result<AnyItem<'_>, Fault>
 impl<'a> Iterator for Items<'a> {
     type Item = Result<AnyItem<'a>, Fault>;
 
-    // No more come than trees are left.
+    // At most as many items come as trees are left.
 
     fn next(&mut self) -> Option<Result<AnyItem<'a>, Fault>> {
         if self.left.is_empty() {
@@ -138,9 +139,10 @@ impl<'a> Iterator for Items<'a> {
 }
 
 impl<'a> AnyItem<'a> {
-    /// The braces in which the items of a module, a trait, an `impl` or a block of foreign items stand.
+    /// Returns the braces that hold the items of a module, a trait, an `impl` or an `extern` block.
     ///
-    /// [`parse_file`] reads what stands in them. A module that ends in `;` has none, and no item of another kind.
+    /// The result is `None` for a module that ends in `;`, and for an item of any other kind. [`parse_file`] reads the
+    /// trees in the braces.
     ///
     /// # Contract
     ///
@@ -161,7 +163,7 @@ impl<'a> AnyItem<'a> {
     }
 }
 
-/// The group in braces that is the last of the trees.
+/// The last tree, if it is a group in braces.
 fn last_braces(trees: &[TokenTree]) -> Option<&Group>
 {
     match trees.split_last() {
@@ -170,7 +172,7 @@ fn last_braces(trees: &[TokenTree]) -> Option<&Group>
     }
 }
 
-/// The group that the tree is, if it has braces.
+/// The tree as a group, if it is a group in braces.
 fn braces(tree: &TokenTree) -> Option<&Group>
 {
     match tree {

@@ -5,45 +5,45 @@ use crate::declarations::fault::Fault;
 use crate::declarations::param_parts::{param_of, predicate_of};
 use crate::pm_stream::TokenTree;
 
-/// What a generic parameter stands for.
+/// The kind of a generic parameter.
 #[derive(Clone, Copy, Debug, PartialEq, Eq)]
 pub enum ParamKind {
-    /// `'a`
+    /// A lifetime, such as `'a`.
     Lifetime,
-    /// `T`
+    /// A type, such as `T`.
     Type,
-    /// `const N`
+    /// A constant, such as `const N: usize`.
     Const,
 }
 
-/// A generic parameter: its parts in reading order.
+/// A generic parameter, split into its parts in reading order.
 #[derive(Clone, Copy, Debug)]
 pub struct Param<'a> {
-    /// The outer attributes, which may be none.
+    /// The outer attributes, perhaps none.
     pub attributes: &'a [TokenTree],
-    /// What it stands for.
+    /// Whether the parameter is a lifetime, a type or a constant.
     pub kind: ParamKind,
-    /// The name: one tree, or the two of a lifetime.
+    /// The name: one tree, or the two trees of a lifetime.
     pub name: &'a [TokenTree],
-    /// The bounds after `:`, which may be none; of a constant its type.
+    /// The bounds after `:`, perhaps none. For a constant, its type.
     pub bounds: &'a [TokenTree],
-    /// The default after `=`, or nothing.
+    /// The default after `=`, or no trees.
     pub default: &'a [TokenTree],
 }
 
-/// A predicate of a where clause: its parts in reading order.
+/// A predicate of a where clause, split into its parts in reading order.
 #[derive(Clone, Copy, Debug)]
 pub struct Predicate<'a> {
-    /// What is bounded: a type or a lifetime, with its `for<..>`.
+    /// The type or the lifetime that is bounded, with its `for<..>`.
     pub bounded: &'a [TokenTree],
-    /// The bounds after `:`, which may be none.
+    /// The bounds after `:`, perhaps none.
     pub bounds: &'a [TokenTree],
 }
 
-/// The trees between the angle brackets of generic parameters, as an item has them.
+/// Returns the trees between the angle brackets of an item's generic parameters.
 ///
-/// Of `<'a, T>` they are `'a, T`, and of no trees none. Any others are a fault, before the first tree if it is no `<`,
-/// else at the end.
+/// For `<'a, T>` it returns `'a, T`, and for no trees it returns none. All other trees give a `Fault`: at the first
+/// tree if it is not `<`, and otherwise at the end.
 ///
 /// # Contract
 ///
@@ -71,9 +71,10 @@ pub fn within_generics(generics: &[TokenTree]) -> Result<&[TokenTree], Fault>
     }
 }
 
-/// The trees after the `where` of a where clause, as an item has it.
+/// Returns the trees after the `where` of an item's where clause.
 ///
-/// Of `where T: A,` they are `T: A,`, and of no trees none. Any others are a fault, before the first tree.
+/// For `where T: A,` it returns `T: A,`, and for no trees it returns none. All other trees give a `Fault` at the first
+/// one.
 ///
 /// # Contract
 ///
@@ -96,16 +97,16 @@ pub fn after_where(where_clause: &[TokenTree]) -> Result<&[TokenTree], Fault>
     }
 }
 
-/// The parts of the generic parameter at the front of the trees, and the trees after its `,`.
+/// Returns the parts of the generic parameter at the start of the trees, and the trees after its `,`.
 ///
-/// The trees are those between the angle brackets, or what an earlier call left of them: see [`within_generics`]. They
-/// may be all of them, and no `,` follows the last. Of `#[a] T: A<B, C> + 'b = D, const N: usize` the name is `T`, the
-/// bounds are `A<B, C> + 'b`, the default is `D`, and `const N: usize` is left.
+/// Pass the trees that [`within_generics`] returned, or the rest that an earlier call returned. The last parameter
+/// needs no `,`. For `#[a] T: A<B, C> + 'b = D, const N: usize` the name is `T`, the bounds are `A<B, C> + 'b`, the
+/// default is `D`, and the rest is `const N: usize`.
 ///
-/// Where no parameter stands, or neither `,` nor the end follows it, it answers a fault, which stands where one of its
-/// parts has one, or before the first sign that no part takes. What a parameter is `specs/Param.antt` says. That no
-/// parameter stands there then is proved; which place the fault has, and that the tables of
-/// [`split_generics`](crate::declarations::split_generics) read the same lists, is only tested.
+/// If the trees begin with no parameter, or neither `,` nor the end comes after it, the call returns a `Fault`: where
+/// one of the parts has its error, or at the first sign that belongs to no part. It is proved that no parameter is
+/// there then, by the definition in `specs/Param.antt`. Two things are only tested: where the error is, and that
+/// [`split_generics`](crate::declarations::split_generics) reads the same lists.
 ///
 /// # Contract
 ///
@@ -136,12 +137,11 @@ pub fn parse_param(trees: &[TokenTree]) -> Result<(Param<'_>, &[TokenTree]), Fau
     }
 }
 
-/// The parts of the predicate at the front of the trees, and the trees after its `,`.
+/// Returns the parts of the predicate at the start of the trees, and the trees after its `,`.
 ///
-/// The trees are those after `where`, or what an earlier call left of them: see [`after_where`]. Of
-/// `for<'b> T: A<'b, C>, 'a: 'b` the bounded type is `for<'b> T`, the bounds are `A<'b, C>`, and `'a: 'b` is left.
-///
-/// Where no predicate stands, or neither `,` nor the end follows it, it answers the fault, as [`parse_param`] does.
+/// Pass the trees that [`after_where`] returned, or the rest that an earlier call returned. If the trees begin with no
+/// predicate, or neither `,` nor the end comes after it, the call returns a `Fault`, as [`parse_param`] does. For
+/// `for<'b> T: A<'b, C>, 'a: 'b` the bounded type is `for<'b> T`, the bounds are `A<'b, C>`, and the rest is `'a: 'b`.
 ///
 /// # Contract
 ///
@@ -172,7 +172,7 @@ pub fn parse_predicate(trees: &[TokenTree]) -> Result<(Predicate<'_>, &[TokenTre
     }
 }
 
-/// Whether the tree is this mark.
+/// Whether the tree is this punctuation mark.
 fn is_mark_of(mark: char, tree: &TokenTree) -> bool
 {
     match tree {

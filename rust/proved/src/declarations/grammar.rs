@@ -1,5 +1,5 @@
 // Made from crates/declarations/src/grammar.rt by rust/erase: change that file, not this one.
-//! The grammar of declarations: what may follow each place.
+//! The grammar of declarations as an automaton: what may follow each state of the walk.
 
 use crate::declarations::class::{Class, Keyword};
 use crate::declarations::expression::{
@@ -15,7 +15,7 @@ use crate::declarations::place::{
 use crate::declarations::types::{Turn, TypeState, may_end, type_step};
 
 impl Place {
-    /// What the sign leads to, if it may stand there.
+    /// The state that a sign of this class leads to, or `None` if the sign cannot come next.
     ///
     /// # Contract
     ///
@@ -54,7 +54,7 @@ impl Place {
         }
     }
 
-    /// Whether what is read may end there.
+    /// Whether the part that is read may end in this state.
     ///
     /// # Contract
     ///
@@ -71,7 +71,7 @@ impl Place {
         }
     }
 
-    /// Whether a sign of this class is an item's name.
+    /// Whether a sign of this class is the name of the item.
     ///
     /// # Contract
     ///
@@ -84,7 +84,7 @@ impl Place {
     }
 }
 
-/// Whether an item's name is wanted.
+/// Whether the name of the item may come next.
 fn wants_name(state: State) -> bool
 {
     match state {
@@ -94,7 +94,7 @@ fn wants_name(state: State) -> bool
     }
 }
 
-/// What it may be.
+/// Whether a sign of this class can be the name of an item.
 fn is_name(class: Class) -> bool
 {
     match class {
@@ -103,7 +103,7 @@ fn is_name(class: Class) -> bool
     }
 }
 
-/// A step within a type or bounds.
+/// The step within a type or bounds.
 fn range_step(place: Place, state: TypeState, class: Class) -> Option<Place>
 {
     let taken = type_step(state, class, place.depth == 0)?;
@@ -141,7 +141,7 @@ fn shifted(depth: usize, shift: Option<Shift>) -> Option<Place>
     })
 }
 
-/// Where an expression goes on after its angle brackets.
+/// The state after the angle brackets of an expression.
 fn after_angle(rule: Rule, state: TypeState) -> State
 {
     match rule {
@@ -152,7 +152,7 @@ fn after_angle(rule: Rule, state: TypeState) -> State
     }
 }
 
-/// The state after a step within a type, which may close the brackets of an expression.
+/// The state after a step within a type. The step may close the angle brackets of an expression.
 fn range_state(rule: Rule, state: TypeState, turn: Turn, depth: usize) -> State
 {
     match turn {
@@ -167,7 +167,7 @@ fn range_state(rule: Rule, state: TypeState, turn: Turn, depth: usize) -> State
     }
 }
 
-/// After a generic parameter that is whole.
+/// The step after a whole generic parameter.
 fn parameter_end(item: Item, class: Class) -> Option<Shift>
 {
     match class {
@@ -177,7 +177,7 @@ fn parameter_end(item: Item, class: Class) -> Option<Shift>
     }
 }
 
-/// A generic parameter.
+/// The step where a generic parameter begins.
 fn parameter(item: Item, class: Class) -> Option<Shift>
 {
     match class {
@@ -188,7 +188,7 @@ fn parameter(item: Item, class: Class) -> Option<Shift>
     }
 }
 
-/// After a lifetime that is a parameter.
+/// The step after a lifetime that is a generic parameter.
 fn lifetime_name(item: Item, class: Class) -> Option<Shift>
 {
     match class {
@@ -197,7 +197,7 @@ fn lifetime_name(item: Item, class: Class) -> Option<Shift>
     }
 }
 
-/// After the name of a parameter that is a type.
+/// The step after the name of a type parameter.
 fn type_name(item: Item, class: Class) -> Option<Shift>
 {
     match class {
@@ -207,7 +207,7 @@ fn type_name(item: Item, class: Class) -> Option<Shift>
     }
 }
 
-/// The default of a constant, but for types.
+/// The step at the default of a constant parameter, if the default is no type.
 fn const_default(item: Item, class: Class) -> Option<Shift>
 {
     match class {
@@ -217,7 +217,7 @@ fn const_default(item: Item, class: Class) -> Option<Shift>
     }
 }
 
-/// What a part begins with, after its attributes and visibility.
+/// The step where a part begins, after its attributes and its visibility.
 fn begin(part: Part, item: Item, rule: Rule, class: Class) -> Option<Shift>
 {
     match (part, class) {
@@ -230,7 +230,7 @@ fn begin(part: Part, item: Item, rule: Rule, class: Class) -> Option<Shift>
     }
 }
 
-/// The same where no visibility stands before it.
+/// The step where a part without a visibility begins, after its attributes.
 fn unmarked(part: Part, item: Item, rule: Rule, class: Class) -> Option<Shift>
 {
     match part {
@@ -247,7 +247,7 @@ fn has_visibility(part: Part) -> bool
     }
 }
 
-/// After the attributes of a part.
+/// The step after the attributes of a part.
 fn attributed(part: Part, item: Item, rule: Rule, class: Class) -> Option<Shift>
 {
     match class {
@@ -268,7 +268,7 @@ fn has_attributes(part: Part) -> bool
     }
 }
 
-/// Before another attribute of a part, or what follows them.
+/// The step before another attribute of a part, or before what follows the attributes.
 fn before(part: Part, item: Item, rule: Rule, class: Class) -> Option<Shift>
 {
     match class {
@@ -278,7 +278,7 @@ fn before(part: Part, item: Item, rule: Rule, class: Class) -> Option<Shift>
     }
 }
 
-/// Before a part. Generic parameters may end there.
+/// The step before a part. A list of generic parameters may end here.
 fn before_first(part: Part, item: Item, rule: Rule, class: Class) -> Option<Shift>
 {
     match (part, class) {
@@ -287,7 +287,7 @@ fn before_first(part: Part, item: Item, rule: Rule, class: Class) -> Option<Shif
     }
 }
 
-/// After the `pub` of a part.
+/// The step after the `pub` of a part.
 fn public(part: Part, item: Item, rule: Rule, class: Class) -> Option<Shift>
 {
     match class {
@@ -296,7 +296,7 @@ fn public(part: Part, item: Item, rule: Rule, class: Class) -> Option<Shift>
     }
 }
 
-/// Before the discriminant of a variant.
+/// The step before the discriminant of a variant.
 fn variant_value(item: Item, class: Class) -> Option<Shift>
 {
     match class {
@@ -305,7 +305,7 @@ fn variant_value(item: Item, class: Class) -> Option<Shift>
     }
 }
 
-/// After the name of a variant.
+/// The step after the name of a variant.
 fn variant_body(item: Item, rule: Rule, class: Class) -> Option<Shift>
 {
     match class {
@@ -316,7 +316,7 @@ fn variant_body(item: Item, rule: Rule, class: Class) -> Option<Shift>
     }
 }
 
-/// What may follow a type or bounds.
+/// The step after a type or bounds.
 fn follow(item: Item, rule: Rule, class: Class) -> Option<Shift>
 {
     match (rule, class) {
@@ -337,7 +337,7 @@ fn follow(item: Item, rule: Rule, class: Class) -> Option<Shift>
     }
 }
 
-/// What a sign leads to at a spot.
+/// The step outside of types and bounds.
 fn spot_step(item: Item, rule: Rule, spot: Spot, class: Class) -> Option<Shift>
 {
     match (spot, class) {
@@ -378,7 +378,7 @@ fn spot_step(item: Item, rule: Rule, spot: Spot, class: Class) -> Option<Shift>
     }
 }
 
-/// After the generic parameters of an `impl` a type begins.
+/// The type that begins after the generic parameters. Only an `impl` has one.
 fn closing_type(item: Item) -> Option<TypeStart>
 {
     match item {
@@ -387,7 +387,7 @@ fn closing_type(item: Item) -> Option<TypeStart>
     }
 }
 
-/// The type that may begin at a spot.
+/// The type that can begin in this state.
 fn spot_type(item: Item, rule: Rule, spot: Spot) -> Option<TypeStart>
 {
     match spot {
@@ -403,7 +403,7 @@ fn spot_type(item: Item, rule: Rule, spot: Spot) -> Option<TypeStart>
     }
 }
 
-/// Whether what is read may end after a type or bounds.
+/// Whether the part that is read may end after a type or bounds.
 fn rule_ends(item: Item, rule: Rule) -> bool
 {
     match rule {
@@ -414,7 +414,7 @@ fn rule_ends(item: Item, rule: Rule) -> bool
     }
 }
 
-/// Whether attributes and a visibility are all of it.
+/// Whether the part has only attributes or a visibility.
 fn is_front(part: Part) -> bool
 {
     match part {
@@ -423,7 +423,7 @@ fn is_front(part: Part) -> bool
     }
 }
 
-/// Whether what is read may end before a part: a list may.
+/// Whether what is read may end before this part, as a list may.
 fn part_ends(item: Item, rule: Rule, part: Part) -> bool
 {
     match (item, rule, part) {

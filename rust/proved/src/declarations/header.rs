@@ -1,10 +1,10 @@
 // Made from crates/declarations/src/header.rt by rust/erase: change that file, not this one.
-//! Items: what may follow their names.
+//! The steps of the walk over an item, from its name on. A step says where a sign leads.
 
 use crate::declarations::class::{Class, Keyword};
 use crate::declarations::place::{Front, Item, Part, Rule, Shift, Spot, to_bounds, to_front, to_spot, to_type};
 
-/// Whether a body in braces may end the item.
+/// Whether the item may end with a body in braces.
 fn in_braces(item: Item) -> bool
 {
     match item {
@@ -23,7 +23,7 @@ fn in_braces(item: Item) -> bool
     }
 }
 
-/// Whether `;` may end it.
+/// Whether the item may end with `;`.
 fn in_semicolon(item: Item) -> bool
 {
     match item {
@@ -42,7 +42,7 @@ fn in_semicolon(item: Item) -> bool
     }
 }
 
-/// After `=`: the type of an alias, or the expression of a constant.
+/// The step after `=`, before the type of an alias or the expression of a constant.
 fn value(item: Item) -> Option<Shift>
 {
     match item {
@@ -52,7 +52,7 @@ fn value(item: Item) -> Option<Shift>
     }
 }
 
-/// After the header of an item, or its where clause.
+/// The step after the header of an item, or after its where clause.
 pub(crate) fn body(item: Item, class: Class) -> Option<Shift>
 {
     match class {
@@ -63,7 +63,7 @@ pub(crate) fn body(item: Item, class: Class) -> Option<Shift>
     }
 }
 
-/// Whether no item is declared around a part, whose body would have to follow.
+/// Whether the part is read on its own, so that no body has to follow.
 pub(crate) fn is_alone(item: Item) -> bool
 {
     match item {
@@ -72,7 +72,7 @@ pub(crate) fn is_alone(item: Item) -> bool
     }
 }
 
-/// Whether it may have a where clause.
+/// Whether the item may have a where clause.
 fn has_where(item: Item) -> bool
 {
     match item {
@@ -90,7 +90,7 @@ fn has_where(item: Item) -> bool
     }
 }
 
-/// After the header of an item, which a where clause may follow.
+/// The step after the header of an item, where a where clause may begin.
 pub(crate) fn header(item: Item, class: Class) -> Option<Shift>
 {
     match class {
@@ -99,7 +99,7 @@ pub(crate) fn header(item: Item, class: Class) -> Option<Shift>
     }
 }
 
-/// After the generic parameters of a struct.
+/// The step after the generic parameters of a struct.
 fn struct_header(class: Class) -> Option<Shift>
 {
     match class {
@@ -108,7 +108,7 @@ fn struct_header(class: Class) -> Option<Shift>
     }
 }
 
-/// After those of a function, which its parameters follow.
+/// The step after the generic parameters of a function, before its parameters.
 fn function_header(class: Class) -> Option<Shift>
 {
     match class {
@@ -117,7 +117,7 @@ fn function_header(class: Class) -> Option<Shift>
     }
 }
 
-/// After the parameters of a function.
+/// The step after the parameters of a function.
 fn return_header(class: Class) -> Option<Shift>
 {
     match class {
@@ -126,7 +126,7 @@ fn return_header(class: Class) -> Option<Shift>
     }
 }
 
-/// After the name of a constant or static.
+/// The step after the name of a constant or a static.
 fn typed_header(item: Item, class: Class) -> Option<Shift>
 {
     match class {
@@ -152,7 +152,7 @@ fn trait_header(class: Class) -> Option<Shift>
     }
 }
 
-/// After the generic parameters of an `impl`, but for types.
+/// The step after the generic parameters of an `impl`, if no type begins there.
 pub(crate) fn impl_header(class: Class) -> Option<Shift>
 {
     match class {
@@ -162,7 +162,7 @@ pub(crate) fn impl_header(class: Class) -> Option<Shift>
     }
 }
 
-/// What may stand after the generic parameters of an item, or after those that may be left out.
+/// The step after the generic parameters of an item, which may be left out.
 pub(crate) fn closing(item: Item, class: Class) -> Option<Shift>
 {
     match item {
@@ -177,7 +177,7 @@ pub(crate) fn closing(item: Item, class: Class) -> Option<Shift>
     }
 }
 
-/// After a name that generic parameters may follow.
+/// The step after a name that generic parameters may follow.
 pub(crate) fn generics(item: Item, class: Class) -> Option<Shift>
 {
     match class {

@@ -1,14 +1,14 @@
 // Made from crates/declarations/src/keyword.rt by rust/erase: change that file, not this one.
-//! Keywords.
+//! Which identifiers are keywords of the grammar.
 
 use crate::declarations::class::Class;
 use crate::declarations::signs::name_class;
 use crate::pm_token::Ident;
 
-/// Whether the identifier is a keyword to the grammar, and so no name: a strict or reserved one of Rust 2021, or `_`,
-/// but for `try`.
+/// Returns whether the identifier is a keyword of the grammar, and so cannot be a name.
 ///
-/// `struct` is, and `union`, `r#struct` and `auto` are not.
+/// The keywords are `_` and the strict and reserved keywords of Rust 2021, except `try`. For example, `struct` is a
+/// keyword, and `union`, `r#struct` and `auto` are none.
 ///
 /// # Contract
 ///

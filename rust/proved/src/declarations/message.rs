@@ -1,5 +1,5 @@
 // Made from crates/declarations/src/message.rt by rust/erase: change that file, not this one.
-//! How a fault is told to the compiler.
+//! Code that makes the compiler report an error.
 
 use crate::declarations::fault::Fault;
 use crate::pm_span::Span;
@@ -9,10 +9,10 @@ use crate::pm_token::{Delimiter, Spacing};
 use crate::shim::alloc::AllocError;
 
 impl Fault {
-    /// The code that makes the compiler tell the fault: `::core::compile_error! { "not expected here" }`.
+    /// Returns code that makes the compiler report this error: `::core::compile_error! { "not expected here" }`.
     ///
-    /// The text is that of Display. Each tree has the fault's span, which where more trees are missing is the call
-    /// site. Fails where memory runs out.
+    /// The text is that of `Display`. Each tree of the code has the span of the error, or the call site if trees are
+    /// missing. Fails if it runs out of memory.
     ///
     /// # Contract
     ///
@@ -33,9 +33,10 @@ impl Fault {
     }
 }
 
-/// The code that makes the compiler tell this text: `::core::compile_error! { "text" }`, each tree with this span.
+/// Returns code that makes the compiler report this text: `::core::compile_error! { "text" }`.
 ///
-/// So a macro refuses what it can't use at the token that is wrong. Fails where memory runs out.
+/// Each tree of the code has the given span, so a macro can reject its input at the token that is wrong. Fails if it
+/// runs out of memory.
 ///
 /// # Contract
 ///

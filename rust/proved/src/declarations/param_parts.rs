@@ -1,8 +1,8 @@
 // Made from crates/declarations/src/param_parts.rt by rust/erase: change that file, not this one.
-//! The parts of generic parameters and of predicates, by the trees that are left after each.
+//! The parts of generic parameters and of predicates.
 //!
-//! Each function answers its part at the front of the trees and what is left, or else the trees before which the fault
-//! stands.
+//! A function here returns the part at the start of the trees, and the trees after it. At an error it returns the trees
+//! from the error on.
 
 use crate::declarations::class::{Class, Keyword};
 use crate::declarations::generics::{Param, ParamKind, Predicate};
@@ -45,15 +45,15 @@ pub(crate) fn predicate_of<'a>(
     }
 }
 
-// ---- parts of the grammar's, by the trees that are left
+// ---- parts that the tables read
 
-/// The trees after so many.
+/// The trees after the first `at` ones.
 fn left_at(trees: &[TokenTree], at: usize) -> &[TokenTree]
 {
     trees.split_at(at).1
 }
 
-/// The trees before these, with which they end.
+/// The trees before `rest`, with which they end.
 fn before<'a>(trees: &'a [TokenTree], rest: &[TokenTree]) -> &'a [TokenTree]
 {
     trees.split_at(trees.len() - rest.len()).0
@@ -89,9 +89,9 @@ fn type_of<'a>(
     }
 }
 
-// ---- signs
+// ---- single signs
 
-/// The trees after a `:`.
+/// The trees after the `:` that they begin with.
 fn past_colon(trees: &[TokenTree]) -> Option<&[TokenTree]>
 {
     let (class, rest) = first_sign(trees)?;
@@ -101,7 +101,7 @@ fn past_colon(trees: &[TokenTree]) -> Option<&[TokenTree]>
     }
 }
 
-/// The trees after a `=`.
+/// The trees after the `=` that they begin with.
 fn past_equals(trees: &[TokenTree]) -> Option<&[TokenTree]>
 {
     let (class, rest) = first_sign(trees)?;
@@ -111,7 +111,7 @@ fn past_equals(trees: &[TokenTree]) -> Option<&[TokenTree]>
     }
 }
 
-/// The trees after a `,`.
+/// The trees after the `,` that they begin with.
 fn past_comma(trees: &[TokenTree]) -> Option<&[TokenTree]>
 {
     let (class, rest) = first_sign(trees)?;
@@ -121,7 +121,7 @@ fn past_comma(trees: &[TokenTree]) -> Option<&[TokenTree]>
     }
 }
 
-/// The trees after a literal.
+/// The trees after the literal that they begin with.
 fn past_literal(trees: &[TokenTree]) -> Option<&[TokenTree]>
 {
     let (class, rest) = first_sign(trees)?;
@@ -131,7 +131,7 @@ fn past_literal(trees: &[TokenTree]) -> Option<&[TokenTree]>
     }
 }
 
-/// The trees after an element of a list.
+/// The trees after the end of a list's element, which is a `,` or the end of the trees.
 fn past_end(trees: &[TokenTree]) -> Option<&[TokenTree]>
 {
     if trees.is_empty() {
@@ -143,7 +143,7 @@ fn past_end(trees: &[TokenTree]) -> Option<&[TokenTree]>
     }
 }
 
-// ---- parameters
+// ---- the parts of a parameter
 
 /// A word, and the trees after it.
 fn word_of<'a>(
@@ -159,7 +159,7 @@ fn word_of<'a>(
     }
 }
 
-/// The kind and the name of a parameter.
+/// The kind and the name of a parameter, and the trees after them.
 fn name_of<'a>(
     trees: &'a [TokenTree],
 ) -> Result<(ParamKind, &'a [TokenTree], &'a [TokenTree]), &'a [TokenTree]>
@@ -178,7 +178,7 @@ fn name_of<'a>(
     }
 }
 
-/// The bounds after `:`, if it stands there.
+/// The bounds after `:`, or no trees if there is no `:`.
 fn may_bounds<'a>(
     trees: &'a [TokenTree],
 ) -> Result<(&'a [TokenTree], &'a [TokenTree]), &'a [TokenTree]>
@@ -189,7 +189,7 @@ fn may_bounds<'a>(
     }
 }
 
-/// The bounds after a `:` that stands there.
+/// The bounds after a `:` that must be there.
 fn must_bounds<'a>(
     trees: &'a [TokenTree],
 ) -> Result<(&'a [TokenTree], &'a [TokenTree]), &'a [TokenTree]>
@@ -200,7 +200,7 @@ fn must_bounds<'a>(
     }
 }
 
-/// The type after a `:` that stands there.
+/// The type after a `:` that must be there.
 fn must_type<'a>(
     trees: &'a [TokenTree],
 ) -> Result<(&'a [TokenTree], &'a [TokenTree]), &'a [TokenTree]>
@@ -211,7 +211,7 @@ fn must_type<'a>(
     }
 }
 
-/// The bounds of a parameter, or the type of a constant.
+/// The bounds of a lifetime or a type, or the type of a constant.
 fn bounds_of<'a>(
     kind: ParamKind,
     trees: &'a [TokenTree],
@@ -224,7 +224,7 @@ fn bounds_of<'a>(
     }
 }
 
-/// None of the trees.
+/// No trees, as a slice of the given ones.
 fn none_of(trees: &[TokenTree]) -> &[TokenTree]
 {
     trees.split_at(0).0
@@ -238,7 +238,7 @@ fn is_constant(class: Class) -> bool
     }
 }
 
-/// The default of a constant.
+/// The default of a constant: a literal, braces, `true`, `false` or a type.
 fn constant_of<'a>(
     trees: &'a [TokenTree],
 ) -> Result<(&'a [TokenTree], &'a [TokenTree]), &'a [TokenTree]>
@@ -258,7 +258,7 @@ fn constant_of<'a>(
     }
 }
 
-/// The type after `=`, if it stands there.
+/// The type after `=`, or no trees if there is no `=`.
 fn may_type<'a>(
     trees: &'a [TokenTree],
 ) -> Result<(&'a [TokenTree], &'a [TokenTree]), &'a [TokenTree]>
@@ -269,7 +269,7 @@ fn may_type<'a>(
     }
 }
 
-/// The constant after `=`, if it stands there.
+/// The constant after `=`, or no trees if there is no `=`.
 fn may_constant<'a>(
     trees: &'a [TokenTree],
 ) -> Result<(&'a [TokenTree], &'a [TokenTree]), &'a [TokenTree]>
@@ -280,7 +280,7 @@ fn may_constant<'a>(
     }
 }
 
-/// The default of a parameter.
+/// The default of a parameter. A lifetime has none.
 fn default_of<'a>(
     kind: ParamKind,
     trees: &'a [TokenTree],

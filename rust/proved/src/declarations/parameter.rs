@@ -11,42 +11,42 @@ use crate::declarations::types::TypeState;
 use crate::declarations::walk::walk_past;
 use crate::pm_stream::{Group, TokenTree};
 
-/// What a parameter of a function is.
+/// The form of a function's parameter.
 #[derive(Clone, Copy, Debug)]
 pub enum ParameterKind<'a> {
-    /// A receiver without a type, as `self`, `mut self`, `&self` or `&'a mut self`.
+    /// A receiver without a type, such as `self`, `mut self`, `&self` or `&'a mut self`.
     Receiver,
-    /// A receiver with this type, as `self: Box<Self>`.
+    /// A receiver with this type, such as `self: Box<Self>`.
     TypedReceiver(&'a [TokenTree]),
-    /// A pattern with this type, as `(a, b): (u8, u8)`.
+    /// A pattern with this type, such as `(a, b): (u8, u8)`.
     Typed(&'a [TokenTree]),
-    /// `...`, or a pattern with it, as `rest: ...`.
+    /// `...` alone, or a pattern with `...` for its type, such as `rest: ...`.
     Variadic,
 }
 
-/// A parameter of a function, as `&self`, `x: u8` or `#[a] (x, y): (u8, u8)`.
+/// A parameter of a function, such as `&self`, `x: u8` or `#[a] (x, y): (u8, u8)`.
 #[derive(Clone, Copy, Debug)]
 pub struct Parameter<'a> {
-    /// The attributes.
+    /// The outer attributes, perhaps none.
     pub attributes: &'a [TokenTree],
-    /// The pattern; the receiver, as `&'a mut self`, up to a `:`. It has no trees if the parameter is `...` alone.
+    /// The pattern or the receiver, without `:` and type. It has no trees if the parameter is `...` alone.
     pub pattern: &'a [TokenTree],
-    /// What the parameter is, with its type.
+    /// The form of the parameter, with its type.
     pub kind: ParameterKind<'a>,
 }
 
-/// What is read of a parameter up to its `:`, or its end.
+/// What a parameter begins with, up to its `:` or its end.
 #[derive(Clone, Copy)]
 pub enum Shape {
     /// A pattern.
     Pattern,
-    /// `self` or `mut self`, which a type may follow.
+    /// `self` or `mut self`. A type may follow.
     Receiver,
-    /// `self` after `&`.
+    /// A receiver that begins with `&`. No type may follow.
     Reference,
 }
 
-/// Whether a pattern may begin with the sign, which is no angle bracket.
+/// Whether a pattern can begin with the sign, apart from angle brackets.
 fn is_pattern(class: Class) -> bool
 {
     match class {
@@ -59,7 +59,7 @@ fn is_pattern(class: Class) -> bool
     }
 }
 
-/// Whether a pattern may go on with the sign.
+/// Whether the sign can be in a pattern after its first sign.
 fn continues(class: Class) -> bool
 {
     match class {
@@ -76,13 +76,13 @@ fn opens(class: Class) -> bool
     }
 }
 
-/// Whether a pattern may begin with the sign.
+/// Whether a pattern can begin with the sign.
 fn may_begin(class: Class) -> bool
 {
     is_pattern(class) || opens(class)
 }
 
-/// Past a type.
+/// Skips a type.
 fn past_type(trees: &[TokenTree]) -> Result<&[TokenTree], &[TokenTree]>
 {
     let start = Place {
@@ -94,7 +94,7 @@ fn past_type(trees: &[TokenTree]) -> Result<&[TokenTree], &[TokenTree]>
     walk_past(trees, start)
 }
 
-/// Past attributes.
+/// Skips attributes.
 fn past_attributes(trees: &[TokenTree]) -> Result<&[TokenTree], &[TokenTree]>
 {
     let start = Place {
@@ -106,7 +106,7 @@ fn past_attributes(trees: &[TokenTree]) -> Result<&[TokenTree], &[TokenTree]>
     walk_past(trees, start)
 }
 
-/// Past a sign with which a pattern goes on, if one is next.
+/// Skips one more sign of a pattern, if one is next.
 fn pattern_sign(trees: &[TokenTree]) -> Option<&[TokenTree]>
 {
     match first_sign(trees) {
@@ -115,7 +115,7 @@ fn pattern_sign(trees: &[TokenTree]) -> Option<&[TokenTree]>
     }
 }
 
-/// Past more signs of a pattern.
+/// Skips more signs of a pattern.
 fn pattern_signs(trees: &[TokenTree]) -> &[TokenTree]
 {
     let mut left = trees;
@@ -125,7 +125,7 @@ fn pattern_signs(trees: &[TokenTree]) -> &[TokenTree]
     left
 }
 
-/// Past braces, or nothing.
+/// Skips braces, if they are next.
 fn braces(trees: &[TokenTree]) -> Result<&[TokenTree], &[TokenTree]>
 {
     if begins(trees, Class::Braces) {
@@ -144,7 +144,7 @@ fn begins_angle(trees: &[TokenTree]) -> bool
     }
 }
 
-/// Past a path from its angle brackets on, and fields in braces.
+/// Skips the end of a path from its angle brackets on, and fields in braces.
 fn pattern_angle(trees: &[TokenTree]) -> Result<&[TokenTree], &[TokenTree]>
 {
     match past_type(trees) {
@@ -153,7 +153,7 @@ fn pattern_angle(trees: &[TokenTree]) -> Result<&[TokenTree], &[TokenTree]>
     }
 }
 
-/// Past a path from its angle brackets on, or nothing.
+/// Skips the end of a path from its angle brackets on, if they are next.
 fn perhaps_angle(trees: &[TokenTree]) -> Result<&[TokenTree], &[TokenTree]>
 {
     if begins_angle(trees) {
@@ -163,13 +163,13 @@ fn perhaps_angle(trees: &[TokenTree]) -> Result<&[TokenTree], &[TokenTree]>
     }
 }
 
-/// Past the rest of a pattern.
+/// Skips the rest of a pattern.
 fn pattern_rest(trees: &[TokenTree]) -> Result<&[TokenTree], &[TokenTree]>
 {
     perhaps_angle(pattern_signs(trees))
 }
 
-/// Whether a pattern begins.
+/// Whether a pattern can begin with the first sign.
 fn begins_pattern(trees: &[TokenTree]) -> bool
 {
     match first_sign(trees) {
@@ -178,7 +178,7 @@ fn begins_pattern(trees: &[TokenTree]) -> bool
     }
 }
 
-/// Past a pattern.
+/// Skips a pattern.
 fn past_pattern(trees: &[TokenTree]) -> Result<&[TokenTree], &[TokenTree]>
 {
     if begins_pattern(trees) {
@@ -188,7 +188,7 @@ fn past_pattern(trees: &[TokenTree]) -> Result<&[TokenTree], &[TokenTree]>
     }
 }
 
-/// Past `self` or `mut self`.
+/// Skips `self` or `mut self`.
 fn may_mutate(trees: &[TokenTree]) -> Result<&[TokenTree], &[TokenTree]>
 {
     if begins(trees, Class::Keyword(Keyword::Mut)) {
@@ -198,19 +198,19 @@ fn may_mutate(trees: &[TokenTree]) -> Result<&[TokenTree], &[TokenTree]>
     }
 }
 
-/// Past `..`.
+/// Skips `..`.
 fn two_dots(trees: &[TokenTree]) -> Result<&[TokenTree], &[TokenTree]>
 {
     past(past(trees, Class::Dot)?, Class::Dot)
 }
 
-/// Past `...`.
+/// Skips `...`.
 fn dots(trees: &[TokenTree]) -> Result<&[TokenTree], &[TokenTree]>
 {
     two_dots(past(trees, Class::Dot)?)
 }
 
-/// What follows `mut`, up to a `:`.
+/// What a parameter begins with after its `mut`, and the trees from the `:` or the end on.
 fn after_mut(trees: &[TokenTree]) -> Result<(Shape, &[TokenTree]), &[TokenTree]>
 {
     match first_sign(trees) {
@@ -225,7 +225,7 @@ fn after_mut(trees: &[TokenTree]) -> Result<(Shape, &[TokenTree]), &[TokenTree]>
     }
 }
 
-/// A pattern, up to its `:`.
+/// Reads a pattern, up to its `:`.
 fn pattern_shape(trees: &[TokenTree]) -> Result<(Shape, &[TokenTree]), &[TokenTree]>
 {
     match past_pattern(trees) {
@@ -234,7 +234,7 @@ fn pattern_shape(trees: &[TokenTree]) -> Result<(Shape, &[TokenTree]), &[TokenTr
     }
 }
 
-/// What follows `& mut`, up to a `:`.
+/// What a parameter begins with after its `& mut`, and the trees from the `:` or the end on.
 fn after_and_mut(trees: &[TokenTree]) -> Result<(Shape, &[TokenTree]), &[TokenTree]>
 {
     match first_sign(trees) {
@@ -249,7 +249,7 @@ fn after_and_mut(trees: &[TokenTree]) -> Result<(Shape, &[TokenTree]), &[TokenTr
     }
 }
 
-/// What follows `&`, up to a `:`.
+/// What a parameter begins with after its `&`, and the trees from the `:` or the end on.
 fn after_and(trees: &[TokenTree]) -> Result<(Shape, &[TokenTree]), &[TokenTree]>
 {
     match first_sign(trees) {
@@ -272,7 +272,7 @@ fn after_and(trees: &[TokenTree]) -> Result<(Shape, &[TokenTree]), &[TokenTree]>
     }
 }
 
-/// A receiver or a pattern, up to a `:`.
+/// Reads a receiver or a pattern, up to the `:` or the end.
 fn named_front(trees: &[TokenTree]) -> Result<(Shape, &[TokenTree]), &[TokenTree]>
 {
     match first_sign(trees) {
@@ -292,7 +292,7 @@ fn named_front(trees: &[TokenTree]) -> Result<(Shape, &[TokenTree]), &[TokenTree
     }
 }
 
-/// The kind of a receiver with the type that follows it, and the trees after it.
+/// The form of a receiver, with the type that may follow it, and the trees after it.
 fn self_type(trees: &[TokenTree]) -> Result<(ParameterKind<'_>, &[TokenTree]), &[TokenTree]>
 {
     match first_sign(trees) {
@@ -310,7 +310,7 @@ fn self_type(trees: &[TokenTree]) -> Result<(ParameterKind<'_>, &[TokenTree]), &
     }
 }
 
-/// The kind of a parameter with a pattern, after its `:`, and the trees after it.
+/// The form of a parameter with a pattern, from after its `:` on, and the trees after it.
 fn typed_end(trees: &[TokenTree]) -> Result<(ParameterKind<'_>, &[TokenTree]), &[TokenTree]>
 {
     if begins(trees, Class::Dot) {
@@ -326,7 +326,7 @@ fn typed_end(trees: &[TokenTree]) -> Result<(ParameterKind<'_>, &[TokenTree]), &
     }
 }
 
-/// The same, from its `:` on.
+/// The form of a parameter with a pattern, from its `:` on, and the trees after it.
 fn typed(trees: &[TokenTree]) -> Result<(ParameterKind<'_>, &[TokenTree]), &[TokenTree]>
 {
     match first_sign(trees) {
@@ -341,7 +341,7 @@ fn typed(trees: &[TokenTree]) -> Result<(ParameterKind<'_>, &[TokenTree]), &[Tok
     }
 }
 
-/// The kind of a parameter, after what is read up to its `:` or its end, and the trees after it.
+/// The form of a parameter that begins with `shape`, and the trees after it.
 fn end_of(
     shape: Shape,
     trees: &[TokenTree],
@@ -359,7 +359,7 @@ fn end_of(
 pub struct Named<'a> {
     /// The pattern or the receiver.
     pub pattern: &'a [TokenTree],
-    /// What the parameter is.
+    /// The form of the parameter.
     pub kind: ParameterKind<'a>,
 }
 
@@ -378,7 +378,7 @@ fn named_of(trees: &[TokenTree]) -> Result<(Named<'_>, &[TokenTree]), &[TokenTre
     }
 }
 
-/// The same, or `...`.
+/// A receiver, a pattern with its type, or `...`, and the trees after it.
 fn rest_of(trees: &[TokenTree]) -> Result<(Named<'_>, &[TokenTree]), &[TokenTree]>
 {
     if begins(trees, Class::Dot) {
@@ -397,7 +397,7 @@ fn rest_of(trees: &[TokenTree]) -> Result<(Named<'_>, &[TokenTree]), &[TokenTree
     }
 }
 
-/// The parameter at the front of the trees, and the trees after it; or those from the fault on.
+/// The parameter at the start of the trees, and the trees after it; or the trees from the error on.
 fn parameter_of(trees: &[TokenTree]) -> Result<(Parameter<'_>, &[TokenTree]), &[TokenTree]>
 {
     match past_attributes(trees) {
@@ -419,15 +419,15 @@ fn parameter_of(trees: &[TokenTree]) -> Result<(Parameter<'_>, &[TokenTree]), &[
     }
 }
 
-/// The parameter of a function at the front of the trees, and the trees after it.
+/// Returns the parameter of a function at the start of the trees, and the trees after it.
 ///
-/// The trees are those in the parentheses of a function, or what an earlier call left of them. A parameter has
-/// attributes, and is a receiver, a pattern with its type, or `...`. Of a pattern and a type only the end is found: of
-/// `(a, b): Fn(A, B) -> C, d: D` the pattern is `(a, b)`, the type `Fn(A, B) -> C`, and `, d: D` is left. A receiver is
-/// `self`, `mut self`, `&self` or `&mut self`, perhaps with a lifetime after `&`; without `&` it may have a type.
+/// Pass the trees in the parentheses of a function, or the rest that an earlier call returned. A parameter has
+/// attributes, and then a receiver, a pattern with its type, or `...`. A receiver is `self`, `mut self`, `&self` or
+/// `&mut self`. A lifetime may follow its `&`, and without `&` it may have a type. Patterns and types are not parsed;
+/// only their ends are found. The call does not check that a receiver comes first and `...` last. It allocates nothing.
 ///
-/// Where no parameter stands it answers the fault. The grammar is that of crates/declarations/README.md, with the one
-/// reading that the grammar gives; that a receiver comes first, and `...` last, isn't asked. It takes no memory.
+/// If the trees begin with no parameter, the call returns a `Fault`. The rules are in crates/declarations/README.md.
+/// For `(a, b): Fn(A, B) -> C, d: D` the pattern is `(a, b)`, the type is `Fn(A, B) -> C`, and the rest is `, d: D`.
 ///
 /// # Contract
 ///
@@ -456,12 +456,12 @@ pub fn parse_parameter(trees: &[TokenTree]) -> Result<(Parameter<'_>, &[TokenTre
     }
 }
 
-/// The pattern at the front of the trees, and the trees after it.
+/// Returns the pattern at the start of the trees, and the trees after it.
 ///
-/// A pattern isn't parsed: its end is found, which is before a `:` or any other sign of which no pattern is made. Of
-/// `(a, b): (A, B)` it is `(a, b)`. It is the pattern of a parameter, so neither `self` nor a `|` outside of groups is
-/// in it, and keywords such as `in` don't end it. It is for trees of a macro's own grammar, as the parameters of a
-/// closure.
+/// A pattern is not parsed; only its end is found, which is before the first sign that can be in no pattern, such as
+/// `:`. The pattern is one of a parameter: it has no `self`, and `|` only in groups. A keyword such as `in` does not
+/// end it. The call is for trees of a macro's own grammar, such as the parameters of a closure. For `(a, b): (A, B)`
+/// the pattern is `(a, b)`.
 ///
 /// # Contract
 ///
@@ -488,11 +488,11 @@ pub fn split_pattern(trees: &[TokenTree]) -> Result<(&[TokenTree], &[TokenTree])
     }
 }
 
-/// The parameters of a function, in order, with `,` between two and perhaps after the last.
+/// The parameters of a function, in order. A `,` is between two parameters, and may be after the last.
 ///
-/// It gives each parameter as [`parse_parameter`] answers it of the trees that are left, or the fault, whose trees are
-/// counted from there on. After a fault it gives nothing. Of `(&self, x: u8)` it gives `&self` and `x: u8`. It takes no
-/// memory.
+/// The iterator gives each parameter as [`parse_parameter`] reads it from the remaining trees. At an error it gives a
+/// `Fault`, whose `at` counts from the start of the remaining trees, and then ends. It allocates nothing. For
+/// `(&self, x: u8)` it gives `&self` and `x: u8`.
 ///
 /// ```text
 /// for parameter in Parameters::new(group) {
@@ -502,12 +502,12 @@ pub fn split_pattern(trees: &[TokenTree]) -> Result<(&[TokenTree], &[TokenTree])
 /// ```
 #[derive(Clone, Copy, Debug)]
 pub struct Parameters<'a> {
-    /// The trees that are left.
+    /// The trees that are not yet read.
     pub left: &'a [TokenTree],
 }
 
 impl<'a> Parameters<'a> {
-    /// The parameters in these parentheses.
+    /// Returns an iterator over the parameters in these parentheses.
     ///
     /// # Contract
     ///
@@ -525,7 +525,7 @@ impl<'a> Parameters<'a> {
 impl<'a> Iterator for Parameters<'a> {
     type Item = Result<Parameter<'a>, Fault>;
 
-    // No more come than trees are left.
+    // At most as many elements come as trees are left.
 
     fn next(&mut self) -> Option<Result<Parameter<'a>, Fault>> {
         if self.left.is_empty() {

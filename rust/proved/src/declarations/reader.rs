@@ -1,12 +1,12 @@
 // Made from crates/declarations/src/reader.rt by rust/erase: change that file, not this one.
-//! Functions that read by a rule of the grammar: each answers the trees after what its rule finds at the front of the
-//! trees, or those from the fault on.
+//! Functions that read by one rule of the grammar. Each returns the trees after what its rule reads at the start of the
+//! trees, or the trees from the error on.
 
 use crate::declarations::class::{Class, code};
 use crate::declarations::signs::first_sign;
 use crate::pm_stream::TokenTree;
 
-/// Whether a sign is of this class.
+/// Whether a sign has this class.
 pub(crate) fn is(class: Class, found: Class) -> bool
 {
     code(class) == code(found)
@@ -21,7 +21,7 @@ pub(crate) fn begins(trees: &[TokenTree], class: Class) -> bool
     }
 }
 
-/// Past a sign of this class.
+/// Skips a sign of this class.
 pub(crate) fn past(trees: &[TokenTree], class: Class) -> Result<&[TokenTree], &[TokenTree]>
 {
     match first_sign(trees) {
@@ -36,7 +36,7 @@ pub(crate) fn past(trees: &[TokenTree], class: Class) -> Result<&[TokenTree], &[
     }
 }
 
-/// The trees before the rest.
+/// The trees before `rest`, with which they end.
 pub(crate) fn part<'a>(trees: &'a [TokenTree], rest: &[TokenTree]) -> &'a [TokenTree]
 {
     trees.split_at(trees.len() - rest.len()).0

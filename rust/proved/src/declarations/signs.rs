@@ -1,14 +1,14 @@
 // Made from crates/declarations/src/signs.rt by rust/erase: change that file, not this one.
-//! The signs of trees: each is one tree, or two that are read as one.
+//! The signs of trees. A sign is one tree, or two trees that are read as one.
 
 use crate::declarations::class::{Class, Keyword, Word};
 use crate::pm_stream::{Group, TokenStream, TokenTree};
 use crate::pm_token::{Delimiter, Ident, Spacing};
 
-/// The class of the first sign of the trees, and the trees after it; `None` where there are none.
+/// Returns the class of the first sign, and the trees after this sign. Returns `None` if there are no trees.
 ///
-/// `::`, `->`, `<=` and `||` are one sign where the first mark is Joint, and so are `'` and an identifier. Any other
-/// tree is a sign by itself. It takes the same time whatever follows, and no memory.
+/// `::`, `->`, `<=` and `||` are one sign if the first mark is `Joint`. A `'` and an identifier are one sign, and so
+/// are `#` and `!`. Every other tree is a sign of its own. The call takes O(1) time, and allocates nothing.
 ///
 /// # Contract
 ///
@@ -29,7 +29,7 @@ pub fn first_sign<'a>(trees: &'a [TokenTree]) -> Option<(Class, &'a [TokenTree])
     }
 }
 
-/// The class of two trees that are read as one sign, if they are.
+/// The class of two trees that are read as one sign, or `None`.
 fn pair_class(first: &TokenTree, second: &TokenTree) -> Option<Class>
 {
     let TokenTree::Punct(mark) = first else {
@@ -54,7 +54,7 @@ fn pair_class(first: &TokenTree, second: &TokenTree) -> Option<Class>
     }
 }
 
-/// The class of two marks that are read as one sign, Joint or not.
+/// The class of two marks that are read as one sign, whatever the spacing of the first is.
 fn loose_class(first: char, second: char) -> Option<Class>
 {
     if first == '#' && second == '!' {
@@ -63,7 +63,7 @@ fn loose_class(first: char, second: char) -> Option<Class>
     None
 }
 
-/// The same, where the first is Joint.
+/// The class of two marks that are read as one sign, if the first is `Joint`.
 fn joint_class(first: char, second: char) -> Option<Class>
 {
     if let Some(class) = marks_class(first, second) {
@@ -72,7 +72,7 @@ fn joint_class(first: char, second: char) -> Option<Class>
     loose_class(first, second)
 }
 
-/// The class of two marks that are read as one sign only where the first is Joint.
+/// The class of two marks that are read as one sign only if the first is `Joint`.
 fn marks_class(first: char, second: char) -> Option<Class>
 {
     if first == ':' && second == ':' {
@@ -116,7 +116,7 @@ fn group_class(group: &Group) -> Class
     }
 }
 
-/// A group without delimiters, as macros by example pass a fragment.
+/// The class of a group without delimiters, in which a `macro_rules!` macro passes a fragment.
 fn unseen_class(inside: &TokenStream) -> Class
 {
     if is_visibility(inside) {
@@ -125,7 +125,7 @@ fn unseen_class(inside: &TokenStream) -> Class
     Class::Invisible
 }
 
-/// Whether trees are a visibility: none, or `pub`, perhaps with a restriction.
+/// Whether the trees are a visibility: no trees, or `pub` with a restriction or without.
 fn is_visibility(inside: &TokenStream) -> bool
 {
     let Some((first, rest)) = inside.trees().split_first() else {
@@ -137,13 +137,13 @@ fn is_visibility(inside: &TokenStream) -> bool
     }
 }
 
-/// Whether an identifier is `pub`, and what follows it belongs to it.
+/// Whether the identifier is `pub`, and what follows belongs to it.
 fn is_pub(ident: &Ident, belongs: bool) -> bool
 {
     ident.eq_str("pub") && belongs
 }
 
-/// Whether the trees after `pub` are a restriction, or none.
+/// Whether the trees after `pub` are a restriction or none.
 fn may_restrict(trees: &[TokenTree]) -> bool
 {
     let Some((first, rest)) = trees.split_first() else {
@@ -155,7 +155,7 @@ fn may_restrict(trees: &[TokenTree]) -> bool
     }
 }
 
-/// Whether a group restricts `pub`, being the last tree.
+/// Whether the group restricts `pub`. It must be the last tree.
 fn restricts_in(group: &Group, last: bool) -> bool
 {
     match group.delimiter() {
@@ -164,7 +164,7 @@ fn restricts_in(group: &Group, last: bool) -> bool
     }
 }
 
-/// Whether trees in parentheses restrict `pub`: `crate`, `self` or `super` alone, or `in` and others.
+/// Whether trees in parentheses restrict `pub`: `crate`, `self` or `super` alone, or `in` and more trees.
 fn is_restriction(inside: &TokenStream) -> bool
 {
     let Some((first, rest)) = inside.trees().split_first() else {
@@ -176,7 +176,7 @@ fn is_restriction(inside: &TokenStream) -> bool
     }
 }
 
-/// Whether an identifier restricts `pub`, alone in parentheses or not.
+/// Whether an identifier in parentheses restricts `pub`. `alone` says that it is the only tree there.
 fn restricts(ident: &Ident, alone: bool) -> bool
 {
     ident.eq_str("in")
@@ -205,7 +205,7 @@ fn mark_class(mark: char, joint: bool) -> Class
     }
 }
 
-/// A mark that stands in expressions alone.
+/// The class of a mark that occurs only in expressions.
 fn operator_class(mark: char) -> Class
 {
     match mark {
@@ -216,7 +216,7 @@ fn operator_class(mark: char) -> Class
     }
 }
 
-/// It is compared with those words alone that begin as it does: the compiler makes one choice of the tests of `first`.
+/// The class of an identifier. Each test compares the first byte first, so the compiler can make one jump by that byte.
 pub(crate) fn name_class(ident: &Ident) -> Class
 {
     let first = ident.first_byte();
@@ -232,7 +232,7 @@ pub(crate) fn name_class(ident: &Ident) -> Class
     }
 }
 
-/// Whether the identifier, whose first byte is this one, is written so.
+/// Whether the identifier is this text. `first` is the first byte of the identifier.
 #[cfg_attr(not(debug_assertions), inline(always))]
 fn is_written(ident: &Ident, first: u8, text: &str) -> bool
 {
@@ -242,7 +242,7 @@ fn is_written(ident: &Ident, first: u8, text: &str) -> bool
     }
 }
 
-/// The keywords that stand in a path.
+/// The class of a keyword that can be in a path.
 #[cfg_attr(not(debug_assertions), inline(always))]
 fn path_class(ident: &Ident, first: u8) -> Option<Class>
 {
@@ -264,7 +264,7 @@ fn path_class(ident: &Ident, first: u8) -> Option<Class>
     None
 }
 
-/// The keywords that are operands, or stand before or after one that may be left out.
+/// The class of a keyword that is an operand, or that can come before or after an operand.
 #[cfg_attr(not(debug_assertions), inline(always))]
 fn operand_class(ident: &Ident, first: u8) -> Option<Class>
 {
@@ -308,7 +308,7 @@ fn keyword_of(ident: &Ident, first: u8) -> Option<Keyword>
     }
 }
 
-/// The keywords that begin items alone.
+/// The keyword, if it only begins items or their parts.
 #[cfg_attr(not(debug_assertions), inline(always))]
 fn item_keyword(ident: &Ident, first: u8) -> Option<Keyword>
 {
@@ -342,7 +342,7 @@ fn item_keyword(ident: &Ident, first: u8) -> Option<Keyword>
     None
 }
 
-/// The keywords before a type's operand.
+/// The keyword, if it can come before the operand of a type.
 #[cfg_attr(not(debug_assertions), inline(always))]
 fn type_keyword(ident: &Ident, first: u8) -> Option<Keyword>
 {
@@ -379,7 +379,7 @@ fn type_keyword(ident: &Ident, first: u8) -> Option<Keyword>
     None
 }
 
-/// The keywords that no rule names, in the order of the alphabet.
+/// The keywords that no rule names, from `abstract` to `let`.
 #[cfg_attr(not(debug_assertions), inline(always))]
 fn is_early_keyword(ident: &Ident, first: u8) -> bool
 {

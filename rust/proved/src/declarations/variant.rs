@@ -7,25 +7,25 @@ use crate::declarations::parts::{split_attributes, split_variant, split_visibili
 use crate::pm_stream::TokenTree;
 use crate::pm_token::{Delimiter, Ident};
 
-/// A variant of an enum: its parts in reading order.
+/// A variant of an enum, split into its parts in reading order.
 #[derive(Clone, Copy, Debug)]
 pub struct Variant<'a> {
-    /// The outer attributes, which may be none.
+    /// The outer attributes, perhaps none.
     pub attributes: &'a [TokenTree],
-    /// The visibility, which a macro may have passed.
+    /// The visibility, or no trees. Only the input of a macro can have one.
     pub visibility: &'a [TokenTree],
     /// The name.
     pub name: &'a Ident,
-    /// The fields.
+    /// The fields, or `Unit` if the variant has none.
     pub fields: Fields<'a>,
-    /// The expression after `=`, or nothing.
+    /// The expression after `=`, or no trees.
     pub discriminant: &'a [TokenTree],
 }
 
-/// The parts of the variant at the front of the trees, and the trees after it.
+/// Returns the parts of the variant at the start of the trees, and the trees after it.
 ///
-/// It answers as [`split_variant`] does. Of `#[a] B { c: D } = 1, C` the name is `B`, the fields are those in braces,
-/// the discriminant is `1`, and `, C` is left.
+/// It reads the same trees as [`split_variant`], and returns the same errors. For `#[a] B { c: D } = 1, C` the name is
+/// `B`, the fields are those in the braces, the discriminant is `1`, and the rest is `, C`.
 ///
 /// # Contract
 ///
@@ -48,7 +48,7 @@ pub fn parse_variant(trees: &[TokenTree]) -> Result<(Variant<'_>, &[TokenTree]),
     }
 }
 
-/// The parts of a variant.
+/// The parts of a variant that is all of the trees.
 fn variant_of(trees: &[TokenTree]) -> Result<Variant<'_>, Fault>
 {
     let (attributes, rest) = split_attributes(trees)?;
@@ -64,7 +64,7 @@ fn variant_of(trees: &[TokenTree]) -> Result<Variant<'_>, Fault>
     })
 }
 
-/// The fields that the trees begin with, if a group stands there, and the trees after it.
+/// The fields in the group that the trees begin with, if they begin with one, and the trees after it.
 fn fields_first(trees: &[TokenTree]) -> (Fields<'_>, &[TokenTree])
 {
     match split_group(trees) {
@@ -79,7 +79,7 @@ fn fields_first(trees: &[TokenTree]) -> (Fields<'_>, &[TokenTree])
     }
 }
 
-/// The trees after the first, if there are any.
+/// The trees after the first one, if there is one.
 fn after_first(trees: &[TokenTree]) -> &[TokenTree]
 {
     match trees.split_first() {

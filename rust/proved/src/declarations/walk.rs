@@ -1,23 +1,23 @@
 // Made from crates/declarations/src/walk.rt by rust/erase: change that file, not this one.
-//! Walks over the signs of trees, by the grammar.
+//! The walk over the signs of trees by the tables of the grammar.
 
 use crate::declarations::fault::Fault;
 use crate::declarations::place::{Item, Place};
 use crate::declarations::signs::first_sign;
 use crate::pm_stream::TokenTree;
 
-/// What is read, and what follows it.
+/// The part that the walk read, and what the walk found out about it.
 #[derive(Clone, Copy)]
 pub(crate) struct Split<'a> {
     pub part: &'a [TokenTree],
     pub rest: &'a [TokenTree],
-    /// What is declared around the place where the walk ended.
+    /// The item that the walk was in at its end.
     pub last: Item,
-    /// The trees from an item's name on; none where it has no name.
+    /// The trees from the item's name on, or no trees if it has no name.
     pub named: &'a [TokenTree],
 }
 
-/// What is read from this place on, and the trees after it.
+/// Reads a part from a state on. Returns the part and the trees after it.
 pub(crate) fn split_from<'a>(trees: &'a [TokenTree], start: Place) -> Result<Split<'a>, Fault>
 {
     let stop = walk_from(trees, start);
@@ -35,7 +35,7 @@ pub(crate) fn split_from<'a>(trees: &'a [TokenTree], start: Place) -> Result<Spl
     }
 }
 
-/// Reads all trees from this place on.
+/// Reads all of the trees from a state on.
 pub(crate) fn read_whole(trees: &[TokenTree], start: Place) -> Result<(), Fault>
 {
     let stop = walk_from(trees, start);
@@ -46,7 +46,7 @@ pub(crate) fn read_whole(trees: &[TokenTree], start: Place) -> Result<(), Fault>
     }
 }
 
-/// Past what is read from this place on, or past the longest front that can go on.
+/// Skips what can be read from a state on. At an error it returns the trees after the longest prefix that can go on.
 pub(crate) fn walk_past<'a>(
     trees: &'a [TokenTree],
     start: Place,
@@ -60,17 +60,17 @@ pub(crate) fn walk_past<'a>(
     }
 }
 
-/// Where a walk over signs stops.
+/// The state and the trees at which a walk stops.
 #[derive(Clone, Copy)]
 struct Stop<'a> {
     place: Place,
     // The trees that are left.
     left: &'a [TokenTree],
-    // The trees from an item's name on; none where it has no name.
+    // The trees from the item's name on, or no trees if it has no name.
     named: &'a [TokenTree],
 }
 
-/// How far the signs are steps from this place on.
+/// Walks from a state on, as far as the signs are steps.
 fn walk_from<'a>(trees: &'a [TokenTree], start: Place) -> Stop<'a>
 {
     let mut place = start;
@@ -89,7 +89,7 @@ fn later<'a>(begins: bool, trees: &'a [TokenTree], named: &'a [TokenTree]) -> &'
     if begins { trees } else { named }
 }
 
-/// What the first sign of the trees leads to, if it may stand there, the trees after it, and whether it is a name.
+/// One step: the next state, the trees after the sign, and whether the sign is the item's name.
 fn next_place<'a>(place: Place, trees: &'a [TokenTree]) -> Option<(Place, &'a [TokenTree], bool)>
 {
     let (class, after) = first_sign(trees)?;

@@ -1,23 +1,23 @@
 // Made from crates/explain/src/comment_hints.rt by rust/erase: change that file, not this one.
-//! Which block comments a text leaves open.
+//! Finds the block comments that are open at the end of a text.
 
 use crate::shim::prelude::Grow;
 
 use crate::lexical::parts::Cursor;
 use crate::shim::alloc::AllocError;
 
-/// What stands at a cursor in a block comment.
+/// What is at a cursor in a block comment.
 #[derive(Clone, Copy)]
 pub enum Sign {
-    /// What begins a comment.
+    /// `/*`, which begins a comment.
     Opens,
-    /// What ends one.
+    /// `*/`, which ends a comment.
     Closes,
     /// A character at which neither begins.
     Other,
 }
 
-/// What stands at the cursor, and the cursor after it.
+/// Returns what is at the cursor, and the cursor after it. Returns `None` at the end of the text.
 fn sign_at(at: Cursor<'_>) -> Option<(Sign, Cursor<'_>)>
 {
     let (_, after) = at.advance()?;
@@ -30,8 +30,8 @@ fn sign_at(at: Cursor<'_>) -> Option<(Sign, Cursor<'_>)>
     Some((Sign::Other, after))
 }
 
-/// How many block comments are open at the end of the text, the one at the cursor among them, and the cursors before
-/// and after the one that ended last.
+/// Returns how many block comments are open at the end of the text, including the one at `start`, and the cursors
+/// before and after the comment that ended last.
 ///
 /// # Contract
 ///

@@ -1,5 +1,5 @@
 // Made from crates/explain/src/contents.rt by rust/erase: change that file, not this one.
-//! What is wrong first with the content of a literal that ends.
+//! The first error in the content of a literal that is closed.
 
 use crate::explain::reason::Reason;
 use crate::explain::trouble::Trouble;
@@ -7,25 +7,25 @@ use crate::lexical::parts::{Cursor, StringKind};
 use crate::literal_escaper::{EscapeError, unescape_byte_str, unescape_c_str, unescape_str};
 use crate::shim::ops::Range;
 
-/// What the escaper reads at the front of a content.
+/// The first item that the escaper reads from a content.
 pub struct Front {
-    /// How many bytes it reads.
+    /// The size of the item in bytes.
     pub size: usize,
-    /// What is wrong with them, if something is.
+    /// The error of the item, if it has one.
     pub error: Option<EscapeError>,
 }
 
-/// What stands at a cursor in the content of a string.
+/// What is at a cursor in the content of a string.
 pub enum Step<'a> {
     /// A unit, and the cursor after it.
     Unit(Cursor<'a>),
-    /// A fault, and the cursor after what was read for it.
+    /// An error, and the cursor after what was read for it.
     Fault(EscapeError, Cursor<'a>),
-    /// The quote that ends it.
+    /// The quote that ends the string.
     End,
 }
 
-/// The content from the cursor on, up to the quote before `end`.
+/// Returns the content from the cursor up to the quote before `end`.
 ///
 /// # Contract
 ///
@@ -43,7 +43,7 @@ pub fn content<'a>(at: Cursor<'a>, end: Cursor<'a>) -> &'a str
     &at.rest[..size]
 }
 
-/// The range and the error of an item.
+/// Returns the size and the error of an item of the escaper, whose range begins at 0.
 fn front_of<U: Copy>(range: Range<usize>, unit: Result<U, EscapeError>) -> Front
 {
     let size = range.end;
@@ -56,8 +56,8 @@ fn front_of<U: Copy>(range: Range<usize>, unit: Result<U, EscapeError>) -> Front
     }
 }
 
-/// What the escaper reads at the front of a content, unless that is empty. A line end with a backslash before it is
-/// read otherwise.
+/// Returns the first item that the escaper reads from a content, or `None` if the content is empty. The content must
+/// not begin with a backslash and a line end, which the escaper reads in another way.
 fn read_front(content: &str, kind: StringKind) -> Option<Front>
 {
     match kind {
@@ -76,7 +76,7 @@ fn read_front(content: &str, kind: StringKind) -> Option<Front>
     }
 }
 
-/// The cursor after CR LF, or after a line end with a backslash before it.
+/// Returns the cursor after CR LF, or after a backslash and a line end.
 fn past_line_end(at: Cursor<'_>) -> Option<Cursor<'_>>
 {
     if let Some(end) = at.past("\r\n") {
@@ -88,7 +88,7 @@ fn past_line_end(at: Cursor<'_>) -> Option<Cursor<'_>>
     }
 }
 
-/// What stands at the cursor in the content of a string, which the quote before `end` closes.
+/// Returns what is at the cursor in the content of a string. The quote before `end` closes the string.
 fn next_step<'a>(at: Cursor<'a>, end: Cursor<'a>, kind: StringKind) -> Step<'a>
 {
     if let Some(after) = past_line_end(at) {
@@ -106,7 +106,7 @@ fn next_step<'a>(at: Cursor<'a>, end: Cursor<'a>, kind: StringKind) -> Step<'a>
     }
 }
 
-/// Whether the last character that is read is at fault, and not all of the escape.
+/// Whether the error is about the last character that was read, and not about the whole escape.
 fn is_of_last(error: &EscapeError) -> bool
 {
     matches!(
@@ -118,7 +118,7 @@ fn is_of_last(error: &EscapeError) -> bool
     )
 }
 
-/// The cursor before the last character that stands before `end`, from a cursor on.
+/// Returns the cursor before the last character between `at` and `end`.
 fn last_character<'a>(at: Cursor<'a>, end: Cursor<'a>) -> Cursor<'a>
 {
     let mut last = at;
@@ -131,7 +131,8 @@ fn last_character<'a>(at: Cursor<'a>, end: Cursor<'a>) -> Cursor<'a>
     last
 }
 
-/// That this is wrong with what was read from a cursor to another: with all of it, or with its last character.
+/// Returns the trouble for an error in what was read from `at` to `after`. The wrong part is all of it, or its last
+/// character.
 ///
 /// # Contract
 ///
@@ -155,7 +156,8 @@ pub fn faulty<'a>(at: Cursor<'a>, after: Cursor<'a>, error: EscapeError) -> Trou
     }
 }
 
-/// What is wrong with the content of a string that ends at `end` and isn't one. What opens it leads `inside`.
+/// Returns the first error in the content of a string that begins at `at`. Its content begins at `inside`, and `end` is
+/// after its closing quote.
 ///
 /// # Contract
 ///

@@ -1,5 +1,5 @@
 // Made from crates/explain/src/explaining.rt by rust/erase: change that file, not this one.
-//! From a text to the reason why it doesn't parse.
+//! Finds the reason why a text doesn't parse.
 
 use crate::explain::explained::{ExplainError, Explained, Opener, Stretch};
 use crate::explain::reason::Reason;
@@ -11,12 +11,12 @@ use crate::pm_stream::reading::{Ending, Lexed, TokenSink, walk};
 use crate::pm_token::Delimiter;
 use crate::shim::alloc::AllocError;
 
-/// Why a text doesn't parse, or `None` where it parses.
+/// Returns why a text doesn't parse, or `None` if it parses.
 ///
-/// The spans are those of a new map whose first file the text is. Fails with `MapFull` exactly where the text doesn't
-/// fit a new map, and with `Memory` where the list of open delimiters can't grow, the only thing that takes memory.
+/// The spans are those of a new map whose first file is the text. Fails with `MapFull` exactly if the text doesn't fit
+/// a new map, and with `Memory` if memory runs out. Only the list of open delimiters is allocated.
 ///
-/// Of `a + 0x;` the reason is `NoDigits`, and `at` is `0x`, the bytes 4..6.
+/// For `a + 0x;` the reason is `NoDigits`, and `at` is `0x`, the bytes 4..6.
 ///
 /// # Contract
 ///
@@ -44,7 +44,7 @@ pub fn explain(text: &str) -> Result<Option<Explained>, ExplainError>
     Ok(explain_at(lo, text)?)
 }
 
-/// Why a text doesn't parse that begins at the position `base`.
+/// Returns why a text doesn't parse that begins at the position `base`, or `None` if it parses.
 fn explain_at(base: u32, text: &str) -> Result<Option<Explained>, AllocError>
 {
     let mut openers = Openers { text };
@@ -64,13 +64,13 @@ fn explain_at(base: u32, text: &str) -> Result<Option<Explained>, AllocError>
     Ok(Some(stuck(text, rest, at, first, opened)))
 }
 
-/// Whether nothing is left of a text.
+/// Whether the rest of a text is empty.
 fn is_done(rest: &str) -> bool
 {
     rest.is_empty()
 }
 
-/// What tells of each opener of a text where it stands.
+/// A sink that keeps the delimiter and the part of the text of each open opener. It ignores all other tokens.
 struct Openers<'a> {
     text: &'a str,
 }
@@ -133,7 +133,8 @@ impl<'a> TokenSink for Openers<'a> {
     }
 }
 
-/// That a closer can't stand at the front of this rest of a text, which is at this position.
+/// Explains that a closer matches no opener, or not the innermost one. The rest of the text begins with the closer, at
+/// the position `at`.
 fn refused(text: &str, rest: &str, at: u32, closer: Piece, openers: Vec<Opener>) -> Explained
 {
     let tail = &rest[closer.bytes..];
@@ -153,7 +154,8 @@ fn refused(text: &str, rest: &str, at: u32, closer: Piece, openers: Vec<Opener>)
     }
 }
 
-/// The stretch of a text from one rest of it to another, which stand at these positions.
+/// Returns the part of a text from where its rest `from` begins, at the position `lo`, to where its rest `to` begins,
+/// at the position `hi`.
 ///
 /// # Contract
 ///
@@ -177,7 +179,7 @@ pub fn stretch(text: &str, from: &str, to: &str, lo: u32, hi: u32) -> Stretch
     }
 }
 
-/// That an opener is left open at the end of the text, if one is.
+/// Explains that an opener is left open at the end of the text. Returns `None` if none is.
 fn left_open(openers: Vec<Opener>) -> Option<Explained>
 {
     let mut outer = openers;
@@ -197,7 +199,7 @@ fn left_open(openers: Vec<Opener>) -> Option<Explained>
     })
 }
 
-/// That no piece stands at this rest of a text, which is at this position.
+/// Explains that no piece begins at this rest of a text, which is at the position `at`.
 fn stuck(text: &str, rest: &str, at: u32, first: bool, openers: Vec<Opener>) -> Explained
 {
     let start = Cursor::new(rest);

@@ -1,10 +1,10 @@
 // Made from crates/explain/src/laws.rt by rust/erase: change that file, not this one.
-//! The laws of reasons.
+//! Facts that are proved about the reasons.
 
 use crate::explain::reason::Reason;
 
-/// At most one reason holds where no piece stands: two that hold of one text are the same, down to the error of a
-/// content, whatever they call at fault in it.
+/// At most one reason holds of a text, whatever part of the text each reason says is wrong. The reason includes the
+/// error, if the content of a literal is wrong.
 ///
 /// # Contract
 ///
@@ -16,7 +16,7 @@ use crate::explain::reason::Reason;
 pub fn one_reason()
 {}
 
-/// A reason holds at one place of a text: what stands before what is at fault, and what is at fault, are determined.
+/// A reason holds of a text with one wrong part only: that part, and the text before it, are determined.
 ///
 /// # Contract
 ///
@@ -28,8 +28,8 @@ pub fn one_reason()
 pub fn one_place()
 {}
 
-/// No reason holds where a piece stands, but that U+FEFF is misplaced: where it is the front mark, at the front of a
-/// text, it isn't.
+/// No reason holds where a piece begins, except `MisplacedMark` at the front mark, which is U+FEFF at the start of a
+/// text.
 ///
 /// # Contract
 ///
@@ -45,8 +45,8 @@ pub fn one_place()
 pub fn no_piece()
 {}
 
-/// At most one reason explains why a text doesn't parse, at one place: two explanations, each as `explain` promises its
-/// own, say the same reason, and the same of what is at fault, in bytes and as a span.
+/// A text has at most one explanation: two explanations that fulfil the contract of `explain` have the same `reason`,
+/// `before` and `at`.
 ///
 /// # Contract
 ///

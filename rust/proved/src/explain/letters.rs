@@ -1,5 +1,5 @@
 // Made from crates/explain/src/letters.rt by rust/erase: change that file, not this one.
-//! Why nothing stands where a letter does.
+//! Why no piece begins at a letter.
 
 use crate::explain::quotes::{SingleKind, single};
 use crate::explain::reason::Reason;
@@ -7,7 +7,7 @@ use crate::explain::strings::{raw_string, string};
 use crate::explain::trouble::Trouble;
 use crate::lexical::parts::{Cursor, StringKind, name};
 
-/// Why no raw name stands at the cursor, where `r#` does. `inner` is after that.
+/// Returns why no piece begins at the cursor, which is before `r#`. `inner` is after the `r#`.
 fn raw_name<'a>(at: Cursor<'a>, inner: Cursor<'a>) -> Trouble<'a>
 {
     if let Some(end) = name(inner) {
@@ -23,7 +23,7 @@ fn raw_name<'a>(at: Cursor<'a>, inner: Cursor<'a>) -> Trouble<'a>
     raw_string(at, inside, StringKind::Plain)
 }
 
-/// Why nothing stands at the cursor, where a letter does.
+/// Returns why no piece begins at the cursor, which is before a letter.
 ///
 /// # Contract
 ///

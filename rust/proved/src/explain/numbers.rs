@@ -1,11 +1,11 @@
 // Made from crates/explain/src/numbers.rt by rust/erase: change that file, not this one.
-//! Why no number stands where a digit does.
+//! Why no number begins at a digit.
 
 use crate::explain::reason::Reason;
 use crate::explain::trouble::Trouble;
 use crate::lexical::parts::{Base, Class, Cursor, one, skip};
 
-/// The cursor after the character that can't end a number there.
+/// Returns the cursor after a character that may not follow a number.
 fn past_bad_end(end: Cursor<'_>) -> Cursor<'_>
 {
     let Some((_, after)) = end.advance() else {
@@ -14,7 +14,7 @@ fn past_bad_end(end: Cursor<'_>) -> Cursor<'_>
     after
 }
 
-/// Why no number of the base stands at the cursor, after the prefix of which is `inside`.
+/// Returns why no number of this base begins at the cursor. `inside` is after the prefix of the base.
 fn based<'a>(at: Cursor<'a>, inside: Cursor<'a>, base: Base) -> Trouble<'a>
 {
     let start = skip(inside, Class::Underscore);
@@ -49,7 +49,7 @@ fn based<'a>(at: Cursor<'a>, inside: Cursor<'a>, base: Base) -> Trouble<'a>
     }
 }
 
-/// Why no number stands at the cursor, where a digit does.
+/// Returns why no number begins at the cursor, which is before a digit.
 ///
 /// # Contract
 ///

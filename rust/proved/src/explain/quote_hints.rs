@@ -1,9 +1,10 @@
 // Made from crates/explain/src/quote_hints.rt by rust/erase: change that file, not this one.
-//! The quote that came nearest to ending a raw string.
+//! Finds the quote that came nearest to ending a raw string.
 
 use crate::lexical::parts::{Class, Cursor, skip, skip_to};
 
-/// The cursors before and after the quote with most hash signs right after it, the first of them, and these.
+/// Returns the cursors before and after the quote with the most hash signs right after it, together with these. Of
+/// several such quotes it is the first.
 ///
 /// # Contract
 ///
@@ -28,8 +29,8 @@ pub fn nearest(inside: Cursor<'_>) -> Option<(Cursor<'_>, Cursor<'_>)>
     best
 }
 
-/// The longer of what stands between two cursors and of what stands between two others, which is the first where they
-/// are alike.
+/// Returns the pair of cursors with more characters between them: `best`, or `from` and `to`. If both have the same
+/// number, it is `best`.
 fn longer<'a>(
     best: Option<(Cursor<'a>, Cursor<'a>)>,
     from: Cursor<'a>,

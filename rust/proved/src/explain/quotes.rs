@@ -1,12 +1,12 @@
 // Made from crates/explain/src/quotes.rt by rust/erase: change that file, not this one.
-//! Why nothing stands where a single quote does.
+//! Why no piece begins at a single quote.
 
 use crate::explain::reason::Reason;
 use crate::explain::single_contents::single_content;
 use crate::explain::trouble::Trouble;
 use crate::lexical::parts::{Class, Cursor, begins, name, one, one_that, skip};
 
-/// What stands between single quotes.
+/// What kind of literal has single quotes.
 #[derive(Clone, Copy)]
 pub enum SingleKind {
     /// A character.
@@ -15,20 +15,20 @@ pub enum SingleKind {
     Byte,
 }
 
-/// Whether a pair of a character may be the character alone.
+/// Whether the character is a pair by itself: any character except `'`, backslash and LF.
 fn stands_alone(c: char) -> bool
 {
     !matches!(c, '\'' | '\\' | '\n')
 }
 
-/// Whether one of them is what a `'` may close.
+/// Whether the character may be between two `'` although it is no pair: `'` or LF.
 fn is_closed_alone(c: char) -> bool
 {
     matches!(c, '\'' | '\n')
 }
 
-/// The cursor after a character but `'`, backslash and LF, or after a backslash and a character but LF, where no
-/// comment begins.
+/// Returns the cursor after a pair: a character except `'`, backslash and LF, or a backslash and a character except LF.
+/// Returns `None` where a comment begins.
 fn past_single_pair(at: Cursor<'_>) -> Option<Cursor<'_>>
 {
     if begins(at.rest, "//") || begins(at.rest, "/*") {
@@ -40,7 +40,7 @@ fn past_single_pair(at: Cursor<'_>) -> Option<Cursor<'_>>
     }
 }
 
-/// The cursor after the pairs up to the next `'`, and after that.
+/// Returns the cursor after the pairs up to the next `'`, and after that `'`.
 fn past_single_pairs(inside: Cursor<'_>) -> Option<Cursor<'_>>
 {
     let mut end = inside;
@@ -50,13 +50,13 @@ fn past_single_pairs(inside: Cursor<'_>) -> Option<Cursor<'_>>
     end.past("'")
 }
 
-/// The cursor after one `'` or LF before a `'`, and after that.
+/// Returns the cursor after one `'` or LF and the `'` that follows it.
 fn past_closed_alone(inside: Cursor<'_>) -> Option<Cursor<'_>>
 {
     one_that(inside, |c| is_closed_alone(c))?.past("'")
 }
 
-/// The cursor after the `'` that closes a character.
+/// Returns the cursor after the `'` that closes a character literal.
 fn past_single(inside: Cursor<'_>) -> Option<Cursor<'_>>
 {
     match past_closed_alone(inside) {
@@ -65,7 +65,7 @@ fn past_single(inside: Cursor<'_>) -> Option<Cursor<'_>>
     }
 }
 
-/// Why no character or byte stands at the cursor, which what opens one leads `inside`.
+/// Returns why no character or byte literal begins at the cursor. `inside` is after its opening quote.
 ///
 /// # Contract
 ///
@@ -95,7 +95,8 @@ pub fn single<'a>(at: Cursor<'a>, inside: Cursor<'a>, kind: SingleKind) -> Troub
     }
 }
 
-/// Why no raw lifetime stands at the cursor. `inside` is after the `'`, `inner` after `'r#`, and `end` after the name.
+/// Returns why no raw lifetime begins at the cursor. `inside` is after the `'`, `inner` after `'r#`, and `end` after
+/// the name.
 fn raw_lifetime<'a>(
     at: Cursor<'a>,
     inside: Cursor<'a>,
@@ -113,7 +114,7 @@ fn raw_lifetime<'a>(
     }
 }
 
-/// Why no lifetime of this name stands at the cursor. `inside` is after the `'`, and `end` after the name.
+/// Returns why no lifetime of this name begins at the cursor. `inside` is after the `'`, and `end` after the name.
 fn lifetime<'a>(at: Cursor<'a>, inside: Cursor<'a>, end: Cursor<'a>) -> Trouble<'a>
 {
     if let Some(after) = end.past("'") {
@@ -129,8 +130,8 @@ fn lifetime<'a>(at: Cursor<'a>, inside: Cursor<'a>, end: Cursor<'a>) -> Trouble<
     }
 }
 
-/// Why no lifetime stands at the cursor that begins with a digit. `inside` is after the `'`, and `first` after the
-/// digit.
+/// Returns why no piece begins at the cursor, which is before a `'` and a digit. `inside` is after the `'`, and `first`
+/// after the digit.
 fn digit_lifetime<'a>(at: Cursor<'a>, inside: Cursor<'a>, first: Cursor<'a>) -> Trouble<'a>
 {
     let end = skip(first, Class::IdentifierContinue);
@@ -144,7 +145,7 @@ fn digit_lifetime<'a>(at: Cursor<'a>, inside: Cursor<'a>, first: Cursor<'a>) -> 
     }
 }
 
-/// Why nothing stands at the cursor, where a `'` does. `inside` is after it.
+/// Returns why no piece begins at the cursor, which is before a `'`. `inside` is after the `'`.
 ///
 /// # Contract
 ///

@@ -1,12 +1,12 @@
 // Made from crates/explain/src/raw_contents.rt by rust/erase: change that file, not this one.
-//! What is wrong first with the content of a raw string that ends.
+//! The first error in the content of a raw string that is closed.
 
 use crate::explain::reason::Reason;
 use crate::explain::trouble::Trouble;
 use crate::lexical::parts::{Cursor, StringKind, begins};
 use crate::literal_escaper::EscapeError;
 
-/// Whether a string of the kind may have the character, be it raw or not.
+/// Whether the content of a string of this kind may have the character. A CR is checked elsewhere.
 fn may_stand(c: char, kind: StringKind) -> bool
 {
     match kind {
@@ -16,7 +16,7 @@ fn may_stand(c: char, kind: StringKind) -> bool
     }
 }
 
-/// The cursor after a unit of a raw string with these hash signs.
+/// Returns the cursor after a unit of a raw string with these hash signs.
 fn past_unit<'a>(at: Cursor<'a>, hashes: &str, kind: StringKind) -> Option<Cursor<'a>>
 {
     let (c, after) = at.advance()?;
@@ -33,7 +33,8 @@ fn past_unit<'a>(at: Cursor<'a>, hashes: &str, kind: StringKind) -> Option<Curso
     }
 }
 
-/// What is wrong with a character that no raw string of the kind has, but for CR before LF.
+/// Returns the error for a character that a raw string of this kind may not have. For a CR, the caller has checked that
+/// no LF follows.
 fn error_of(c: char, kind: StringKind) -> EscapeError
 {
     if c == '\r' {
@@ -46,8 +47,8 @@ fn error_of(c: char, kind: StringKind) -> EscapeError
     }
 }
 
-/// What is wrong with the content of a raw string with these hash signs that ends at `end` and isn't one. The letters
-/// that open it lead `inside`, the hash signs `quote`, and the quote after them `body`.
+/// Returns the first error in the content of a raw string that begins at `at`. `inside` is after its letters, `quote`
+/// after its hash signs, `body` after its opening quote, and `end` after all of it.
 ///
 /// # Contract
 ///

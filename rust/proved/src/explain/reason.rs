@@ -3,12 +3,12 @@
 
 use crate::literal_escaper::EscapeError;
 
-/// Why a text doesn't parse. Each is defined by itself in `specs/Reason.antt`.
+/// Why a text doesn't parse. Each reason has its own definition in `specs/Reason.antt`.
 #[derive(Debug, PartialEq, Eq)]
 pub enum Reason {
     /// A block comment that doesn't end: the `/*` of `/* a`.
     UnclosedComment,
-    /// A CR in a doc comment that no LF follows.
+    /// A CR in a doc comment without an LF after it.
     BareReturnInDoc,
     /// A string that doesn't end: the `"` of `"a`.
     UnclosedString,
@@ -16,14 +16,14 @@ pub enum Reason {
     UnclosedRawString,
     /// More than 255 hash signs before a raw string.
     TooManyHashes,
-    /// Hash signs after `r`, `br` or `cr` that no quote follows, nor a name after `r#`: the `~` of `r#~`.
+    /// Hash signs after `r`, `br` or `cr` with no quote after them, and no name after `r#`: the `~` of `r#~`.
     HashesWithoutQuote,
-    /// A name that no raw identifier or lifetime has: `r#self`.
+    /// A name that can't be raw: `r#self`.
     ReservedRawName,
     /// A character or byte that doesn't end: the `'` of `'+`.
     UnclosedCharacter,
-    /// What is wrong first with the content of a literal that ends: the `q` of `"\q"`, by the rules of
-    /// `literal_escaper`.
+    /// The first error in the content of a literal that is closed, by the rules of `literal_escaper`: the `q` of
+    /// `"\q"`.
     Content(EscapeError),
     /// A lifetime that begins with a digit: `'1a`.
     DigitLifetime,
@@ -33,15 +33,15 @@ pub enum Reason {
     NoDigits,
     /// A digit that is too large for its base: the `2` of `0b12`.
     BadDigit,
-    /// A character right after an integer that goes on with a name and begins none.
+    /// A character right after an integer. It can be inside a name, but can't begin one.
     BadNumberEnd,
-    /// U+FEFF that isn't at the front of the text.
+    /// U+FEFF that isn't at the start of the text.
     MisplacedMark,
     /// A character with which no token begins.
     NoToken,
-    /// A closer where no opener waits for one: the `)` of `a)`.
+    /// A closer where no opener is open: the `)` of `a)`.
     StrayCloser,
-    /// A closer where the innermost opener waits for another: the `]` of `(]`.
+    /// A closer that doesn't match the innermost opener: the `]` of `(]`.
     MismatchedCloser,
     /// An opener that no closer matches: the `(` of `(a`.
     UnclosedOpener,

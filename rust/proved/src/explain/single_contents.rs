@@ -1,5 +1,5 @@
 // Made from crates/explain/src/single_contents.rt by rust/erase: change that file, not this one.
-//! What is wrong with the content of a character or a byte that ends.
+//! The first error in the content of a character or byte literal that is closed.
 
 use crate::explain::contents::{content, faulty};
 use crate::explain::quotes::SingleKind;
@@ -8,7 +8,7 @@ use crate::explain::trouble::Trouble;
 use crate::lexical::parts::Cursor;
 use crate::literal_escaper::{EscapeError, Mode, check_for_errors};
 
-/// The kind of literal, as the escaper calls it.
+/// Returns the escaper's mode for this kind of literal.
 fn mode_of(kind: SingleKind) -> Mode
 {
     match kind {
@@ -17,21 +17,22 @@ fn mode_of(kind: SingleKind) -> Mode
     }
 }
 
-/// What is wrong with the content, if something is, and how many bytes were read for it.
+/// Returns the error in the content, after the number of bytes that were read for it. Returns `None` if there is no
+/// error.
 fn fault_of(content: &str, kind: SingleKind) -> Option<(usize, EscapeError)>
 {
     let (range, error) = check_for_errors(content, mode_of(kind)).next()?;
     Some((range.end, error))
 }
 
-/// Whether all of the literal is at fault.
+/// Whether the whole literal is wrong.
 fn is_of_literal(error: &EscapeError) -> bool
 {
     matches!(error, EscapeError::ZeroChars | EscapeError::MoreThanOneChar)
 }
 
-/// What is wrong with the content of a character or a byte that ends at `end` and isn't one. What opens it leads
-/// `inside`.
+/// Returns the first error in the content of a character or byte literal that begins at `at`. Its content begins at
+/// `inside`, and `end` is after its closing quote.
 ///
 /// # Contract
 ///

@@ -1,5 +1,5 @@
 // Made from crates/explain/src/strings.rt by rust/erase: change that file, not this one.
-//! Why no string stands where what opens one does.
+//! Why no string begins at what opens one.
 
 use crate::explain::contents::string_content;
 use crate::explain::raw_contents::raw_content;
@@ -9,13 +9,13 @@ use crate::lexical::parts::{
     Class, Cursor, StringKind, before, begins, one_that, skip, skip_to, skip_to_either,
 };
 
-/// Whether a pair may be the character alone.
+/// Whether the character is a pair by itself: any character except `"` and backslash.
 fn stands_alone(c: char) -> bool
 {
     !matches!(c, '"' | '\\')
 }
 
-/// The cursor after a character but `"` and backslash, or after a backslash and any character.
+/// Returns the cursor after a pair: a character except `"` and backslash, or a backslash and any character.
 fn past_pair(at: Cursor<'_>) -> Option<Cursor<'_>>
 {
     match one_that(at, |c| stands_alone(c)) {
@@ -24,7 +24,7 @@ fn past_pair(at: Cursor<'_>) -> Option<Cursor<'_>>
     }
 }
 
-/// The cursor after the first `"` that no backslash takes.
+/// Returns the cursor after the first `"` that has no backslash before it in a pair.
 fn past_quote(inside: Cursor<'_>) -> Option<Cursor<'_>>
 {
     let mut end = skip_to_either(inside, b'"', b'\\');
@@ -34,7 +34,7 @@ fn past_quote(inside: Cursor<'_>) -> Option<Cursor<'_>>
     end.past("\"")
 }
 
-/// The cursor after a character with which what closes a raw string of these hash signs doesn't begin.
+/// Returns the cursor after a character, or `None` where the closing quote and hash signs of the raw string are.
 fn past_raw_unit<'a>(at: Cursor<'a>, hashes: &str) -> Option<Cursor<'a>>
 {
     let (c, after) = at.advance()?;
@@ -44,7 +44,7 @@ fn past_raw_unit<'a>(at: Cursor<'a>, hashes: &str) -> Option<Cursor<'a>>
     Some(after)
 }
 
-/// The cursor after the first `"` that so many hash signs follow.
+/// Returns the cursor after the first `"` with these hash signs after it, and after the hash signs.
 fn past_raw_quote<'a>(inside: Cursor<'a>, hashes: &str) -> Option<Cursor<'a>>
 {
     let mut end = skip_to(inside, b'"');
@@ -54,7 +54,7 @@ fn past_raw_quote<'a>(inside: Cursor<'a>, hashes: &str) -> Option<Cursor<'a>>
     end.past("\"")?.past(hashes)
 }
 
-/// Why no string of the kind stands at the cursor, which what opens one leads `inside`.
+/// Returns why no string of this kind begins at the cursor. `inside` is after its opening quote.
 ///
 /// # Contract
 ///
@@ -82,7 +82,7 @@ pub fn string<'a>(at: Cursor<'a>, inside: Cursor<'a>, kind: StringKind) -> Troub
     }
 }
 
-/// Why no raw string of the kind stands at the cursor, which the letters that open one lead `inside`.
+/// Returns why no raw string of this kind begins at the cursor. `inside` is after its letters.
 ///
 /// # Contract
 ///
@@ -126,10 +126,10 @@ pub fn raw_string<'a>(at: Cursor<'a>, inside: Cursor<'a>, kind: StringKind) -> T
     raw_content(at, inside, quote, body, end, hashes, kind)
 }
 
-/// How many hash signs a raw string may have at most.
+/// The largest number of hash signs that a raw string may have.
 const MOST_HASHES: usize = 255;
 
-/// That no quote follows the hash signs at `inside`, up to `end`.
+/// Returns the trouble for hash signs, from `inside` to `end`, with no quote after them.
 fn without_quote<'a>(
     at: Cursor<'a>,
     inside: Cursor<'a>,
@@ -147,7 +147,7 @@ fn without_quote<'a>(
     }
 }
 
-/// The cursor after a character but `"`, or the cursor itself at the end of the text.
+/// Returns the cursor after a character except `"`, or `at` itself at the end of the text. Returns `None` before a `"`.
 fn past_other(at: Cursor<'_>) -> Option<Cursor<'_>>
 {
     if begins(at.rest, "\"") {

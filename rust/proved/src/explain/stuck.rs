@@ -1,5 +1,5 @@
 // Made from crates/explain/src/stuck.rt by rust/erase: change that file, not this one.
-//! Why no piece stands.
+//! Finds the reason why no piece begins at a cursor.
 
 use crate::explain::letters::letter;
 use crate::explain::numbers::number;
@@ -11,7 +11,7 @@ use crate::lexical::parts::{
     Cursor, PieceStart, StringKind, begins, piece_start_of, skip_comment, skip_to,
 };
 
-/// The first CR at the cursor or after it that no LF follows, and the cursor after it.
+/// Returns the cursors before and after the first CR, from `inside` on, that no LF follows.
 fn bare_return(inside: Cursor<'_>) -> Option<(Cursor<'_>, Cursor<'_>)>
 {
     let mut at = skip_to(inside, b'\r');
@@ -24,10 +24,10 @@ fn bare_return(inside: Cursor<'_>) -> Option<(Cursor<'_>, Cursor<'_>)>
     None
 }
 
-/// How many bytes open a doc comment.
+/// The number of bytes that open a doc comment.
 const DOC_FRONT: usize = 3;
 
-/// Why no comment stands at the cursor, where one begins.
+/// Returns why no comment is at the cursor, which is before what begins a comment.
 fn comment(at: Cursor<'_>) -> Trouble<'_>
 {
     let Some(_) = skip_comment(at) else {
@@ -50,8 +50,8 @@ fn comment(at: Cursor<'_>) -> Trouble<'_>
     }
 }
 
-/// Why no piece stands at the cursor, which isn't at the end of the text. `first` says whether that is byte offset 0 of
-/// a source.
+/// Returns why no piece begins at the cursor, which isn't at the end of the text. `first` says whether the cursor is at
+/// the start of a source.
 ///
 /// # Contract
 ///

@@ -1,15 +1,15 @@
 // Made from crates/explain/src/trouble.rt by rust/erase: change that file, not this one.
-//! A reason, where a reader finds it.
+//! A reason, and the wrong part of the text as cursors.
 
 use crate::explain::reason::Reason;
 use crate::lexical::parts::Cursor;
 
-/// A reason for which no piece stands at a cursor.
+/// Why no piece begins at a cursor.
 pub struct Trouble<'a> {
     /// The reason.
     pub reason: Reason,
-    /// Before what is at fault.
+    /// The cursor before the wrong part of the text.
     pub at: Cursor<'a>,
-    /// After it.
+    /// The cursor after the wrong part of the text.
     pub after: Cursor<'a>,
 }

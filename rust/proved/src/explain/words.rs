@@ -1,10 +1,10 @@
 // Made from crates/explain/src/words.rt by rust/erase: change that file, not this one.
-//! What each reason is named, and what is said of it.
+//! The name and the message of each reason.
 
 use crate::explain::reason::Reason;
 
 impl Reason {
-    /// A short name, which stays: of [`Reason::UnclosedString`] `unclosed-string`.
+    /// Returns a short name, which never changes: `unclosed-string` for [`Reason::UnclosedString`].
     ///
     /// # Contract
     ///
@@ -36,7 +36,8 @@ impl Reason {
         }
     }
 
-    /// What it says, in a few words: of [`Reason::MismatchedCloser`] `the innermost opener waits for another closer`.
+    /// Returns a message of a few words: `the innermost opener waits for another closer` for
+    /// [`Reason::MismatchedCloser`].
     ///
     /// # Contract
     ///

@@ -1,5 +1,5 @@
 // Made from crates/layout/src/errors.rt by rust/erase: change that file, not this one.
-//! Why a stream is not written.
+//! The error of `text_with` and `write_with`.
 
 use crate::shim::alloc::AllocError;
 use crate::shim::{fmt, io};
@@ -8,15 +8,15 @@ use crate::shim::{fmt, io};
 #[derive(Debug)]
 #[non_exhaustive]
 pub enum LayoutError {
-    /// The stream isn't `well-spaced`, so that no text reads back to it. Nothing is written.
+    /// The stream isn't `well-spaced`, so no text reads back to it. Nothing is written.
     NotWellSpaced,
     /// Memory ran out.
     Memory(AllocError),
-    /// The writer failed. A beginning of the text may be written.
+    /// The writer failed. A prefix of the text may have been written.
     Write(io::Error),
 }
 
-/// What `==` compares.
+/// The kind of an error, which is what `==` compares.
 #[derive(Clone, Copy, PartialEq, Eq)]
 enum Kind {
     NotWellSpaced,
@@ -25,7 +25,7 @@ enum Kind {
 }
 
 impl LayoutError {
-    /// Its kind, and that of the writer's error.
+    /// Returns the kind of the error, which includes the kind of a writer's error.
     fn kind(&self) -> Kind
     {
         match self {
@@ -37,7 +37,7 @@ impl LayoutError {
 }
 
 impl PartialEq for LayoutError {
-    /// Whether both are of one kind, and the errors of their writers too.
+    /// Whether both errors are of the same kind, and their writers' errors too.
     fn eq(&self, other: &LayoutError) -> bool {
         self.kind() == other.kind()
     }

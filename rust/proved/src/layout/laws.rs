@@ -1,16 +1,16 @@
 // Made from crates/layout/src/laws.rt by rust/erase: change that file, not this one.
-//! What is proved of layouts. The functions compute nothing: their contracts are the laws, which `specs/Laws.antt`
-//! states.
+//! The laws about layouts. The functions compute nothing: their contracts are the laws, which `specs/Laws.antt` states.
 
-/// A built stream that is well spaced comes back from each of its layouts, the same up to spans.
+/// Each layout of a built, well-spaced stream reads back to that stream, up to spans.
 ///
-/// A layout (`layout`) writes the stream's tokens, openers and closers in order, with a gap before each and one at the
-/// end. A gap is white characters or nothing: nothing after a Joint mark, and something where two neighbours must be
-/// parted (`must-part`), which their first characters tell. An integer need not be parted from the dots of a range: of
-/// `0..10` the tokens may touch, and of `0.max` and `0. .x` the `0` and the dot may not.
+/// A layout (`layout`) has the stream's tokens, openers and closers in order, with a gap before each and one at the
+/// end. A gap is white characters or nothing. After a Joint mark it is nothing. Between two neighbours that must be
+/// parted (`must-part`) it is not: this depends on the first of them and on the first character of the second. The dots
+/// of a range need not be parted from an integer, so the tokens of `0..10` may touch. In `0.max` and `0. .x`, the `0`
+/// and the dot may not touch.
 ///
-/// The printed text is a layout. `a+=b` and `a += b` on two lines, broken after `=`, are layouts of one stream;
-/// `a + = b` is none of it.
+/// The printed text is a layout. `a+=b` is a layout of the same stream as `a += b` with a line break after `=`, but
+/// `a + = b` is not.
 ///
 /// # Contract
 ///

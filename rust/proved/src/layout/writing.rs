@@ -9,14 +9,14 @@ use crate::pm_token::{Delimiter, Ident};
 use crate::shim::alloc::AllocError;
 use crate::shim::io::Write;
 
-/// The stream's tokens with the gaps that the chooser gives.
+/// Returns the tokens of the stream with the gaps that the chooser gives.
 ///
-/// What it gives stands there, with two exceptions: nothing stands after a Joint mark, and a space stands where nothing
-/// is given and the next token would go on with the one before. So the text is a layout of the stream, and reads back
-/// to it up to spans, whatever the chooser gives.
+/// Each gap is written as it is given, with two exceptions. Nothing is written after a Joint mark, and a space is
+/// written if the chooser gives nothing and the next token would extend the one before. So the text is a layout of the
+/// stream and reads back to it up to spans, whatever the chooser gives.
 ///
-/// Fails with `NotWellSpaced` exactly where the stream isn't `well-spaced`, and with `Memory`. It takes time
-/// proportional to the length of the text.
+/// Returns `NotWellSpaced` exactly if the stream isn't `well-spaced`, and `Memory` if memory runs out. The call takes
+/// time proportional to the length of the text.
 ///
 /// # Contract
 ///
@@ -51,7 +51,7 @@ pub fn text_with<C: Chooser>(
     Ok(text)
 }
 
-/// The tokens of a stream that is well spaced with the gaps that the chooser gives.
+/// Returns the tokens of a well-spaced stream with the gaps that the chooser gives.
 fn laid_out<C: Chooser>(
     stream: &TokenStream,
     chooser: &mut C,
@@ -83,7 +83,8 @@ fn laid_out<C: Chooser>(
     Ok(text.into_string())
 }
 
-/// In how many groups a step is taken, where it comes in so many.
+/// Returns the depth of the gap before the step, when `depth` groups are open. A gap before a closer counts as outside
+/// the closer's group.
 fn depth_at(depth: usize, step: Step<'_>) -> usize
 {
     match step {
@@ -92,7 +93,7 @@ fn depth_at(depth: usize, step: Step<'_>) -> usize
     }
 }
 
-/// In how many the next one is.
+/// Returns how many groups are open after the step, when `depth` are open before it.
 fn depth_past(depth: usize, step: Step<'_>) -> usize
 {
     match step {
@@ -113,7 +114,7 @@ fn push_step(text: &mut TextBuilder, step: Step<'_>) -> Result<(), AllocError>
     }
 }
 
-/// Writes the token, or the group's opener. What a token owns is copied from where it stands.
+/// Writes the token, or the group's opener. Names and literals are appended without a copy in between.
 #[cfg_attr(not(debug_assertions), inline(always))]
 fn push_tree(text: &mut TextBuilder, tree: &TokenTree) -> Result<(), AllocError>
 {
@@ -146,7 +147,7 @@ fn push_mark(text: &mut TextBuilder, mark: Option<char>) -> Result<(), AllocErro
     }
 }
 
-/// The mark that opens a group.
+/// The mark that opens a group, if it has one.
 pub(crate) fn opener(delimiter: Delimiter) -> Option<char>
 {
     match delimiter {
@@ -157,7 +158,7 @@ pub(crate) fn opener(delimiter: Delimiter) -> Option<char>
     }
 }
 
-/// And that closes it.
+/// The mark that closes a group, if it has one.
 pub(crate) fn closer(delimiter: Delimiter) -> Option<char>
 {
     match delimiter {
@@ -168,10 +169,10 @@ pub(crate) fn closer(delimiter: Delimiter) -> Option<char>
     }
 }
 
-/// Writes what [`text_with`] gives.
+/// Writes the tokens of the stream with the gaps that the chooser gives, as [`text_with`] returns them.
 ///
-/// Fails with `NotWellSpaced` and with `Memory` before anything is written, and with `Write`; then a beginning of the
-/// text may stand.
+/// Returns `NotWellSpaced` or `Memory`, for the same reasons as [`text_with`], before it writes anything. Returns
+/// `Write` if the writer fails: a prefix of the text may have been written then.
 ///
 /// # Contract
 ///

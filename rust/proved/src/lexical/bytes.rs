@@ -1,12 +1,12 @@
 // Made from crates/lexical/src/bytes.rt by rust/erase: change that file, not this one.
-//! Classes of characters, and what stands at a byte offset by its class.
+//! Classes of characters, and steps over the characters of a class.
 //!
-//! ASCII is read byte by byte, each by one look at a table. A character past ASCII is read whole.
+//! ASCII is read byte by byte, with one table lookup for each byte. A character past ASCII is decoded first.
 
 use crate::lexical::class::{continues_identifier, is_white, starts_identifier};
 use crate::lexical::cursor::Cursor;
 
-/// The base of the digits that a prefix announces.
+/// The base of an integer's digits, which a prefix such as `0x` announces.
 #[derive(Clone, Copy)]
 pub enum Base {
     /// Base 2, after `0b`.
@@ -17,7 +17,7 @@ pub enum Base {
     Hexadecimal,
 }
 
-/// A class of characters that rules name.
+/// A class of characters that the rules of the grammar name.
 #[derive(Clone, Copy)]
 pub enum Class {
     /// An ASCII digit.
@@ -26,9 +26,9 @@ pub enum Class {
     DigitOrUnderscore,
     /// `_`.
     Underscore,
-    /// A digit of the base.
+    /// A digit of this base.
     DigitOf(Base),
-    /// A digit of the base or `_`.
+    /// A digit of this base or `_`.
     DigitOrUnderscoreOf(Base),
     /// `+` or `-`.
     Sign,
@@ -40,13 +40,13 @@ pub enum Class {
     CodeDigit,
     /// `#`.
     Hash,
-    /// What may begin an identifier.
+    /// A character that may begin an identifier.
     IdentifierStart,
-    /// What an identifier may go on with.
+    /// A character that may continue an identifier.
     IdentifierContinue,
-    /// What bars the dot of a number before it: a dot, or what may begin an identifier.
+    /// A dot, or a character that may begin an identifier. A dot right before one of these does not belong to a number.
     BarsDot,
-    /// White space, or one of the two marks of direction.
+    /// White space, or one of the two marks of direction, U+200E and U+200F.
     White,
     /// One of `(`, `[`, `{`.
     Opener,
@@ -56,8 +56,8 @@ pub enum Class {
     Mark,
 }
 
-// Each byte is of one kind at most, which is a bit. A class has the characters of some kinds.
-/// No kind: other characters of ASCII, and the bytes past it.
+// Each byte has at most one kind, which is one bit. A class is a set of kinds.
+/// No kind: the other ASCII characters, and all bytes past ASCII.
 const NONE: u16 = 0;
 /// White space.
 const WHITE: u16 = 1;
@@ -93,7 +93,7 @@ const DIGITS: u16 = BINARY | OCTAL | DECIMAL;
 /// The kinds of letters.
 const LETTERS: u16 = EXPONENT | HEX | LETTER;
 
-/// The kind of each byte. Those past ASCII are of none.
+/// The kind of each byte. Bytes past ASCII have no kind.
 #[rustfmt::skip]
 static KINDS: [u16; 256] = [
     NONE, NONE, NONE, NONE, NONE, NONE, NONE, NONE,
@@ -168,7 +168,7 @@ pub fn holds_ascii(class: Class, byte: u8) -> bool
     KINDS[byte as usize] & kinds(class) != 0
 }
 
-/// Whether the character is of the class.
+/// Whether the character is in the class.
 ///
 /// # Contract
 ///
@@ -189,7 +189,7 @@ pub fn holds(class: Class, c: char) -> bool
     }
 }
 
-/// How many bytes at the front are ASCII characters of the class.
+/// Counts the bytes before the first one that is not an ASCII character of the class.
 ///
 /// # Contract
 ///
@@ -211,7 +211,7 @@ pub fn count_ascii(bytes: &[u8], class: Class) -> usize
     count
 }
 
-/// The cursor after the ASCII characters of the class, up to one that isn't.
+/// Returns the cursor after the ASCII characters of the class, at the first character that is none of them.
 #[cfg_attr(not(debug_assertions), inline(always))]
 fn skip_ascii(at: Cursor<'_>, class: Class) -> Cursor<'_>
 {
@@ -222,7 +222,7 @@ fn skip_ascii(at: Cursor<'_>, class: Class) -> Cursor<'_>
     }
 }
 
-/// The cursor after all the characters of the class, up to one that isn't.
+/// Returns the cursor after all characters of the class, at the first character that is not in the class.
 ///
 /// # Contract
 ///
@@ -241,7 +241,7 @@ pub fn skip(at: Cursor<'_>, class: Class) -> Cursor<'_>
     end
 }
 
-/// The cursor after the character at the cursor, if it is of the class.
+/// Returns the cursor after one character if that character is in the class, and otherwise `None`.
 ///
 /// # Contract
 ///
@@ -257,7 +257,7 @@ pub fn one(at: Cursor<'_>, class: Class) -> Option<Cursor<'_>>
     if holds(class, c) { Some(after) } else { None }
 }
 
-/// Whether a character of the class stands at the cursor.
+/// Whether the character at the cursor is in the class. At the end of the text it is not.
 ///
 /// # Contract
 ///

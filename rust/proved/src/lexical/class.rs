@@ -1,9 +1,9 @@
 // Made from crates/lexical/src/class.rt by rust/erase: change that file, not this one.
-//! Classes of characters.
+//! Classes of characters, and which piece a character can begin.
 
 use crate::lexical::bytes::{Class, holds};
 
-/// What the first character of a text says of the piece that may stand there.
+/// What the first character of a text says about the piece there.
 #[derive(Clone, Copy)]
 pub enum PieceStart {
     /// A white character.
@@ -22,11 +22,11 @@ pub enum PieceStart {
     Quote,
     /// `"`.
     DoubleQuote,
-    /// U+FEFF.
+    /// The byte order mark U+FEFF.
     FrontMark,
-    /// Another of the marks.
+    /// One of the other marks.
     Mark,
-    /// Any other.
+    /// Any other character. No piece begins with it.
     Other,
 }
 
@@ -57,7 +57,7 @@ pub fn starts_identifier(c: char) -> bool
     crate::shim::unicode_ident::is_xid_start(c) && !is_white(c) && c != '\u{FEFF}'
 }
 
-/// Whether an identifier may go on with the character, by the rule `identifier-continue`.
+/// Whether an identifier may continue with the character, by the rule `identifier-continue`.
 ///
 /// # Contract
 ///
@@ -72,7 +72,7 @@ pub fn continues_identifier(c: char) -> bool
     crate::shim::unicode_ident::is_xid_continue(c)
 }
 
-/// What each byte begins, in words that make the table below a square.
+/// Short names for the table below.
 const WHITE: PieceStart = PieceStart::White;
 
 const LETTER: PieceStart = PieceStart::Letter;
@@ -93,7 +93,7 @@ const MARK: PieceStart = PieceStart::Mark;
 
 const OTHER: PieceStart = PieceStart::Other;
 
-/// What each byte begins. Those past ASCII tell nothing.
+/// What each ASCII byte can begin. A byte past ASCII does not decide it, so its entry is `OTHER`.
 #[rustfmt::skip]
 static STARTS: [PieceStart; 256] = [
     OTHER, OTHER, OTHER, OTHER, OTHER, OTHER, OTHER, OTHER,
@@ -122,7 +122,7 @@ static STARTS: [PieceStart; 256] = [
     OTHER, OTHER, OTHER, OTHER, OTHER, OTHER, OTHER, OTHER, OTHER, OTHER, OTHER, OTHER, OTHER, OTHER, OTHER, OTHER,
 ];
 
-/// What the first byte of a text says of the piece that may stand there: nothing, where it is past ASCII.
+/// What the first byte of a text says about the piece there. It says nothing if the byte is past ASCII.
 ///
 /// # Contract
 ///
@@ -135,7 +135,7 @@ pub fn byte_start(byte: u8) -> PieceStart
     STARTS[byte as usize]
 }
 
-/// What the first character of a text says of the piece that may stand there.
+/// Returns what the first character of a text says about the piece there.
 ///
 /// # Contract
 ///

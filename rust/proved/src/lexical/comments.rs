@@ -1,5 +1,5 @@
 // Made from crates/lexical/src/comments.rt by rust/erase: change that file, not this one.
-//! Comments.
+//! Steps over comments.
 
 use crate::lexical::cursor::Cursor;
 use crate::lexical::docs::comment_kind;
@@ -7,15 +7,15 @@ use crate::lexical::piece::PieceKind;
 use crate::lexical::search::{skip_to, skip_to_either};
 use crate::lexical::text::before;
 
-/// The cursor after the line comment that stands at the cursor, by the rule `line-comment`.
+/// Returns the cursor after the line comment at the cursor, by the rule `line-comment`.
 fn skip_line(at: Cursor<'_>) -> Option<Cursor<'_>>
 {
     let after = at.past("//")?;
     Some(skip_to(after, b'\n'))
 }
 
-/// The cursor after the sign or the character at the cursor, and how many block comments are open
-/// there. `depth` are open at the cursor.
+/// Moves past one `/*`, one `*/` or one other character. Returns the cursor there and how many block comments are open
+/// there, where `depth` are open at `at`.
 fn step(at: Cursor<'_>, depth: usize) -> Option<(Cursor<'_>, usize)>
 {
     let (_, after) = at.advance()?;
@@ -28,7 +28,7 @@ fn step(at: Cursor<'_>, depth: usize) -> Option<(Cursor<'_>, usize)>
     Some((after, depth))
 }
 
-/// The cursor after the block comment that stands at the cursor, by the rule `block-comment`.
+/// Returns the cursor after the block comment at the cursor, by the rule `block-comment`.
 fn skip_block(at: Cursor<'_>) -> Option<Cursor<'_>>
 {
     let mut end = at.past("/*")?;
@@ -42,7 +42,7 @@ fn skip_block(at: Cursor<'_>) -> Option<Cursor<'_>>
     Some(end)
 }
 
-/// The cursor after the comment that stands at the cursor.
+/// Returns the cursor after the comment at the cursor, or `None` if no comment begins there.
 ///
 /// # Contract
 ///
@@ -58,8 +58,8 @@ pub fn skip_comment(at: Cursor<'_>) -> Option<Cursor<'_>>
     }
 }
 
-/// The comment that stands at the cursor, a gap or a doc comment: its kind, and the cursor after it.
-/// None stands where a doc comment has a CR that no LF follows in its text.
+/// Returns the kind of the comment at the cursor, a gap or a doc comment, and the cursor after it. A doc comment is
+/// rejected if its text has a CR with no LF after it.
 ///
 /// # Contract
 ///

@@ -1,12 +1,12 @@
 // Made from crates/lexical/src/contents.rt by rust/erase: change that file, not this one.
-//! What strings forbid between their quotes.
+//! The characters that a string must not contain.
 //!
-//! A string's end is searched for among its bytes, and then the stretch up to there is checked.
+//! The end of a string is searched for among its bytes. Then the bytes up to there are checked.
 
 use crate::lexical::quoted::StringKind;
 use crate::shim::memchr::memchr;
 
-/// Whether a string of the kind may have the character, be it raw or not.
+/// Whether a string of the kind may contain the character, with escapes or raw.
 ///
 /// # Contract
 ///
@@ -22,7 +22,7 @@ pub fn may_stand(c: char, kind: StringKind) -> bool
     }
 }
 
-/// How many bytes come before the first that is past ASCII.
+/// Counts the bytes before the first one that is past ASCII.
 fn count_ascii(bytes: &[u8]) -> usize
 {
     if bytes.is_ascii() {
@@ -38,7 +38,7 @@ fn count_ascii(bytes: &[u8]) -> usize
     count
 }
 
-/// How many bytes of the stretch come before the first that a string of the kind forbids.
+/// Counts the bytes before the first one that a string of the kind must not contain.
 ///
 /// # Contract
 ///

@@ -3,18 +3,18 @@
 
 use crate::lexical::text::{char_count, split_first, strip};
 
-/// What is left of a text, and how many characters stand before that.
+/// The rest of a text, and how many characters come before it.
 #[derive(Clone, Copy)]
 pub struct Cursor<'a> {
-    /// What follows the cursor.
+    /// The text after the cursor.
     pub rest: &'a str,
-    /// How many characters of the text stand before it.
+    /// How many characters of the text come before the cursor.
     pub chars_before: usize,
-    // The rest is a text, and the count of characters cannot wrap.
+    // The rest is valid UTF-8, and the count of characters cannot overflow.
 }
 
 impl<'a> Cursor<'a> {
-    /// The front of a text.
+    /// Returns the cursor at the start of a text.
     ///
     /// # Contract
     ///
@@ -23,7 +23,7 @@ impl<'a> Cursor<'a> {
     #[cfg_attr(not(debug_assertions), inline(always))]
     pub fn new(text: &'a str) -> Self
     {
-        // Its contract bounds how many bytes a text has, and so how many characters.
+        // The contract of `iter` bounds how many bytes a text has, and so how many characters.
         let _bytes = text.as_bytes().iter();
         Cursor {
             rest: text,
@@ -31,7 +31,7 @@ impl<'a> Cursor<'a> {
         }
     }
 
-    /// The character after the cursor, and the cursor after that character.
+    /// Returns the next character, and the cursor after it.
     ///
     /// # Contract
     ///
@@ -52,7 +52,7 @@ impl<'a> Cursor<'a> {
         Some((first, after))
     }
 
-    /// The cursor after the ASCII text `front`, where that stands at the cursor.
+    /// Returns the cursor after the ASCII text `front`, or `None` if the rest does not begin with it.
     ///
     /// # Contract
     ///
@@ -74,7 +74,7 @@ impl<'a> Cursor<'a> {
         Some(after)
     }
 
-    /// The cursor after the next `size` bytes, which are whole characters.
+    /// Returns the cursor after the next `size` bytes, which must end between two characters.
     ///
     /// # Contract
     ///
@@ -96,7 +96,7 @@ impl<'a> Cursor<'a> {
         }
     }
 
-    /// How many bytes of the text stand before the cursor, which lies in it.
+    /// Counts the bytes of `text` before the cursor. The cursor's rest must be a suffix of `text`.
     ///
     /// # Contract
     ///

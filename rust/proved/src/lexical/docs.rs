@@ -1,11 +1,11 @@
 // Made from crates/lexical/src/docs.rt by rust/erase: change that file, not this one.
-//! Doc comments.
+//! Doc comments and their text.
 
 use crate::lexical::piece::PieceKind;
 use crate::lexical::search::from_first;
 use crate::lexical::text::{before, begins, split_first, without_return};
 
-/// Whether the comment documents what it stands in.
+/// Whether the comment is an inner doc comment, which documents the item around it.
 fn is_inner(comment: &str) -> bool
 {
     begins(comment, "//!") || begins(comment, "/*!")
@@ -19,7 +19,7 @@ fn is_doc(comment: &str) -> bool
     is_inner(comment) || outer && !plain
 }
 
-/// The text of a doc comment before `rest`, by the rule `doc-text`.
+/// Returns the text of a doc comment that `rest` follows, by the rule `doc-text`.
 fn doc_text<'a>(comment: &'a str, rest: &str) -> &'a str
 {
     let said = &comment[3..];
@@ -32,7 +32,7 @@ fn doc_text<'a>(comment: &'a str, rest: &str) -> &'a str
     }
 }
 
-/// Whether a CR stands in the text that no LF follows there.
+/// Whether the text has a CR with no LF after it.
 fn has_bare_return(text: &str) -> bool
 {
     let mut rest = from_first(text, b'\r');
@@ -45,8 +45,8 @@ fn has_bare_return(text: &str) -> bool
     false
 }
 
-/// What kind of piece the comment before `rest` is. It is none where a doc comment has a CR that
-/// no LF follows in its text.
+/// Returns which kind of piece a comment is that `rest` follows. A doc comment is rejected if its text has a CR with no
+/// LF after it.
 ///
 /// # Contract
 ///

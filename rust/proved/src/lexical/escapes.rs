@@ -1,5 +1,5 @@
 // Made from crates/lexical/src/escapes.rt by rust/erase: change that file, not this one.
-//! Escapes: what stands after a backslash.
+//! Escapes: what follows a backslash in a literal.
 
 use crate::lexical::bytes::{Base, Class, one, skip};
 use crate::lexical::cursor::Cursor;
@@ -7,7 +7,7 @@ use crate::lexical::quoted::StringKind;
 use crate::lexical::skip::one as one_that;
 use crate::lexical::text::{before, begins};
 
-/// Whether the letter is a simple escape, by the rule `simple-escape`.
+/// Whether a backslash and this letter are a simple escape, by the rule `simple-escape`.
 ///
 /// # Contract
 ///
@@ -24,19 +24,19 @@ pub fn is_letter(c: char, kind: StringKind) -> bool
     }
 }
 
-/// The cursor after the letter of a simple escape.
+/// Returns the cursor after the letter of a simple escape.
 fn simple(at: Cursor<'_>, kind: StringKind) -> Option<Cursor<'_>>
 {
     one_that(at, |c| is_letter(c, kind))
 }
 
-/// The cursor after two hex digits.
+/// Returns the cursor after two hex digits.
 fn hex_pair(at: Cursor<'_>) -> Option<Cursor<'_>>
 {
     one(one(at, Class::HexDigit)?, Class::HexDigit)
 }
 
-/// The cursor after two hex digits that may stand after `x`.
+/// Returns the cursor after two hex digits if a literal of the kind allows them after `\x`.
 fn pair(at: Cursor<'_>, kind: StringKind) -> Option<Cursor<'_>>
 {
     match kind {
@@ -51,13 +51,13 @@ fn pair(at: Cursor<'_>, kind: StringKind) -> Option<Cursor<'_>>
     }
 }
 
-/// The cursor after `x` and its two digits, by the rule `hex-escape`.
+/// Returns the cursor after `x` and its two digits, by the rule `hex-escape`.
 fn hex(at: Cursor<'_>, kind: StringKind) -> Option<Cursor<'_>>
 {
     pair(at.past("x")?, kind)
 }
 
-/// Whether the escape of a character may give this one.
+/// Whether `\u{..}` may have this value in a literal of the kind.
 fn allows(kind: StringKind, value: u32) -> bool
 {
     match kind {
@@ -67,10 +67,11 @@ fn allows(kind: StringKind, value: u32) -> bool
     }
 }
 
-/// How many hex digits a character's code may have at most.
+/// The largest number of hex digits in `\u{..}`.
 const MOST_DIGITS: u32 = 6;
 
-/// Whether the hex digits, six at most, write a character that is allowed, whatever `_` stand between them.
+/// Whether there are at most six hex digits, and they are the code of a character that the kind allows. Any `_` among
+/// them is skipped.
 ///
 /// # Contract
 ///
@@ -98,7 +99,7 @@ pub fn writes_character(code: &[u8], kind: StringKind) -> bool
     char::from_u32(value).is_some() && allows(kind, value)
 }
 
-/// The cursor after the code of a character: a hex digit and all the hex digits and `_` that follow it.
+/// Returns the cursor after the code of a character: one hex digit and all hex digits and `_` after it.
 fn code(at: Cursor<'_>, kind: StringKind) -> Option<Cursor<'_>>
 {
     let first = one(at, Class::HexDigit)?;
@@ -109,13 +110,13 @@ fn code(at: Cursor<'_>, kind: StringKind) -> Option<Cursor<'_>>
     Some(end)
 }
 
-/// The cursor after `u{`, a character's code and `}`, by the rule `unicode-escape`.
+/// Returns the cursor after `u{`, the code of a character and `}`, by the rule `unicode-escape`.
 fn unicode(at: Cursor<'_>, kind: StringKind) -> Option<Cursor<'_>>
 {
     code(at.past("u{")?, kind)?.past("}")
 }
 
-/// The cursor after an escape: a letter, `x` and two digits, or the code of a character.
+/// Returns the cursor after an escape: a letter, `x` and two digits, or `u{..}` with the code of a character.
 ///
 /// # Contract
 ///

@@ -1,12 +1,12 @@
 // Made from crates/lexical/src/identifiers.rt by rust/erase: change that file, not this one.
-//! Identifiers.
+//! Names and identifiers.
 
 use crate::lexical::bytes::{Class, one, skip};
 use crate::lexical::cursor::Cursor;
 use crate::lexical::piece::PieceKind;
 use crate::lexical::text::{before, begins, is_text};
 
-/// The cursor after the name that stands at the cursor, by the rule `name`.
+/// Returns the cursor after the name at the cursor, by the rule `name`.
 ///
 /// # Contract
 ///
@@ -20,8 +20,8 @@ pub fn name(at: Cursor<'_>) -> Option<Cursor<'_>>
     Some(skip(after, Class::IdentifierContinue))
 }
 
-/// Whether the text begins as a literal with letters before its quote does, by the rule
-/// `reserved-prefix`.
+/// Whether the text begins like a literal that has letters before its quote, by the rule `reserved-prefix`. `first` is
+/// its first character.
 #[cfg_attr(not(debug_assertions), inline(always))]
 fn begins_literal(text: &str, first: char) -> bool
 {
@@ -36,8 +36,8 @@ fn begins_literal(text: &str, first: char) -> bool
     }
 }
 
-/// Whether no raw identifier has the name, by the rule `raw-reserved`: it is `_`, `super`, `self`,
-/// `Self` or `crate`.
+/// Whether a raw identifier must not have the name, by the rule `raw-reserved`: `_`, `super`, `self`, `Self` and
+/// `crate`.
 ///
 /// # Contract
 ///
@@ -54,7 +54,7 @@ pub fn is_reserved(name: &str) -> bool
         || is_text(name, "crate")
 }
 
-/// The cursor after the name of a raw identifier that stands at the cursor, after `r#`.
+/// Returns the cursor after the name of a raw identifier. The cursor `at` is after its `r#`.
 ///
 /// # Contract
 ///
@@ -72,8 +72,8 @@ pub fn raw_name(at: Cursor<'_>) -> Option<Cursor<'_>>
     Some(end)
 }
 
-/// The cursor after the identifier that stands at the cursor, whatever literal begins there, where
-/// `raw` says whether `r#` does.
+/// Returns the cursor after the identifier at the cursor, even if a literal begins there. `raw` says whether the text
+/// there begins with `r#`.
 ///
 /// # Contract
 ///
@@ -94,8 +94,8 @@ pub fn written(at: Cursor<'_>, raw: bool) -> Option<Cursor<'_>>
     }
 }
 
-/// The identifier that stands at the cursor, by the rule `identifier`: its kind, and the cursor after
-/// it. `first` is the character at the cursor, and `after` the cursor after that.
+/// Returns the kind of the identifier at the cursor, by the rule `identifier`, and the cursor after it. `first` is the
+/// character at the cursor, and `after` is the cursor after that character.
 ///
 /// # Contract
 ///

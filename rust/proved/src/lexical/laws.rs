@@ -1,7 +1,7 @@
 // Made from crates/lexical/src/laws.rt by rust/erase: change that file, not this one.
-//! The laws of pieces.
+//! Laws about the pieces of a text.
 
-/// At most one piece stands at a byte offset: its kind, its text and what follows it are determined.
+/// At most one piece begins at a byte offset: the text there determines its kind, its text and what follows it.
 ///
 /// # Contract
 ///

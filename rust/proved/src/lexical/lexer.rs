@@ -1,5 +1,5 @@
 // Made from crates/lexical/src/lexer.rt by rust/erase: change that file, not this one.
-//! Which piece stands at the front of a text.
+//! Finds the piece at the start of a text.
 
 use crate::lexical::class::{PieceStart, byte_start, piece_start_of};
 use crate::lexical::comments::comment;
@@ -19,15 +19,15 @@ use crate::lexical::quick::{
 use crate::lexical::text::strip;
 use crate::lexical::words::{count_few_plain, count_plain};
 
-/// A literal that was read, if one was, as a piece: its kind, and the cursor after it.
+/// Makes a piece of a literal that was read, if one was: its kind, and the cursor after it.
 #[cfg_attr(not(debug_assertions), inline(always))]
 fn as_literal(end: Option<Cursor<'_>>) -> Option<(PieceKind<'_>, Cursor<'_>)>
 {
     Some((PieceKind::Literal, end?))
 }
 
-/// The piece that stands at the cursor, by its first character: its kind, and the cursor after it.
-/// `at_front` says whether that is byte offset 0 of a source.
+/// Returns the kind of the piece at the cursor, and the cursor after it. The first character decides which rules to
+/// try. `at_front` says whether the cursor is at byte offset 0 of a source.
 #[cfg_attr(not(debug_assertions), inline(always))]
 fn read_piece(at: Cursor<'_>, at_front: bool) -> Option<(PieceKind<'_>, Cursor<'_>)>
 {
@@ -72,14 +72,13 @@ fn read_piece(at: Cursor<'_>, at_front: bool) -> Option<(PieceKind<'_>, Cursor<'
     }
 }
 
-/// The piece of the grammar that stands at the front of `text`, which is all that follows some
-/// byte offset of a source. `first` says whether that is byte offset 0.
+/// Returns the piece of the grammar at the start of `text`, which is the rest of a source from some byte offset on.
+/// `first` says whether that is byte offset 0.
 ///
-/// It answers `None` where no piece stands: at the end of the source, and where what follows begins
-/// no piece, as at an unclosed string. A closer that matches nothing is a piece. At most one piece
-/// stands at a byte offset, as `one_piece` says.
-/// At `+=` the mark `+` stands, Joint, of 1 byte and 1 character. At `/* /* */` none stands, as one
-/// comment is open at the end.
+/// It returns `None` at the end of the source, and where no piece begins, as at a string that is not closed. A closer
+/// without an opener is a piece too. At most one piece begins at a byte offset, as
+/// `one_piece` says. For `+=` it returns the mark `+`, which is Joint and has 1 byte and 1
+/// character. For `/* /* */` it returns `None`, because one comment is still open at the end.
 ///
 /// # Contract
 ///
@@ -100,7 +99,7 @@ pub fn piece_at(text: &str, first: bool) -> Option<Piece<'_>>
     }
 }
 
-/// The same, of pieces that stand more seldom: by the first byte, in a function of its own for each.
+/// Returns the piece at the start of `text` if it is of a rarer kind. Each first byte has a function of its own.
 #[cfg_attr(not(debug_assertions), inline(always))]
 fn other_piece(text: &str, first: bool) -> Option<Piece<'_>>
 {
@@ -114,7 +113,7 @@ fn other_piece(text: &str, first: bool) -> Option<Piece<'_>>
     }
 }
 
-/// The literal of this extent, as a piece.
+/// Returns the piece of a literal that has this extent.
 #[cfg_attr(not(debug_assertions), inline(always))]
 fn literal_piece<'a>(extent: Extent) -> Piece<'a>
 {
@@ -125,7 +124,7 @@ fn literal_piece<'a>(extent: Extent) -> Piece<'a>
     }
 }
 
-/// The same, of a text that begins with a letter: often a byte or a byte string.
+/// Returns the piece of a text that begins with a letter. Often it is a byte or a byte string.
 #[inline(never)]
 fn letter_piece(text: &str, first: bool) -> Option<Piece<'_>>
 {
@@ -135,7 +134,7 @@ fn letter_piece(text: &str, first: bool) -> Option<Piece<'_>>
     }
 }
 
-/// The same, of a text that begins with a digit.
+/// Returns the piece of a text that begins with a digit.
 #[inline(never)]
 fn digit_piece(text: &str, first: bool) -> Option<Piece<'_>>
 {
@@ -145,7 +144,7 @@ fn digit_piece(text: &str, first: bool) -> Option<Piece<'_>>
     }
 }
 
-/// The same, of a text that begins with `/`: often a line comment.
+/// Returns the piece of a text that begins with `/`. Often it is a line comment.
 #[inline(never)]
 fn slash_piece(text: &str, first: bool) -> Option<Piece<'_>>
 {
@@ -155,7 +154,7 @@ fn slash_piece(text: &str, first: bool) -> Option<Piece<'_>>
     }
 }
 
-/// The same, of a text that begins with `'`: a character of one byte, or a lone quote.
+/// Returns the piece of a text that begins with `'`: often a character of one byte, or a lone quote.
 ///
 /// Other characters have functions of their own, so that this one needs few registers.
 #[inline(never)]
@@ -180,7 +179,7 @@ fn quote_piece(text: &str, first: bool) -> Option<Piece<'_>>
     }
 }
 
-/// The same, of a text that begins with `'` and a backslash.
+/// Returns the piece of a text that begins with `'` and a backslash.
 #[inline(never)]
 fn escaped_piece(text: &str, first: bool) -> Option<Piece<'_>>
 {
@@ -190,7 +189,7 @@ fn escaped_piece(text: &str, first: bool) -> Option<Piece<'_>>
     }
 }
 
-/// The same, of a text that begins with `'` and a character past ASCII.
+/// Returns the piece of a text that begins with `'` and a character past ASCII.
 #[inline(never)]
 fn wide_piece(text: &str, first: bool) -> Option<Piece<'_>>
 {
@@ -200,7 +199,7 @@ fn wide_piece(text: &str, first: bool) -> Option<Piece<'_>>
     }
 }
 
-/// The same, of a text that begins with `"`: a string of a few characters of ASCII.
+/// Returns the piece of a text that begins with `"`. Often it is a string of a few ASCII characters.
 ///
 /// Other strings have functions of their own, so that this one needs few registers.
 #[inline(never)]
@@ -223,7 +222,7 @@ fn string_piece(text: &str, first: bool) -> Option<Piece<'_>>
     long_string_piece(text, inside, first)
 }
 
-/// The same, of a string whose first escape comes after so many bytes of ASCII.
+/// Returns the piece of a string that has `stretch` ASCII bytes before its first escape.
 #[inline(never)]
 fn escaped_string_piece<'a>(
     text: &'a str,
@@ -238,7 +237,7 @@ fn escaped_string_piece<'a>(
     }
 }
 
-/// The same, of a string with more than a few bytes before its first escape.
+/// Returns the piece of a string that has more than a few bytes before its first escape.
 #[inline(never)]
 fn long_string_piece<'a>(text: &'a str, inside: &str, first: bool) -> Option<Piece<'a>>
 {
@@ -248,7 +247,7 @@ fn long_string_piece<'a>(text: &'a str, inside: &str, first: bool) -> Option<Pie
     }
 }
 
-/// The same, of another string.
+/// Returns the piece of a string that the faster functions did not decide.
 #[inline(never)]
 fn other_string_piece(text: &str, first: bool) -> Option<Piece<'_>>
 {
@@ -258,7 +257,7 @@ fn other_string_piece(text: &str, first: bool) -> Option<Piece<'_>>
     }
 }
 
-/// The same, read by its characters, whatever piece it is.
+/// Returns the piece at the start of `text`, of any kind, by decoding its characters.
 #[inline(never)]
 fn piece_by_characters(text: &str, first: bool) -> Option<Piece<'_>>
 {
@@ -271,11 +270,10 @@ fn piece_by_characters(text: &str, first: bool) -> Option<Piece<'_>>
     Some(piece)
 }
 
-/// How many bytes the literal has that stands at the front of `text`, its suffix with it, by the
-/// rule `literal`.
+/// Returns how many bytes the literal at the start of `text` has, with its suffix, by the rule `literal`.
 ///
-/// It answers `None` where none stands. At `b"a"b+` it answers 5, at `1.0e+-5` it answers 4, and at
-/// `0b12` that none stands.
+/// It returns `None` if no literal begins there. For `b"a"b+` it returns 5, for `1.0e+-5` it returns 4, and for `0b12`
+/// it returns `None`.
 ///
 /// # Contract
 ///
@@ -296,7 +294,7 @@ pub fn literal_at(text: &str) -> Option<usize>
     }
 }
 
-/// The same, read by its characters.
+/// Returns how many bytes the literal at the start of `text` has, by decoding its characters.
 #[inline(never)]
 fn literal_by_characters(text: &str) -> Option<usize>
 {
@@ -304,10 +302,10 @@ fn literal_by_characters(text: &str) -> Option<usize>
     Some(after.bytes_in(text))
 }
 
-/// How many bytes the name has that stands at the front of `text`, by the rule `name`: a character
-/// that may begin an identifier and all that go on with it.
+/// Returns how many bytes the name at the start of `text` has, by the rule `name`. A name is one character that may
+/// begin an identifier, and all after it that may continue one.
 ///
-/// It answers `None` where no such character stands. At `r#a` it answers 1.
+/// It returns `None` if the first character may not begin an identifier. For `r#a` it returns 1.
 ///
 /// # Contract
 ///

@@ -1,5 +1,5 @@
 // Made from crates/lexical/src/marks.rt by rust/erase: change that file, not this one.
-//! Marks.
+//! Punctuation marks and lone quotes.
 
 use crate::lexical::bytes::{Class, holds};
 use crate::lexical::cursor::Cursor;
@@ -20,7 +20,7 @@ pub fn is_mark(c: char) -> bool
     holds(Class::Mark, c)
 }
 
-/// Whether a comment begins the text.
+/// Whether the text begins with a comment, `//` or `/*`.
 ///
 /// # Contract
 ///
@@ -35,7 +35,7 @@ pub fn begins_comment(text: &str) -> bool
     begins(text, "//") || begins(text, "/*")
 }
 
-/// The kind of the mark that stands before `rest`, by the rules `mark` and `joint`.
+/// Returns the kind of a mark that `rest` follows, by the rules `mark` and `joint`.
 ///
 /// # Contract
 ///
@@ -53,7 +53,8 @@ pub fn mark<'a>(mark: char, rest: &str) -> PieceKind<'a>
     PieceKind::Mark { joint, mark }
 }
 
-/// Whether no character follows the cursor that bars a `'` before the identifier that ends there.
+/// Whether a `'` may come right before an identifier that ends at the cursor. It may not if a `'` follows the
+/// identifier, or if a `#` follows and the identifier is not raw.
 fn is_unbarred(end: Cursor<'_>, raw: bool) -> bool
 {
     match end.advance() {
@@ -62,7 +63,7 @@ fn is_unbarred(end: Cursor<'_>, raw: bool) -> bool
     }
 }
 
-/// Whether a lone quote may stand before the cursor, by the rule `lone-quote`.
+/// Whether a lone quote may come right before the cursor, by the rule `lone-quote`.
 ///
 /// # Contract
 ///

@@ -1,19 +1,19 @@
 // Made from crates/lexical/src/numbers.rt by rust/erase: change that file, not this one.
-//! Numbers.
+//! Numbers, read by their characters.
 
 use crate::lexical::bytes::{Base, Class, is_next, one, skip};
 use crate::lexical::cursor::Cursor;
 use crate::lexical::quoted::suffix;
 use crate::lexical::text::begins;
 
-/// The cursor after the digits that stand at the cursor, by the rule `digits`.
+/// Returns the cursor after the digits at the cursor, by the rule `digits`.
 fn digits(at: Cursor<'_>) -> Option<Cursor<'_>>
 {
     let after = one(at, Class::Digit)?;
     Some(skip(after, Class::DigitOrUnderscore))
 }
 
-/// The cursor after the suffix of a number, by the rule `number-end`.
+/// Returns the cursor after the suffix of a number, by the rule `number-end`.
 fn end(at: Cursor<'_>) -> Option<Cursor<'_>>
 {
     let end = suffix(at);
@@ -24,7 +24,7 @@ fn end(at: Cursor<'_>) -> Option<Cursor<'_>>
     }
 }
 
-/// The cursor after the dot of a number, by the rule `dot`.
+/// Returns the cursor after the dot of a number, by the rule `dot`.
 fn dot(at: Cursor<'_>) -> Option<Cursor<'_>>
 {
     let end = at.past(".")?;
@@ -35,7 +35,7 @@ fn dot(at: Cursor<'_>) -> Option<Cursor<'_>>
     }
 }
 
-/// The cursor after the exponent that stands at the cursor, by the rule `exponent`.
+/// Returns the cursor after the exponent at the cursor, by the rule `exponent`.
 fn exponent(at: Cursor<'_>) -> Option<Cursor<'_>>
 {
     let letter = one(at, Class::ExponentLetter)?;
@@ -47,7 +47,7 @@ fn exponent(at: Cursor<'_>) -> Option<Cursor<'_>>
     digits(skip(after, Class::Underscore))
 }
 
-/// The cursor after a dot and what follows it in a number.
+/// Returns the cursor after a number's dot and everything that follows the dot in the number.
 fn fraction(at: Cursor<'_>) -> Option<Cursor<'_>>
 {
     let after = skip(dot(at)?, Class::DigitOrUnderscore);
@@ -57,7 +57,7 @@ fn fraction(at: Cursor<'_>) -> Option<Cursor<'_>>
     }
 }
 
-/// The cursor after what makes a float of the digits before it.
+/// Returns the cursor after the part that makes a float of the digits before it.
 fn float_tail(at: Cursor<'_>) -> Option<Cursor<'_>>
 {
     match fraction(at) {
@@ -66,7 +66,7 @@ fn float_tail(at: Cursor<'_>) -> Option<Cursor<'_>>
     }
 }
 
-/// The cursor after the number that stands at the cursor and begins with no prefix of a base.
+/// Returns the cursor after a number that begins with no prefix of a base.
 fn decimal(at: Cursor<'_>) -> Option<Cursor<'_>>
 {
     let after = digits(at)?;
@@ -76,8 +76,8 @@ fn decimal(at: Cursor<'_>) -> Option<Cursor<'_>>
     }
 }
 
-/// The cursor after the digits of the base, where none follows that is too large, by the rule
-/// `base-digits`.
+/// Returns the cursor after the digits of this base, by the rule `base-digits`. A digit that is too large for the base
+/// must not follow.
 fn digits_in(at: Cursor<'_>, base: Base) -> Option<Cursor<'_>>
 {
     let first = one(skip(at, Class::Underscore), Class::DigitOf(base))?;
@@ -89,13 +89,13 @@ fn digits_in(at: Cursor<'_>, base: Base) -> Option<Cursor<'_>>
     }
 }
 
-/// The cursor after the prefix of a base and its digits.
+/// Returns the cursor after the prefix of a base and its digits.
 fn prefixed<'a>(at: Cursor<'a>, prefix: &str, base: Base) -> Option<Cursor<'a>>
 {
     digits_in(at.past(prefix)?, base)
 }
 
-/// The cursor after the digits of base 16, 8 or 2 with its prefix, by the rule `based`.
+/// Returns the cursor after a prefix and its digits of base 16, 8 or 2, by the rule `based`.
 fn based(at: Cursor<'_>) -> Option<Cursor<'_>>
 {
     if let Some(end) = prefixed(at, "0x", Base::Hexadecimal) {
@@ -107,13 +107,13 @@ fn based(at: Cursor<'_>) -> Option<Cursor<'_>>
     }
 }
 
-/// Whether the prefix of a base begins the text.
+/// Whether the text begins with the prefix of a base.
 fn begins_based(text: &str) -> bool
 {
     begins(text, "0x") || begins(text, "0o") || begins(text, "0b")
 }
 
-/// The cursor after the number that stands at the cursor, by the rule `number`.
+/// Returns the cursor after the number at the cursor, by the rule `number`.
 ///
 /// # Contract
 ///

@@ -1,6 +1,6 @@
 // Made from crates/lexical/src/parts.rt by rust/erase: change that file, not this one.
-//! The steps of the lexer, for crates that say why no piece stands somewhere or go over all pieces. Users don't call
-//! them.
+//! The steps of the lexer, for crates that say why no piece begins somewhere or go over all pieces. They are not meant
+//! for users.
 
 pub use crate::lexical::bytes::{Base, Class, one, skip};
 pub use crate::lexical::class::{PieceStart, piece_start_of};

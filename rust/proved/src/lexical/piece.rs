@@ -1,32 +1,33 @@
 // Made from crates/lexical/src/piece.rt by rust/erase: change that file, not this one.
-//! The pieces of the grammar, as the lexer answers them.
+//! The pieces of the grammar, as the lexer returns them.
 
-/// What kind of piece it is, by the rules of the lexical grammar.
+/// The kind of a piece, by the rules of the lexical grammar.
 #[derive(Clone, Copy, Debug, PartialEq, Eq)]
 pub enum PieceKind<'a> {
-    /// The mark U+FEFF at the very front of a source, by the rule `front-mark`.
+    /// The byte order mark U+FEFF at byte offset 0 of a source, by the rule `front-mark`.
     FrontMark,
     /// One white character, or a comment that isn't a doc comment, by the rule `gap`.
     Gap,
     /// A doc comment, by the rule `doc-comment`.
     Doc {
-        /// Whether it documents what it stands in, as the forms with `!` do.
+        /// Whether it documents the item around it, as `//!` and `/*!` do.
         inner: bool,
-        /// What it says, by the rule `doc-text`: all but its first three characters, the `*/` of a
-        /// block and the CR before a line's LF. The comment `/// a` says ` a`.
+        /// Its text, by the rule `doc-text`: all but its first three characters, the `*/` of a block comment and a CR
+        /// before the LF that ends the line. The text of `/// a` is ` a`.
         text: &'a str,
     },
     /// One of `(`, `[`, `{`, by the rule `opener`.
     Opener(char),
     /// One of `)`, `]`, `}`, by the rule `closer`.
     Closer(char),
-    /// A literal, suffix and all, by the rule `literal` or `error-literal`.
+    /// A literal with its suffix, by the rule `literal` or `error-literal`.
     Literal,
     /// A punctuation mark, by the rule `mark` or `lone-quote`.
     Mark {
-        /// Whether it is Joint: by the rule `joint` if a mark that begins no comment follows right
-        /// after it, and by the rule `lone-quote` always as the `'` before an identifier.
-        // Before the character, where no kind has a pointer: else the two are merged byte by byte.
+        /// Whether it is Joint. A mark is Joint by the rule `joint` if another mark follows at once and no comment
+        /// begins there. The `'` before an identifier is always Joint, by the rule `lone-quote`.
+        // This field precedes `mark`, because no variant has a pointer there. Otherwise the two would be copied byte by
+        // byte.
         joint: bool,
         /// The mark's character.
         mark: char,
@@ -40,7 +41,7 @@ pub enum PieceKind<'a> {
     },
 }
 
-/// A piece at the front of a text.
+/// A piece at the start of a text.
 #[derive(Clone, Copy, Debug, PartialEq, Eq)]
 pub struct Piece<'a> {
     /// What kind of piece it is.

@@ -1,8 +1,8 @@
 // Made from crates/lexical/src/quick.rt by rust/erase: change that file, not this one.
-//! Pieces that a few bytes tell.
+//! Pieces that a few bytes decide.
 //!
-//! Most pieces of a source are of ASCII and end before ASCII, and so are found among the bytes, with no character
-//! decoded. Where the bytes tell nothing, [`piece_at`](crate::lexical::piece_at) reads the piece by its characters.
+//! Most pieces of a source are ASCII and are followed by ASCII. They are found among the bytes, and no character is
+//! decoded. If the bytes do not decide, [`piece_at`](crate::lexical::piece_at) decodes the characters.
 
 mod numbers;
 pub mod quoted;
@@ -15,7 +15,7 @@ use crate::lexical::words::{count_line, count_name};
 use numbers::{long_number_size, number_size};
 use quoted::{byte_size, byte_string_size, character_size, string_size};
 
-/// The byte at the index, or a space where there is none.
+/// Returns the byte at the index, or a space if the index is past the end.
 ///
 /// # Contract
 ///
@@ -32,14 +32,14 @@ pub fn byte_at(bytes: &[u8], index: usize) -> u8
     }
 }
 
-/// Whether a name that the byte follows ends there and begins neither a literal nor a raw identifier.
+/// Whether a name ends before this byte, and neither a literal nor a raw identifier can begin with the two.
 #[cfg_attr(not(debug_assertions), inline(always))]
 fn ends_name(byte: u8) -> bool
 {
     byte.is_ascii() && byte != b'"' && byte != b'\'' && byte != b'#'
 }
 
-/// How many bytes the plain identifier has that stands at the front.
+/// Returns how many bytes the plain identifier at the start has.
 #[cfg_attr(not(debug_assertions), inline(always))]
 fn name_size(text: &str) -> Option<usize>
 {
@@ -55,7 +55,8 @@ fn name_size(text: &str) -> Option<usize>
     }
 }
 
-/// The same, by one byte after the other: the names of lifetimes are short.
+/// Returns how many bytes the plain identifier at the start has, by single bytes. This is faster for the names of
+/// lifetimes, which are short.
 #[cfg_attr(not(debug_assertions), inline(always))]
 fn short_name_size(text: &str) -> Option<usize>
 {
@@ -71,7 +72,7 @@ fn short_name_size(text: &str) -> Option<usize>
     }
 }
 
-/// How many bytes the rest of the line has, of ASCII with no CR.
+/// Returns how many bytes the rest of the line has, if it is ASCII and has no CR.
 #[cfg_attr(not(debug_assertions), inline(always))]
 fn line_size(text: &str) -> Option<usize>
 {
@@ -87,7 +88,7 @@ fn line_size(text: &str) -> Option<usize>
     }
 }
 
-/// The line comment at the front, which is no inner doc comment.
+/// Returns the line comment at the start, if it is no inner doc comment.
 ///
 /// # Contract
 ///
@@ -122,7 +123,7 @@ pub fn line_comment(text: &str) -> Option<Piece<'_>>
     Some(ascii(doc, doc_size + 3))
 }
 
-/// A piece of so many ASCII characters.
+/// Returns a piece of `size` ASCII characters.
 #[cfg_attr(not(debug_assertions), inline(always))]
 fn ascii(kind: PieceKind<'_>, size: usize) -> Piece<'_>
 {
@@ -133,7 +134,7 @@ fn ascii(kind: PieceKind<'_>, size: usize) -> Piece<'_>
     }
 }
 
-/// How long a literal is: all that its piece says besides its kind.
+/// How long a literal is. With the kind, this makes a piece.
 #[derive(Clone, Copy)]
 pub struct Extent {
     /// How many bytes it has.
@@ -142,7 +143,7 @@ pub struct Extent {
     pub chars: usize,
 }
 
-/// The extent of a literal of so many bytes of ASCII.
+/// Returns the extent of a literal of `size` bytes, all ASCII.
 #[cfg_attr(not(debug_assertions), inline(always))]
 fn ascii_extent(size: usize) -> Extent
 {
@@ -152,7 +153,7 @@ fn ascii_extent(size: usize) -> Extent
     }
 }
 
-/// The extent of the literal of so many bytes at the front of the text, its characters counted.
+/// Returns the extent of the literal in the first `size` bytes of the text. It counts the characters.
 #[cfg_attr(not(debug_assertions), inline(always))]
 fn counted(text: &str, size: usize) -> Extent
 {
@@ -162,7 +163,7 @@ fn counted(text: &str, size: usize) -> Extent
     }
 }
 
-/// The extent of the byte or byte string at the front.
+/// Returns the extent of the byte or byte string at the start.
 ///
 /// # Contract
 ///
@@ -180,7 +181,7 @@ pub fn byte_literal(text: &str) -> Option<Extent>
     }
 }
 
-/// The piece at the front of the text, where a few bytes tell it. `None` says nothing.
+/// Returns the piece at the start of the text if a few bytes decide it. `None` means that they do not.
 ///
 /// # Contract
 ///
@@ -233,8 +234,8 @@ pub fn quick(text: &str) -> Option<Piece<'_>>
     }
 }
 
-/// The extent of the number at the front, be it a float or an integer with a base or a suffix, where a few bytes tell
-/// it. `None` says nothing.
+/// Returns the extent of the number at the start if a few bytes decide it: a float, or an integer with a base or a
+/// suffix. `None` means that they do not.
 ///
 /// # Contract
 ///
@@ -249,7 +250,7 @@ pub fn long_number(text: &str) -> Option<Extent>
     Some(ascii_extent(long_number_size(text)?))
 }
 
-/// The lone quote at the front, before a name that bars none. `None` says nothing.
+/// Returns the lone quote at the start if a few bytes decide it. `None` means that they do not.
 ///
 /// # Contract
 ///
@@ -274,7 +275,7 @@ pub fn lone_quote(text: &str) -> Option<Piece<'_>>
     Some(ascii(quote, 1))
 }
 
-/// How many bytes the literal has that stands at the front, where a few bytes tell it. `None` says nothing.
+/// Returns how many bytes the literal at the start has, if a few bytes decide it. `None` means that they do not.
 ///
 /// # Contract
 ///

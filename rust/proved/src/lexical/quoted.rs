@@ -8,18 +8,19 @@ use crate::lexical::identifiers::name;
 use crate::lexical::skip::one;
 use crate::shim::memchr::memchr3;
 
-/// What a string is made of.
+/// What a string consists of.
 #[derive(Clone, Copy)]
 pub enum StringKind {
-    /// Characters.
+    /// Characters: a string.
     Plain,
-    /// Bytes: characters past ASCII don't stand for themselves.
+    /// Bytes: a byte string. Its text is ASCII; other bytes need escapes.
     Byte,
-    /// The bytes of a string of C: no zero.
+    /// Bytes other than zero: a C string.
     C,
 }
 
-/// The cursor after the suffix of a literal, by the rule `suffix`.
+/// Returns the cursor after the suffix of a literal, by the rule `suffix`. A literal without a suffix leaves the cursor
+/// where it is.
 ///
 /// # Contract
 ///
@@ -35,7 +36,7 @@ pub fn suffix(at: Cursor<'_>) -> Cursor<'_>
     }
 }
 
-/// Whether the character stands for itself.
+/// Whether a string of the kind may contain the character as it is, without an escape.
 fn stands_for_itself(c: char, kind: StringKind) -> bool
 {
     match c {
@@ -44,13 +45,14 @@ fn stands_for_itself(c: char, kind: StringKind) -> bool
     }
 }
 
-/// The cursor after a character that stands for itself.
+/// Returns the cursor after one character that needs no escape.
 fn plain(at: Cursor<'_>, kind: StringKind) -> Option<Cursor<'_>>
 {
     one(at, |c| stands_for_itself(c, kind))
 }
 
-/// The cursor after all the characters that stand for themselves, up to a quote, a backslash or a CR.
+/// Returns the cursor after all characters that need no escape, at the first quote, backslash, CR or forbidden
+/// character.
 fn skip_plain(at: Cursor<'_>, kind: StringKind) -> Cursor<'_>
 {
     let bytes = at.rest.as_bytes();
@@ -58,7 +60,7 @@ fn skip_plain(at: Cursor<'_>, kind: StringKind) -> Cursor<'_>
     at.after_bytes(count_allowed(&bytes[..size], kind))
 }
 
-/// The cursor after what may stand after a backslash in a string.
+/// Returns the cursor after what may follow a backslash in a string.
 fn escaped(at: Cursor<'_>, kind: StringKind) -> Option<Cursor<'_>>
 {
     if let Some(end) = at.past("\n") {
@@ -70,8 +72,7 @@ fn escaped(at: Cursor<'_>, kind: StringKind) -> Option<Cursor<'_>>
     }
 }
 
-/// The cursor after a unit of a string, by the rules `string-unit`, `byte-string-unit` and
-/// `c-string-unit`.
+/// Returns the cursor after a unit of a string, by the rules `string-unit`, `byte-string-unit` and `c-string-unit`.
 fn unit(at: Cursor<'_>, kind: StringKind) -> Option<Cursor<'_>>
 {
     if let Some(escape) = at.past("\\") {
@@ -83,8 +84,8 @@ fn unit(at: Cursor<'_>, kind: StringKind) -> Option<Cursor<'_>>
     }
 }
 
-/// The cursor after the string with escapes that stands at the cursor, which the text `front` opens,
-/// by the rules `string`, `byte-string` and `c-string`.
+/// Returns the cursor after the string at the cursor, which `front` opens, by the rules `string`, `byte-string` and
+/// `c-string`.
 ///
 /// # Contract
 ///

@@ -1,5 +1,5 @@
 // Made from crates/lexical/src/raw_strings.rt by rust/erase: change that file, not this one.
-//! Strings without escapes.
+//! Raw strings, which have no escapes.
 
 use crate::lexical::bytes::{Class, skip};
 use crate::lexical::contents::{count_allowed, may_stand};
@@ -8,11 +8,10 @@ use crate::lexical::quoted::{StringKind, suffix};
 use crate::lexical::text::{before, begins};
 use crate::shim::memchr::memchr2;
 
-/// How many hash signs a raw string may have at most.
+/// The largest number of hash signs of a raw string.
 const MOST_HASHES: usize = 255;
 
-/// The hash signs that stand at the cursor, 255 at most, and the cursor after them, by the rule
-/// `raw-hashes`.
+/// Returns the hash signs at the cursor, at most 255, and the cursor after them, by the rule `raw-hashes`.
 fn hashes(at: Cursor<'_>) -> Option<(&str, Cursor<'_>)>
 {
     let end = skip(at, Class::Hash);
@@ -23,7 +22,8 @@ fn hashes(at: Cursor<'_>) -> Option<(&str, Cursor<'_>)>
     Some((hashes, end))
 }
 
-/// The cursor after all the characters that may stand in a raw string, up to a quote or a CR.
+/// Returns the cursor after all characters that a raw string may contain, at the first quote, CR or forbidden
+/// character.
 fn skip_plain(at: Cursor<'_>, kind: StringKind) -> Cursor<'_>
 {
     let bytes = at.rest.as_bytes();
@@ -31,7 +31,7 @@ fn skip_plain(at: Cursor<'_>, kind: StringKind) -> Cursor<'_>
     at.after_bytes(count_allowed(&bytes[..size], kind))
 }
 
-/// The cursor after a unit of a raw string with these hash signs, by the rule `raw-unit`.
+/// Returns the cursor after a unit of a raw string with these hash signs, by the rule `raw-unit`.
 fn raw_unit<'a>(at: Cursor<'a>, kind: StringKind, hashes: &str) -> Option<Cursor<'a>>
 {
     let (c, after) = at.advance()?;
@@ -48,8 +48,8 @@ fn raw_unit<'a>(at: Cursor<'a>, kind: StringKind, hashes: &str) -> Option<Cursor
     }
 }
 
-/// The cursor after the raw string that stands at the cursor, which the text `front` opens, by the
-/// rules `raw-string`, `raw-byte-string` and `raw-c-string`.
+/// Returns the cursor after the raw string at the cursor, which `front` opens, by the rules `raw-string`,
+/// `raw-byte-string` and `raw-c-string`.
 ///
 /// # Contract
 ///

@@ -1,12 +1,12 @@
 // Made from crates/lexical/src/search.rt by rust/erase: change that file, not this one.
-//! Searches for the character that ends a stretch of text.
+//! Searches for an ASCII character.
 //!
-//! What is searched for is ASCII, so it is found among the bytes: no byte of another character is below 0x80.
+//! The search looks at bytes. No byte of another character is below 0x80, so it finds only the ASCII character.
 
 use crate::lexical::cursor::Cursor;
 use crate::shim::memchr::{memchr, memchr2};
 
-/// The cursor before the first `stop`, an ASCII character, or at the end of the text where none stands.
+/// Returns the cursor at the first `stop`, an ASCII character, or at the end of the text if there is none.
 ///
 /// # Contract
 ///
@@ -23,7 +23,8 @@ pub fn skip_to(at: Cursor<'_>, stop: u8) -> Cursor<'_>
     at.after_bytes(size)
 }
 
-/// The text from the first `stop` on, an ASCII character, or its end where none stands. It counts no characters.
+/// Returns the text from the first `stop` on, an ASCII character, or the empty end of the text if there is none. It
+/// counts no characters.
 ///
 /// # Contract
 ///
@@ -42,7 +43,7 @@ pub fn from_first(text: &str, stop: u8) -> &str
     &text[before..]
 }
 
-/// The cursor before the first of the two ASCII characters, or at the end of the text where none stands.
+/// Returns the cursor at the first `a` or `b`, two ASCII characters, or at the end of the text if there is none.
 ///
 /// # Contract
 ///

@@ -1,12 +1,12 @@
 // Made from crates/lexical/src/single_quotes.rt by rust/erase: change that file, not this one.
-//! Characters and bytes.
+//! Character literals and byte literals.
 
 use crate::lexical::cursor::Cursor;
 use crate::lexical::escapes::escape;
 use crate::lexical::quoted::{StringKind, suffix};
 use crate::lexical::skip::one;
 
-/// Whether the character stands for itself between single quotes.
+/// Whether a literal of the kind may have the character between single quotes as it is, without an escape.
 ///
 /// # Contract
 ///
@@ -21,13 +21,13 @@ pub fn stands_bare(c: char, kind: StringKind) -> bool
     }
 }
 
-/// The cursor after one character that may stand bare.
+/// Returns the cursor after one character that needs no escape.
 fn bare(at: Cursor<'_>, kind: StringKind) -> Option<Cursor<'_>>
 {
     one(at, |c| stands_bare(c, kind))
 }
 
-/// The cursor after one character that may stand bare, or a backslash and an escape.
+/// Returns the cursor after one character that needs no escape, or after a backslash and its escape.
 fn unit(at: Cursor<'_>, kind: StringKind) -> Option<Cursor<'_>>
 {
     match bare(at, kind) {
@@ -36,8 +36,8 @@ fn unit(at: Cursor<'_>, kind: StringKind) -> Option<Cursor<'_>>
     }
 }
 
-/// The cursor after the literal between single quotes that stands at the cursor, which the text
-/// `front` opens, by the rules `character` and `byte`.
+/// Returns the cursor after the literal between single quotes at the cursor, which `front` opens, by the rules
+/// `character` and `byte`.
 ///
 /// # Contract
 ///

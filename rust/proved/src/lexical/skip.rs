@@ -1,9 +1,9 @@
 // Made from crates/lexical/src/skip.rt by rust/erase: change that file, not this one.
-//! One character, by a test of it.
+//! A step over one character that passes a test.
 
 use crate::lexical::cursor::Cursor;
 
-/// The cursor after the character at the cursor, if it passes.
+/// Returns the cursor after one character if the character passes the test, and otherwise `None`.
 ///
 /// # Contract
 ///

@@ -1,7 +1,7 @@
 // Made from crates/lexical/src/text.rt by rust/erase: change that file, not this one.
-//! The few steps over the bytes of a text.
+//! Basic functions on texts.
 
-/// The first character of a text, and the text after it.
+/// Splits a text after its first character, or returns `None` if it is empty.
 ///
 /// # Contract
 ///
@@ -21,10 +21,10 @@ pub fn split_first(text: &str) -> Option<(char, &str)>
     Some((first, characters.as_str()))
 }
 
-/// So many bytes are looked at as one: mostly they are ASCII.
+/// How many bytes `char_count` tests at once. Mostly they are ASCII.
 const BLOCK: usize = 64;
 
-/// How many characters the text has: as many as its bytes that begin one.
+/// Counts the characters of a text, which are its bytes that begin one.
 ///
 /// # Contract
 ///
@@ -46,7 +46,7 @@ pub fn char_count(text: &str) -> usize
     count + first_bytes(rest)
 }
 
-/// How many of the bytes of a text begin a character.
+/// Counts the bytes of a text that begin a character.
 fn first_bytes(bytes: &[u8]) -> usize
 {
     if bytes.is_ascii() {
@@ -78,7 +78,7 @@ pub fn begins(text: &str, front: &str) -> bool
     text.starts_with(front)
 }
 
-/// Whether the text is the ASCII text `ascii`.
+/// Whether the text equals the ASCII text `ascii`.
 ///
 /// # Contract
 ///
@@ -95,7 +95,7 @@ pub fn is_text(text: &str, ascii: &str) -> bool
     text == ascii
 }
 
-/// What stands before `rest`, an end of the text.
+/// Returns the text before `rest`, which must be a suffix of `text`.
 ///
 /// # Contract
 ///
@@ -111,7 +111,7 @@ pub fn before<'a>(text: &'a str, rest: &str) -> &'a str
     &text[..text.len() - rest.len()]
 }
 
-/// What follows the ASCII text `front`, if the text begins with it.
+/// Returns the text after the ASCII text `front`, or `None` if the text does not begin with it.
 ///
 /// # Contract
 ///
@@ -134,7 +134,7 @@ pub fn strip<'a>(text: &'a str, front: &str) -> Option<&'a str>
     text.strip_prefix(front)
 }
 
-/// The text without the CR at its end, if one stands there.
+/// Returns the text without the CR at its end, if it ends with one.
 ///
 /// # Contract
 ///

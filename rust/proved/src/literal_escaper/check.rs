@@ -1,5 +1,5 @@
 // Made from crates/literal_escaper/src/check.rt by rust/erase: change that file, not this one.
-//! The errors of contents.
+//! Finds the errors in the content of a literal.
 
 use crate::literal_escaper::content_cursor::ContentCursor;
 use crate::literal_escaper::cooked::{Cooked, next_item};
@@ -10,7 +10,7 @@ use crate::literal_escaper::raw::next_raw_item;
 use crate::literal_escaper::single::unescape_single;
 use crate::shim::ops::Range;
 
-/// The error of a content that is one unit, if it has one.
+/// Returns the error of a content that must be one unit, if it has one.
 fn error_of_single<K: Unescape>(src: &str) -> Option<(Range<usize>, EscapeError)>
 {
     let (unit, end) = unescape_single::<K>(ContentCursor::new(src));
@@ -20,7 +20,7 @@ fn error_of_single<K: Unescape>(src: &str) -> Option<(Range<usize>, EscapeError)
     }
 }
 
-/// The next error of a content with escapes.
+/// Returns the next error of a content with escapes.
 fn next_error<K: Unescape>(content: &mut Cooked<'_>) -> Option<(Range<usize>, EscapeError)>
 {
     while let Some((range, unit)) = next_item::<K>(content) {
@@ -31,7 +31,7 @@ fn next_error<K: Unescape>(content: &mut Cooked<'_>) -> Option<(Range<usize>, Es
     None
 }
 
-/// The next error of a raw content.
+/// Returns the next error of a raw content.
 fn next_raw_error<K: CheckRaw>(
     cursor: &mut ContentCursor<'_>,
 ) -> Option<(Range<usize>, EscapeError)>
@@ -44,7 +44,7 @@ fn next_raw_error<K: CheckRaw>(
     None
 }
 
-/// The errors of a content that are left.
+/// An iterator over the errors and warnings of a content. [`check_for_errors`] makes one.
 pub struct CheckForErrors<'a> {
     mode: Mode,
     single: Option<(Range<usize>, EscapeError)>,
@@ -68,7 +68,7 @@ impl Iterator for CheckForErrors<'_> {
 }
 
 impl<'a> CheckForErrors<'a> {
-    /// The errors of the whole content.
+    /// Returns an iterator over the errors of the whole content.
     fn new(src: &'a str, mode: Mode) -> Self
     {
         let single = match mode {
@@ -84,12 +84,13 @@ impl<'a> CheckForErrors<'a> {
     }
 }
 
-/// The errors and warnings of a content of this kind, each with the range of bytes where it stands,
-/// by the rule `content-errors`. For a character or a byte there is one at most, from the front of the
-/// content to after the last character that was read.
+/// Returns the errors and warnings of a content of this kind in order, by the rule `content-errors`.
 ///
-/// `abc` for a character gives 0..2 `MoreThanOneChar`; `a"` for a string gives 1..2 `EscapeOnlyChar`,
-/// and for a raw string nothing.
+/// Each has its range of bytes in the content. For a character or a byte there is at most one. Its range begins at the
+/// start of the content and ends after the last character that was read.
+///
+/// As a character, `abc` has the error `MoreThanOneChar` at 0..2. As a string, `a"` has the error `EscapeOnlyChar` at
+/// 1..2; as a raw string it has none.
 ///
 /// # Contract
 ///

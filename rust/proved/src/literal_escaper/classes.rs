@@ -1,30 +1,30 @@
 // Made from crates/literal_escaper/src/classes.rt by rust/erase: change that file, not this one.
 //! Classes of characters in contents and escapes.
 //!
-//! An ASCII character is looked up by its byte in a table. One past ASCII is read whole.
+//! An ASCII character is looked up in a table by its byte. Any other character is decoded.
 
-/// A class of characters that the rules of contents name.
+/// A class of characters that the rules for contents name.
 #[derive(Clone, Copy)]
 pub enum Class {
-    /// What is skipped after a line end with a backslash before it.
+    /// A character that is skipped after a backslash and a line end.
     Blank,
     /// White space.
     White,
     /// A hex digit.
     HexDigit,
-    /// A hex digit or `_`, which may stand in the braces after the first digit.
+    /// A hex digit or `_`. Either may follow the first digit in braces.
     CodeCharacter,
-    /// What stands for one character after a backslash.
+    /// A character that is an escape by itself after a backslash.
     SimpleEscape,
-    /// What doesn't stand for itself in a string.
+    /// A character that a string cannot have by itself: a backslash, `"` or CR.
     StringSpecial,
-    /// What doesn't stand for itself in a character.
+    /// A character that a character literal cannot have by itself: a backslash, `'`, a tab, LF or CR.
     CharSpecial,
-    /// What doesn't stand for itself in a raw string.
+    /// A character that a raw string cannot have: CR.
     RawSpecial,
 }
 
-/// A byte may be of several classes, each of which is a bit.
+/// A byte may be in several classes. Each class is one bit.
 const BLANK: u8 = 1;
 
 const WHITE: u8 = 2;
@@ -60,7 +60,7 @@ const ZERO: u8 = HEX | CODE | SIMPLE;
 /// The other hex digits.
 const DIGIT: u8 = HEX | CODE;
 
-/// The classes of each byte of ASCII.
+/// The classes of each ASCII byte.
 #[rustfmt::skip]
 static CLASSES: [u8; 128] = [
     NONE, NONE, NONE, NONE, NONE, NONE, NONE, NONE,
@@ -81,7 +81,7 @@ static CLASSES: [u8; 128] = [
     NONE, NONE, NONE, NONE, NONE, NONE, NONE, NONE,
 ];
 
-/// The bit of the class.
+/// Returns the bit of the class.
 #[cfg_attr(not(debug_assertions), inline(always))]
 fn bit(class: Class) -> u8
 {
@@ -97,7 +97,7 @@ fn bit(class: Class) -> u8
     }
 }
 
-/// Whether the character is of the class.
+/// Whether the character is in the class.
 ///
 /// # Contract
 ///

@@ -1,18 +1,18 @@
 // Made from crates/literal_escaper/src/content_cursor.rt by rust/erase: change that file, not this one.
-//! A cursor over the contents of a literal.
+//! A cursor into the content of a literal.
 
-/// Where reading stands in the contents of a literal.
+/// A position in the content of a literal.
 #[derive(Clone, Copy)]
 pub struct ContentCursor<'a> {
-    /// What follows the cursor.
+    /// The content after the cursor.
     pub rest: &'a str,
     /// How many bytes the whole content has.
     pub end: usize,
-    // The rest is a text, and an end of the content.
+    // The rest is valid UTF-8 and no longer than the content.
 }
 
 impl<'a> ContentCursor<'a> {
-    /// The front of a content.
+    /// Returns the cursor at the start of a content.
     ///
     /// # Contract
     ///
@@ -29,7 +29,7 @@ impl<'a> ContentCursor<'a> {
         }
     }
 
-    /// How many bytes of the content stand before the cursor.
+    /// Returns how many bytes of the content come before the cursor.
     ///
     /// # Contract
     ///
@@ -42,7 +42,7 @@ impl<'a> ContentCursor<'a> {
         self.end - self.rest.len()
     }
 
-    /// The character after the cursor, and the cursor after that character.
+    /// Returns the next character, and the cursor after it.
     ///
     /// # Contract
     ///

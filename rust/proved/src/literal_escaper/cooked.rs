@@ -1,5 +1,5 @@
 // Made from crates/literal_escaper/src/cooked.rt by rust/erase: change that file, not this one.
-//! Contents with escapes.
+//! Reads contents with escapes, item by item.
 
 use crate::literal_escaper::content_cursor::ContentCursor;
 use crate::literal_escaper::errors::EscapeError;
@@ -7,16 +7,16 @@ use crate::literal_escaper::front::{Front, Item, next_front};
 use crate::literal_escaper::kind::Unescape;
 use crate::shim::ops::Range;
 
-/// A content with escapes, from a cursor on.
+/// The rest of a content with escapes.
 pub struct Cooked<'a> {
-    /// Where reading stands.
+    /// The cursor at which the rest begins.
     pub cursor: ContentCursor<'a>,
-    /// Where the warning about a white character stands that comes before what follows the cursor.
+    /// The range of a warning about a white character. If there is one, it is the next item.
     pub warning: Option<Range<usize>>,
 }
 
 impl<'a> Cooked<'a> {
-    /// The whole content.
+    /// Returns the content with the cursor at its start.
     ///
     /// # Contract
     ///
@@ -37,7 +37,7 @@ impl<'a> Cooked<'a> {
     }
 }
 
-/// The next item of the content.
+/// Returns the next item of the content, and moves past it.
 ///
 /// # Contract
 ///

@@ -1,12 +1,12 @@
 // Made from crates/literal_escaper/src/escape.rt by rust/erase: change that file, not this one.
-//! Escapes: what stands after a backslash.
+//! Reads escapes: what follows a backslash.
 
 use crate::literal_escaper::classes::{Class, holds};
 use crate::literal_escaper::content_cursor::ContentCursor;
 use crate::literal_escaper::errors::EscapeError;
 use crate::literal_escaper::kind::{Unescape, character_of};
 
-/// The character that a letter after a backslash stands for, by the rule `item-letter`.
+/// Returns the character that a letter after a backslash means, by the rule `item-letter`.
 fn simple_escape(c: char) -> Option<char>
 {
     if !holds(Class::SimpleEscape, c) {
@@ -21,7 +21,7 @@ fn simple_escape(c: char) -> Option<char>
     }
 }
 
-/// The unit of a letter after a backslash.
+/// Returns the unit of a letter after a backslash, or an error.
 fn letter_escape<K: Unescape>(c: char) -> Result<K::Unit, EscapeError>
 {
     match simple_escape(c) {
@@ -31,7 +31,7 @@ fn letter_escape<K: Unescape>(c: char) -> Result<K::Unit, EscapeError>
     }
 }
 
-/// The unit of two hex digits, the first of which was read.
+/// Returns the unit of two hex digits, of which the first was read, or an error.
 fn low_digit<K: Unescape>(
     high: u32,
     at: ContentCursor<'_>,
@@ -46,7 +46,7 @@ fn low_digit<K: Unescape>(
     (K::of_hex((16 * high + low) as u8), after)
 }
 
-/// The unit of two hex digits, by the rule `item-hex`.
+/// Returns the unit of two hex digits, by the rule `item-hex`, or an error.
 fn hex_escape<K: Unescape>(
     at: ContentCursor<'_>,
 ) -> (Result<K::Unit, EscapeError>, ContentCursor<'_>)
@@ -60,27 +60,27 @@ fn hex_escape<K: Unescape>(
     low_digit::<K>(high, after)
 }
 
-/// The largest number that is kept of digits in braces: one digit after the last character's.
+/// The largest number that is kept for the digits in braces: that of the last character with one more digit.
 const LARGEST_CODE: u32 = 0x10F_FFFF;
 
-/// What the digits in braces write.
+/// The number that the digits in braces write.
 #[derive(Clone, Copy)]
 struct Code<'a> {
-    /// How many there are, up to seven.
+    /// How many digits there are. Seven means seven or more.
     count: u32,
-    /// Their number, as long as it may be a character's.
+    /// Their number. Once it is above 10FFFF, further digits leave it unchanged.
     number: u32,
-    /// The cursor after them and the underscores among them.
+    /// The cursor after the digits and the underscores among them.
     after: ContentCursor<'a>,
 }
 
-/// One digit more, up to seven.
+/// Returns the count with one more digit, but at most seven.
 fn one_more(count: u32) -> u32
 {
     if count < 7 { count + 1 } else { count }
 }
 
-/// The number with this digit after it, up to one that is no character's.
+/// Returns the number with the digit after it. A number above 10FFFF stays as it is.
 fn extended(number: u32, digit: u32) -> u32
 {
     if number <= 0x10_FFFF {
@@ -90,7 +90,7 @@ fn extended(number: u32, digit: u32) -> u32
     }
 }
 
-/// The digits from the cursor on, and the underscores among them.
+/// Reads the digits at the cursor and the underscores among them.
 fn digits(at: ContentCursor<'_>) -> Code<'_>
 {
     let mut count: u32 = 0;
@@ -113,7 +113,7 @@ fn digits(at: ContentCursor<'_>) -> Code<'_>
     }
 }
 
-/// What the digits in braces give.
+/// Returns the unit of this many digits with this number, or an error.
 fn code_escape<K: Unescape>(count: u32, number: u32) -> Result<K::Unit, EscapeError>
 {
     if count > 6 {
@@ -122,7 +122,7 @@ fn code_escape<K: Unescape>(count: u32, number: u32) -> Result<K::Unit, EscapeEr
     K::of_code(character_of(number))
 }
 
-/// The digits from the cursor on and the end of the braces.
+/// Reads the digits at the cursor and the closing brace after them.
 fn rest_of_code<K: Unescape>(
     at: ContentCursor<'_>,
 ) -> (Result<K::Unit, EscapeError>, ContentCursor<'_>)
@@ -135,7 +135,7 @@ fn rest_of_code<K: Unescape>(
     }
 }
 
-/// The unit of a character's code, after the opening brace.
+/// Returns the unit of a character's code and its closing brace, or an error. The opening brace was read.
 fn braced_escape<K: Unescape>(
     at: ContentCursor<'_>,
 ) -> (Result<K::Unit, EscapeError>, ContentCursor<'_>)
@@ -155,7 +155,7 @@ fn braced_escape<K: Unescape>(
     rest_of_code::<K>(at)
 }
 
-/// The unit of a character's code in braces, by the rule `item-code`.
+/// Returns the unit of a character's code in braces, by the rule `item-code`, or an error.
 fn unicode_escape<K: Unescape>(
     at: ContentCursor<'_>,
 ) -> (Result<K::Unit, EscapeError>, ContentCursor<'_>)
@@ -167,7 +167,7 @@ fn unicode_escape<K: Unescape>(
     }
 }
 
-/// The unit of what stands after a backslash, by the rule `item-escape`.
+/// Returns the unit of the escape after a backslash, by the rule `item-escape`, or an error.
 ///
 /// # Contract
 ///

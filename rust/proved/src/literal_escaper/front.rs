@@ -1,5 +1,5 @@
 // Made from crates/literal_escaper/src/front.rt by rust/erase: change that file, not this one.
-//! The front of a content with escapes.
+//! Reads the items at the start of a content with escapes.
 
 use crate::literal_escaper::classes::{Class, holds};
 use crate::literal_escaper::content_cursor::ContentCursor;
@@ -8,26 +8,26 @@ use crate::literal_escaper::escape::escape;
 use crate::literal_escaper::kind::Unescape;
 use crate::shim::ops::Range;
 
-/// An item: the bytes where it stands, and a unit or what is wrong.
+/// An item: its range of bytes in the content, and a unit or an error.
 pub type Item<U> = (Range<usize>, Result<U, EscapeError>);
 
-/// What the front of a content gives.
+/// What one step at the start of a content reads.
 pub struct Front<'a, U: Copy> {
     /// The first item, if there is one.
     pub item: Option<Item<U>>,
-    /// Where the warning about a white character stands that comes after that item.
+    /// The range of the warning about a white character that comes after that item.
     pub warning: Option<Range<usize>>,
-    /// The cursor after the characters that were read for it.
+    /// The cursor after the characters that were read.
     pub after: ContentCursor<'a>,
 }
 
-/// Whether the character is skipped after a line end with a backslash before it.
+/// Whether the character is skipped after a backslash and a line end.
 fn is_blank(c: char) -> bool
 {
     holds(Class::Blank, c)
 }
 
-/// The cursor after the blanks, and whether a line end is among them.
+/// Returns whether a line end is among the blanks at the cursor, and the cursor after them.
 fn skip_blanks(at: ContentCursor<'_>) -> (bool, ContentCursor<'_>)
 {
     let mut lines = false;
@@ -42,7 +42,7 @@ fn skip_blanks(at: ContentCursor<'_>) -> (bool, ContentCursor<'_>)
     (lines, after)
 }
 
-/// From the cursor to after the white character that stands at the other.
+/// Returns the range from `start` to after the character at `after`, if that character is white.
 fn unskipped_white(start: ContentCursor<'_>, after: ContentCursor<'_>) -> Option<Range<usize>>
 {
     let (c, past) = after.advance()?;
@@ -53,8 +53,8 @@ fn unskipped_white(start: ContentCursor<'_>, after: ContentCursor<'_>) -> Option
     }
 }
 
-/// The warnings about a backslash and LF at the cursor, after which the line begins: no unit stands
-/// for them and the blanks that follow.
+/// Reads a backslash and LF at the cursor `at`, with the blanks after them. They have no unit, but may have warnings.
+/// `line` is the cursor after the LF.
 fn skip_line<'a, U: Copy>(at: ContentCursor<'a>, line: ContentCursor<'a>) -> Front<'a, U>
 {
     let (lines, after) = skip_blanks(line);
@@ -75,7 +75,7 @@ fn skip_line<'a, U: Copy>(at: ContentCursor<'a>, line: ContentCursor<'a>) -> Fro
     }
 }
 
-/// The unit of a character and what follows it.
+/// Returns the unit of a character or of the escape that it begins, or an error, and the cursor after it.
 fn read_unit<K: Unescape>(
     c: char,
     after: ContentCursor<'_>,
@@ -91,7 +91,7 @@ fn read_unit<K: Unescape>(
     }
 }
 
-/// The cursor after an LF.
+/// Returns the cursor after an LF.
 fn line_feed(at: ContentCursor<'_>) -> Option<ContentCursor<'_>>
 {
     match at.advance() {
@@ -100,7 +100,8 @@ fn line_feed(at: ContentCursor<'_>) -> Option<ContentCursor<'_>>
     }
 }
 
-/// What stands at the front of the content from the cursor on, unless nothing is left of it.
+/// Reads one step at the cursor: a skipped line end, an escape, or one character. Returns `None` at the end of the
+/// content.
 ///
 /// # Contract
 ///
@@ -130,7 +131,7 @@ pub fn read_front<K: Unescape>(at: ContentCursor<'_>) -> Option<Front<'_, K::Uni
     })
 }
 
-/// The first front from the cursor on that gives an item, or else the end of the content.
+/// Reads from the cursor on until an item is found, or until the end of the content.
 ///
 /// # Contract
 ///

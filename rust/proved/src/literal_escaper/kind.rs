@@ -1,5 +1,5 @@
 // Made from crates/literal_escaper/src/kind.rt by rust/erase: change that file, not this one.
-//! What each kind of string makes of the characters and numbers that stand in it.
+//! How each kind of string reads its characters and escapes.
 
 use crate::literal_escaper::errors::EscapeError;
 use crate::literal_escaper::mixed_unit::MixedUnit;
@@ -7,12 +7,12 @@ use crate::literal_escaper::num::NonZeroChar;
 
 /// A kind of raw content.
 pub trait CheckRaw {
-    /// What such a content is made of.
+    /// The type of its units.
     type Unit: Copy;
 
     // The unit of a character.
 
-    /// The unit of a character.
+    /// Returns the unit of a character, or an error.
     ///
     /// # Contract
     ///
@@ -22,33 +22,33 @@ pub trait CheckRaw {
 
 /// A kind of content with escapes.
 pub trait Unescape {
-    /// What such a content is made of.
+    /// The type of its units.
     type Unit: Copy;
 
-    // What the kind makes of what stands in a content.
+    // How the kind reads characters and escapes.
 
     // The unit of NUL.
 
-    /// The unit of NUL, which `\0` gives.
+    /// The unit of NUL, which `\0` gives, or an error.
     const NUL: Result<Self::Unit, EscapeError>;
 
-    // It is what the kind makes of the character.
+    // NUL is read as any other character.
 
-    /// The unit of a character.
+    /// Returns the unit of a character, or an error.
     ///
     /// # Contract
     ///
     /// - `ensures`: <code>result ≡ kind.of_char c</code>
     fn of_char(c: char) -> Result<Self::Unit, EscapeError>;
 
-    /// The unit of the number of two hex digits.
+    /// Returns the unit of a number of two hex digits, or an error.
     ///
     /// # Contract
     ///
     /// - `ensures`: <code>result ≡ kind.of_hex byte</code>
     fn of_hex(byte: u8) -> Result<Self::Unit, EscapeError>;
 
-    /// The unit of the character whose code stands in braces, or of what is wrong with the code.
+    /// Returns the unit of the character whose code is in braces, or an error. `code` may be an error already.
     ///
     /// # Contract
     ///
@@ -56,16 +56,16 @@ pub trait Unescape {
     fn of_code(code: Result<char, EscapeError>) -> Result<Self::Unit, EscapeError>;
 }
 
-/// Strings and characters.
+/// Strings and character literals.
 pub struct Str;
 
-/// Byte strings and bytes.
+/// Byte strings and byte literals.
 pub struct Bytes;
 
 /// C strings.
 pub struct CStr;
 
-/// The byte of an ASCII character.
+/// Returns the byte of an ASCII character, or an error.
 fn byte_of(c: char) -> Result<u8, EscapeError>
 {
     if !c.is_ascii() {
@@ -158,7 +158,7 @@ impl Unescape for CStr {
     }
 }
 
-/// The character of this code.
+/// Returns the character that has this code, or an error.
 ///
 /// # Contract
 ///

@@ -1,15 +1,15 @@
 // Made from crates/literal_escaper/src/laws.rt by rust/erase: change that file, not this one.
-//! What is proved of errors, modes and units. The functions compute nothing: their contracts are the laws.
+//! Laws about errors, modes and units. The functions compute nothing: their contracts are the laws.
 
 use crate::literal_escaper::errors::EscapeError;
 use crate::literal_escaper::mixed_unit::MixedUnit;
 use crate::literal_escaper::mode::Mode;
 use crate::literal_escaper::num::{NonZeroChar, NonZeroU8};
 
-/// Two errors, two modes, two units of C strings, and two characters or bytes that are not 0, are equal
-/// exactly if they are the same: of one kind, with the same character or byte.
+/// Two errors, two modes or two units are equal exactly if they are of one kind and have the same character or byte.
+/// The units are those of C strings, and characters and bytes that are not 0.
 ///
-/// The unit of the character `a` equals no other unit, that of the byte 0xE9 not the one of `é`.
+/// The unit of the character `a` equals no other unit. The unit of the byte 0xE9 does not equal that of `é`.
 ///
 /// # Contract
 ///

@@ -7,20 +7,20 @@ use crate::literal_escaper::num::{NonZeroChar, NonZeroU8};
 /// A unit of a C string: a character, or a byte past ASCII.
 #[derive(Clone, Copy, Debug, PartialEq, Eq)]
 pub enum MixedUnit {
-    /// A character, which stands for its bytes in UTF-8: `é`, `\u{E9}`, and `\x01` to `\x7F`.
+    /// A character, which is written as its bytes in UTF-8: `é`, `\u{E9}`, and `\x01` to `\x7F`.
     Char(NonZeroChar),
     /// A byte past ASCII: `\x80`.
     HighByte(NonZeroU8),
 }
 
-/// The character itself.
+/// Makes a unit of the character.
 impl From<NonZeroChar> for MixedUnit {
     fn from(c: NonZeroChar) -> MixedUnit {
         MixedUnit::Char(c)
     }
 }
 
-/// The character of the byte up to 0x7F, and else the byte.
+/// Makes the character of a byte up to 0x7F, and of other bytes the byte itself.
 impl From<NonZeroU8> for MixedUnit {
     fn from(byte: NonZeroU8) -> MixedUnit {
         let code = byte.get();
@@ -33,7 +33,7 @@ impl From<NonZeroU8> for MixedUnit {
     }
 }
 
-/// The character, unless it is NUL, which is `NulInCStr`.
+/// Makes a unit of the character. NUL is the error `NulInCStr`.
 impl TryFrom<char> for MixedUnit {
     type Error = EscapeError;
 
@@ -45,7 +45,7 @@ impl TryFrom<char> for MixedUnit {
     }
 }
 
-/// The character of the byte up to 0x7F, and else the byte, but for zero, which is `NulInCStr`.
+/// Makes the character of a byte up to 0x7F, and of other bytes the byte itself. Zero is the error `NulInCStr`.
 impl TryFrom<u8> for MixedUnit {
     type Error = EscapeError;
 

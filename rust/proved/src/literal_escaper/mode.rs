@@ -23,8 +23,8 @@ pub enum Mode {
 }
 
 impl Mode {
-    /// Whether such a literal stands between double quotes: `false` for a character and a byte, and
-    /// `true` for the rest.
+    /// Whether a literal of this kind is between double quotes: `false` for a character and a byte, and `true` for the
+    /// rest.
     ///
     /// # Contract
     ///
@@ -36,8 +36,7 @@ impl Mode {
         !matches!(self, Mode::Char | Mode::Byte)
     }
 
-    /// What stands before the literal's first quote or its `r`: `b`, `c` or nothing. `c` for a C
-    /// string, also a raw one.
+    /// Returns the literal's prefix without its `r`: `b`, `c` or the empty text. For a raw C string it is `c`.
     ///
     /// # Contract
     ///

@@ -1,12 +1,12 @@
 // Made from crates/literal_escaper/src/num.rt by rust/erase: change that file, not this one.
-//! Values other than zero.
+//! Characters and bytes other than zero.
 
 /// A character other than NUL.
 #[derive(Clone, Copy, Debug, PartialEq, Eq)]
 pub struct NonZeroChar(char);
 
 impl NonZeroChar {
-    /// The character, unless it is NUL: `a` for `a`, and `None` for U+0000.
+    /// Returns the character, or `None` if it is NUL: `a` for `a`, and `None` for U+0000.
     ///
     /// # Contract
     ///
@@ -21,7 +21,7 @@ impl NonZeroChar {
         }
     }
 
-    /// The character itself.
+    /// Returns the character as a `char`, which is never NUL.
     ///
     /// # Contract
     ///
@@ -39,7 +39,7 @@ impl NonZeroChar {
 pub struct NonZeroU8(u8);
 
 impl NonZeroU8 {
-    /// The byte, unless it is zero: 1 for 1, and `None` for 0.
+    /// Returns the byte, or `None` if it is zero: 1 for 1, and `None` for 0.
     ///
     /// # Contract
     ///
@@ -51,7 +51,7 @@ impl NonZeroU8 {
         if n == 0 { None } else { Some(NonZeroU8(n)) }
     }
 
-    /// The byte itself.
+    /// Returns the byte as a `u8`, which is never zero.
     ///
     /// # Contract
     ///

@@ -1,5 +1,5 @@
 // Made from crates/literal_escaper/src/raw.rt by rust/erase: change that file, not this one.
-//! Raw contents.
+//! Reads raw contents, item by item.
 
 use crate::literal_escaper::classes::{Class, holds};
 use crate::literal_escaper::content_cursor::ContentCursor;
@@ -7,7 +7,7 @@ use crate::literal_escaper::errors::EscapeError;
 use crate::literal_escaper::front::Item;
 use crate::literal_escaper::kind::CheckRaw;
 
-/// The unit of a character of a raw content.
+/// Returns the unit of a character of a raw content, or an error.
 fn unit<K: CheckRaw>(c: char) -> Result<K::Unit, EscapeError>
 {
     if holds(Class::RawSpecial, c) {
@@ -17,7 +17,7 @@ fn unit<K: CheckRaw>(c: char) -> Result<K::Unit, EscapeError>
     }
 }
 
-/// The next item of a raw content, and the cursor after it.
+/// Returns the next item of a raw content, and moves the cursor past it.
 ///
 /// # Contract
 ///

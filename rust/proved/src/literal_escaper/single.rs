@@ -1,5 +1,5 @@
 // Made from crates/literal_escaper/src/single.rt by rust/erase: change that file, not this one.
-//! Contents that are one unit.
+//! Reads contents that must be one unit.
 
 use crate::literal_escaper::classes::{Class, holds};
 use crate::literal_escaper::content_cursor::ContentCursor;
@@ -7,7 +7,7 @@ use crate::literal_escaper::errors::EscapeError;
 use crate::literal_escaper::escape::escape;
 use crate::literal_escaper::kind::Unescape;
 
-/// The unit of a character and what follows it.
+/// Returns the unit of a character or of the escape that it begins, or an error, and the cursor after it.
 fn first_unit<K: Unescape>(
     c: char,
     after: ContentCursor<'_>,
@@ -23,7 +23,7 @@ fn first_unit<K: Unescape>(
     }
 }
 
-/// The one unit of the content, by the rule `single-item`, and the cursor after what was read.
+/// Returns the one unit of the content, by the rule `single-item`, or an error, and the cursor after what was read.
 ///
 /// # Contract
 ///

@@ -1,5 +1,5 @@
 // Made from crates/pm_span/src/byte_index.rt by rust/erase: change that file, not this one.
-//! A text that isn't ASCII, whose bytes are found by characters.
+//! An index that finds byte offsets by character offsets, in a text that isn't ASCII.
 
 use crate::shim::prelude::Grow;
 
@@ -7,26 +7,27 @@ use crate::pm_span::text::{char_count, skip_chars, skip_chars_back};
 use crate::shim::alloc::AllocError;
 use crate::shim::ops::Range;
 
-/// So many characters are a block. At most half as many are walked to find an offset.
+/// The number of characters in a block. To find an offset, at most half as many are walked over.
 const BLOCK: u32 = 64;
 
-/// A text that isn't ASCII, and what tells where its characters stand in bytes.
+/// A text that isn't ASCII, with the byte offsets of some of its characters.
 pub(crate) struct ByteIndex {
     text: String,
-    /// How many characters it has.
+    /// The number of characters.
     count: u32,
-    /// Where each full block of its characters ends, in bytes.
+    /// The byte offset at which each full block ends.
     ends: Vec<usize>,
 }
 
-/// One offset of a text, in characters and in bytes.
+/// One offset of a text, both in characters and in bytes.
 #[derive(Clone, Copy)]
 struct OffsetPair {
     chars: u32,
     bytes: usize,
 }
 
-/// The text after its first block of characters. Those in as many bytes are counted, and the others passed one by one.
+/// Returns the text after its first 64 characters. The characters in its first 64 bytes are counted quickly, and
+/// only the rest are passed one by one.
 fn skip_block(text: &str) -> &str
 {
     let size = BLOCK as usize;
@@ -38,7 +39,7 @@ fn skip_block(text: &str) -> &str
     }
 }
 
-/// Where each full block of characters ends, in bytes, of a text that has so many.
+/// Returns the byte offset at which each full block of the text ends. The text has `count` characters.
 fn block_ends(text: &str, count: u32) -> Result<Vec<usize>, AllocError>
 {
     let blocks = count / BLOCK;
@@ -51,7 +52,7 @@ fn block_ends(text: &str, count: u32) -> Result<Vec<usize>, AllocError>
     Ok(ends)
 }
 
-/// The one of two known offsets that is nearer to this one in characters.
+/// Returns the one of two known offsets that is nearer to `char_offset`, in characters.
 fn nearer(char_offset: u32, first: OffsetPair, second: OffsetPair) -> OffsetPair
 {
     if char_offset.abs_diff(first.chars) <= char_offset.abs_diff(second.chars) {
@@ -62,20 +63,20 @@ fn nearer(char_offset: u32, first: OffsetPair, second: OffsetPair) -> OffsetPair
 }
 
 impl ByteIndex {
-    /// The index of this text of so many characters; refused if its memory is.
+    /// Builds the index of a text with `count` characters. Out of memory is the only error.
     pub(crate) fn new(text: String, count: u32) -> Result<ByteIndex, AllocError>
     {
         let ends = block_ends(text.as_str(), count)?;
         Ok(ByteIndex { text, count, ends })
     }
 
-    /// The text.
+    /// Returns the text.
     pub(crate) fn as_str(&self) -> &str
     {
         self.text.as_str()
     }
 
-    /// Where the block of this offset begins.
+    /// Returns the offset at which the block of `char_offset` begins.
     fn block_start(&self, char_offset: u32) -> OffsetPair
     {
         let block = char_offset / BLOCK;
@@ -89,7 +90,8 @@ impl ByteIndex {
         }
     }
 
-    /// Where the block of this offset ends, or the text, if the block isn't full.
+    /// Returns the offset at which the block of `char_offset` ends. If the block isn't full, this is the end of the
+    /// text.
     fn block_end(&self, char_offset: u32) -> OffsetPair
     {
         let block = char_offset / BLOCK;
@@ -105,7 +107,7 @@ impl ByteIndex {
         }
     }
 
-    /// The bytes before an offset of the text, counted on or back from a known one.
+    /// Returns the number of bytes before `char_offset`. It counts on from the known offset, or back from it.
     fn count_from(&self, known: OffsetPair, char_offset: u32) -> usize
     {
         if char_offset == known.chars {
@@ -121,8 +123,8 @@ impl ByteIndex {
         }
     }
 
-    /// An offset of the text in characters as one in bytes: an addition where its block is ASCII, else a walk from the
-    /// nearest of both ends of the block and of another known offset.
+    /// Converts an offset in characters to one in bytes. In a block of ASCII this is an addition. Otherwise it
+    /// walks from the nearest of three offsets: both ends of the block, and `known`.
     fn byte_offset(&self, char_offset: u32, known: OffsetPair) -> usize
     {
         let start = self.block_start(char_offset);
@@ -134,7 +136,7 @@ impl ByteIndex {
         self.count_from(nearest, char_offset)
     }
 
-    /// The bytes between two offsets of the text.
+    /// Returns the byte offsets of two character offsets of the text.
     #[inline(never)]
     pub(crate) fn byte_range(&self, start: u32, end: u32) -> Range<usize>
     {

@@ -1,5 +1,5 @@
 // Made from crates/pm_span/src/file_info.rt by rust/erase: change that file, not this one.
-//! A file of a source map.
+//! One file of a source map.
 
 use crate::shim::prelude::{Box, GrowText};
 
@@ -21,14 +21,14 @@ pub(crate) struct FileInfo {
     lines: LineIndex,
 }
 
-/// The text of a file. Where it is ASCII, an offset in characters is one in bytes.
+/// The text of a file. In an ASCII text, each offset is the same in characters and in bytes.
 enum FileText {
     Ascii(String),
     Wide(Box<ByteIndex>),
 }
 
 impl FileText {
-    /// A copy of this text of so many characters; refused if its memory is.
+    /// Copies a text that has `count` characters. Out of memory is the only error.
     fn new(text: &str, count: u32) -> Result<FileText, AllocError>
     {
         let copy = String::from_str_fallibly(text)?;
@@ -40,7 +40,7 @@ impl FileText {
     }
 }
 
-/// Shows the fields that tell one file from another, and not those that only make look-ups short.
+/// Shows the fields that distinguish files, but not those that only make look-ups fast.
 impl fmt::Debug for FileInfo {
     fn fmt(&self, f: &mut core::fmt::Formatter<'_>) -> fmt::Result {
         let mut debug = f.debug_struct("FileInfo");
@@ -53,7 +53,7 @@ impl fmt::Debug for FileInfo {
 }
 
 impl FileInfo {
-    /// The file of this text that begins at `lo`; refused if a growth is.
+    /// Makes the file of this text, with its first character at the position `lo`. Out of memory is the only error.
     pub(crate) fn new(text: &str, lo: u32) -> Result<FileInfo, AllocError>
     {
         let Lines { starts, count } = find_lines(text)?;
@@ -65,19 +65,19 @@ impl FileInfo {
         })
     }
 
-    /// The position before the first character.
+    /// Returns the position before the first character.
     pub(crate) fn lo(&self) -> u32
     {
         self.lo
     }
 
-    /// The position after the last character.
+    /// Returns the position after the last character.
     pub(crate) fn hi(&self) -> u32
     {
         self.hi
     }
 
-    /// The text.
+    /// Returns the text.
     fn text(&self) -> &str
     {
         match &self.text {
@@ -86,13 +86,13 @@ impl FileInfo {
         }
     }
 
-    /// The line and column of an offset of the text, in characters.
+    /// Returns the line and column at an offset of the text, in characters.
     pub(crate) fn line_column(&self, char_offset: u32) -> LineColumn
     {
         self.lines.line_column(char_offset)
     }
 
-    /// The bytes between two offsets of the text, in characters.
+    /// Returns the byte offsets of two offsets of the text, in characters.
     #[cfg_attr(not(debug_assertions), inline(always))]
     pub(crate) fn byte_range(&self, start: u32, end: u32) -> Range<usize>
     {
@@ -102,7 +102,7 @@ impl FileInfo {
         }
     }
 
-    /// The text between two of its offsets, in characters.
+    /// Returns the text between two of its offsets, in characters.
     pub(crate) fn text_between(&self, start: u32, end: u32) -> &str
     {
         let bytes = self.byte_range(start, end);

@@ -1,5 +1,5 @@
 // Made from crates/pm_span/src/lookups.rt by rust/erase: change that file, not this one.
-//! What a span is asked of the map that holds it.
+//! Look-ups of a span in the map that holds it.
 
 use crate::shim::prelude::{GrowText, format};
 
@@ -10,10 +10,10 @@ use crate::shim::alloc::AllocError;
 use crate::shim::ops::Range;
 
 impl Span {
-    /// The line and column where the span begins (`line`, `column`), in a map that holds it.
+    /// Returns the line and column where the span begins (`line`, `column`). The map must hold the span.
     ///
-    /// Lines count from 1 and end at LF alone; columns count characters, from 0. In the text
-    /// `aaa` LF `bbb` at 1..8, the span 6..8 starts at line 2, column 1.
+    /// Lines are counted from 1, and only a line feed (LF) ends a line. Columns are counted in characters, from 0.
+    /// In the text `aaa` LF `bbb` at 1..8, the span 6..8 starts at line 2, column 1.
     ///
     /// # Contract
     ///
@@ -28,8 +28,8 @@ impl Span {
         map.line_column(lo)
     }
 
-    /// The line and column where the span ends, after its last character (`line`, `column`), in a map
-    /// that holds it.
+    /// Returns the line and column where the span ends, after its last character (`line`, `column`). The map must
+    /// hold the span.
     ///
     /// In the text `aaa` LF `bbb` at 1..8, the span 2..4 ends at line 1, column 3.
     ///
@@ -46,9 +46,10 @@ impl Span {
         map.line_column(hi)
     }
 
-    /// The name of the file that has the span (`file-name`), in a map that holds it.
+    /// Returns the name of the file that has the span (`file-name`). The map must hold the span.
     ///
-    /// It is `<unspecified>` for 0..0, and `<parsed string 2>` for a span of the second text.
+    /// The name is `<unspecified>` for the span 0..0, and `<parsed string 2>` for a span in the second text. Out of
+    /// memory is the only error.
     ///
     /// # Contract
     ///
@@ -71,10 +72,11 @@ impl Span {
         }
     }
 
-    /// The bytes of its file's text that the span takes (`byte-offset`), in a map that holds it.
+    /// Returns the range of bytes that the span takes in the text of its file (`byte-offset`). The map must hold
+    /// the span.
     ///
-    /// They count from the start of the file, and are 0..0 for 0..0. In the text `é a` at 1..4, the span
-    /// 3..4 takes the bytes 3..4. The map stays as it is, and no memory is taken.
+    /// Bytes are counted from the start of the file; the span 0..0 has the bytes 0..0. In the text `é a` at 1..4,
+    /// the span 3..4 takes the bytes 3..4. The map does not change, and no memory is allocated.
     ///
     /// # Contract
     ///
@@ -89,10 +91,10 @@ impl Span {
         map.byte_range(self)
     }
 
-    /// The text of the span (`source-text`), in a map that holds it; `None` for 0..0 alone.
+    /// Returns a copy of the span's text (`source-text`), or `None` for the span 0..0. The map must hold the span.
     ///
-    /// It is copied; [`source_str`](Span::source_str) lends it. The map stays as it is, also where
-    /// there is no memory for the copy.
+    /// [`source_str`](Span::source_str) borrows the text instead. Out of memory is the only error. The map never
+    /// changes.
     ///
     /// # Contract
     ///
@@ -125,10 +127,10 @@ impl Span {
         }
     }
 
-    /// The text of the span (`source-text`), in a map that holds it; `None` for 0..0 alone.
+    /// Borrows the span's text from the map (`source-text`), or returns `None` for the span 0..0. The map must hold
+    /// the span.
     ///
-    /// It is lent by the map, and nothing is copied. In the text `aaa` LF `bbb` at 1..8, the span 6..8
-    /// has the text `bb`.
+    /// Nothing is copied. In the text `aaa` LF `bbb` at 1..8, the span 6..8 has the text `bb`.
     ///
     /// # Contract
     ///
@@ -152,10 +154,10 @@ impl Span {
         Some(file.text_between(lo - file.lo(), hi - file.lo()))
     }
 
-    /// The span from where the first of the two begins to where the last of them ends (`join`), in a map
-    /// that holds this span; `None` exactly where the other doesn't lie in the file of this span.
+    /// Returns the smallest span that covers both spans (`join`), or `None` if they are not in one file. The map
+    /// must hold this span.
     ///
-    /// In a map of `aaa` LF `bbb` at 1..8 and `ccc` at 9..12, 5..8 and 1..4 join to 1..8, and neither joins
+    /// In a map with `aaa` LF `bbb` at 1..8 and `ccc` at 9..12, the spans 5..8 and 1..4 join to 1..8. Neither joins
     /// with 9..12.
     ///
     /// # Contract

@@ -1,5 +1,5 @@
 // Made from crates/pm_span/src/parts.rt by rust/erase: change that file, not this one.
-//! What the crates above need of spans and of the map, and users don't.
+//! Calls for the crates that use `pm_span`. Users of the library do not need them.
 
 use crate::pm_span::source_map::SourceMap;
 use crate::pm_span::spans::Span;
@@ -7,7 +7,7 @@ pub use crate::pm_span::text::char_count;
 use crate::pm_span::text::has_fewer_chars;
 use crate::shim::alloc::AllocError;
 
-/// The span of the positions from `lo` up to `hi`, in characters.
+/// Makes the span of the positions from `lo` to `hi`, in characters.
 ///
 /// # Contract
 ///
@@ -18,7 +18,7 @@ pub fn span_of(lo: u32, hi: u32) -> Span
     Span::new(lo, hi)
 }
 
-/// The positions where the span begins and ends, in characters.
+/// Returns the positions where the span begins and ends, in characters.
 ///
 /// # Contract
 ///
@@ -29,11 +29,11 @@ pub fn bounds(span: Span) -> (u32, u32)
     span.bounds()
 }
 
-/// The position, in characters, where the file of this text would begin (`next-position`), if it
-/// fits (`fits`).
+/// Returns the position at which the file of this text would begin (`next-position`), or `None` if it doesn't fit
+/// (`fits`).
 ///
-/// `None` where it would end past the map's limit: in a new map with the limit 5, `abcd` would begin
-/// at 1, and `abcde` doesn't fit.
+/// Positions count characters. The text doesn't fit if its file would end past the map's limit: in a new map with
+/// the limit 5, `abcd` would begin at 1, and `abcde` doesn't fit.
 ///
 /// # Contract
 ///
@@ -52,8 +52,10 @@ pub fn fits(map: &SourceMap, text: &str) -> Option<u32>
     map.fits(text)
 }
 
-/// The position, in characters, where the file of this text would begin in a new map, if it fits there
-/// (`fits`): 1, without a map being made.
+/// Returns the position 1, at which the file of this text would begin in a new map, or `None` if it doesn't fit
+/// (`fits`).
+///
+/// No map is made.
 ///
 /// # Contract
 ///
@@ -77,9 +79,9 @@ pub fn fits_new(text: &str) -> Option<u32>
     }
 }
 
-/// Adds the text, which fits, as the map's next file.
+/// Adds the text as the map's next file. The text must fit (`fits`).
 ///
-/// Refused only where memory runs out, and the map is then as before.
+/// Out of memory is the only error, and then the map does not change.
 ///
 /// # Contract
 ///

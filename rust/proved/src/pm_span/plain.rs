@@ -1,10 +1,10 @@
 // Made from crates/pm_span/src/plain.rt by rust/erase: change that file, not this one.
-//! Plain bytes, of ASCII and no line feeds, counted by words of 8 bytes.
+//! Counts plain bytes, which are ASCII but no line feed, in words of 8 bytes.
 
-/// How many of the 8 bytes are plain, from the first of them on: `None` says all.
+/// Returns how many plain bytes the 8 bytes begin with, or `None` if all 8 are plain.
 ///
-/// They are looked at in one word. Without its highest bit, and with the bits of a line feed turned over, a byte is 0
-/// where it was a line feed: any other sets the highest bit of a sum.
+/// All 8 are tested in one word. `^` turns a line feed into 0, and `&` clears each highest bit. Then the addition
+/// sets the highest bit of each byte that isn't 0.
 #[cfg_attr(not(debug_assertions), inline(always))]
 fn count_in_word(bytes: &[u8; 8]) -> Option<usize>
 {
@@ -17,7 +17,7 @@ fn count_in_word(bytes: &[u8; 8]) -> Option<usize>
     Some((stops.trailing_zeros() / 8) as usize)
 }
 
-/// How many plain bytes stand at the front of a few, one after another.
+/// Returns how many plain bytes the text begins with, one byte at a time.
 #[cfg_attr(not(debug_assertions), inline(always))]
 fn count_by_bytes(bytes: &[u8]) -> usize
 {
@@ -28,7 +28,7 @@ fn count_by_bytes(bytes: &[u8]) -> usize
     count
 }
 
-/// How many plain bytes stand at the front.
+/// Returns how many plain bytes the text begins with.
 #[cfg_attr(not(debug_assertions), inline(always))]
 pub(crate) fn count_plain(bytes: &[u8]) -> usize
 {

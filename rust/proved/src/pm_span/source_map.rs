@@ -11,17 +11,17 @@ use crate::shim::alloc::AllocError;
 use crate::shim::fmt;
 use crate::shim::ops::Range;
 
-/// The texts that were read, each a file at positions of its own.
+/// The texts that were read, each as a file with positions of its own.
 ///
-/// Positions count characters. File 0 is the empty text at 0..0 (`file-0`), and each later file
-/// begins one past the end of the file before it (`next-position`), so that a position lies in
-/// one file only. After the texts `ab` and `c` the files stand at 0..0, 1..3 and 4..5.
+/// Positions count characters. File 0 is the empty text at 0..0 (`file-0`). Each later file begins one past the end
+/// of the file before it (`next-position`), so no position is in two files. After the texts `ab` and `c`, the files
+/// are at 0..0, 1..3 and 4..5.
 pub struct SourceMap {
     /// The files from 1 on.
     files: Vec<FileInfo>,
-    /// The positions that each of them takes.
+    /// The positions that each file takes.
     places: Vec<Place>,
-    /// The last position that may be given.
+    /// The largest position that may be used.
     limit: u32,
 }
 
@@ -34,20 +34,20 @@ struct Place {
     hi: u32,
 }
 
-/// How many of the files at these places, which ascend, begin at or before the position.
+/// Returns how many of the files at these ascending positions begin at or before `position`.
 fn count_begun(places: &[Place], position: u32) -> usize
 {
     let Some((last, earlier)) = places.split_last() else {
         return 0;
     };
-    // Files are asked most when they were just read.
+    // Look-ups are most frequent in the file that was just read.
     if last.lo <= position {
         return places.len();
     }
     earlier.partition_point(|place| place.lo <= position)
 }
 
-/// Shows the fields that tell one map from another, and not those that only make look-ups short.
+/// Shows the fields that distinguish maps, but not those that only make look-ups fast.
 impl fmt::Debug for SourceMap {
     fn fmt(&self, f: &mut core::fmt::Formatter<'_>) -> fmt::Result {
         let mut debug = f.debug_struct("SourceMap");
@@ -58,7 +58,7 @@ impl fmt::Debug for SourceMap {
 }
 
 impl SourceMap {
-    /// A map with no file but file 0, whose positions go up to 4294967295; takes no memory.
+    /// Makes a map that has only file 0, with positions up to 4294967295. This allocates nothing.
     ///
     /// # Contract
     ///
@@ -70,10 +70,10 @@ impl SourceMap {
         SourceMap::with_limit(u32::MAX)
     }
 
-    /// A map with no file but file 0, whose positions go up to `limit`; takes no memory.
+    /// Makes a map that has only file 0, with positions up to `limit`. This allocates nothing.
     ///
-    /// A text whose file would end past the limit doesn't fit (`fits`). With the limit 5, `abcd`
-    /// stands at 1..5, and then not even the empty text fits.
+    /// A text doesn't fit (`fits`) if its file would end past the limit. With the limit 5, `abcd` is at 1..5, and
+    /// after it not even the empty text fits.
     ///
     /// # Contract
     ///
@@ -87,9 +87,9 @@ impl SourceMap {
         }
     }
 
-    /// Takes all files but file 0 away, and keeps the limit.
+    /// Removes all files but file 0, and keeps the limit.
     ///
-    /// The next text begins at 1 again, so the spans of the texts before may be held by chance alone.
+    /// The next text begins at position 1 again. So the map may hold a span of a removed text, but only by chance.
     ///
     /// # Contract
     ///
@@ -100,10 +100,10 @@ impl SourceMap {
         self.places.clear();
     }
 
-    /// Whether some file of the map has all the positions of the span (`holds`).
+    /// Returns whether some file of the map has all the positions of the span (`holds`).
     ///
-    /// A file has the position at its end too. With the one text `ab` the map holds 0..0, 1..3
-    /// and 3..3, and neither 0..1 nor 3..4.
+    /// A file also has the position at its end. With the one text `ab`, the map holds 0..0, 1..3 and 3..3, but
+    /// neither 0..1 nor 3..4.
     ///
     /// # Contract
     ///
@@ -122,7 +122,7 @@ impl SourceMap {
         }
     }
 
-    /// The last file that begins at or before the position, and its number before it; `None` for file 0.
+    /// Returns the last file that begins at or before the position, with its number. File 0 is `None`.
     pub(crate) fn file_of(&self, position: u32) -> (usize, Option<&FileInfo>)
     {
         let number = count_begun(&self.places, position);
@@ -133,7 +133,7 @@ impl SourceMap {
         }
     }
 
-    /// The last position of the last file.
+    /// Returns the position at the end of the last file.
     fn last_hi(&self) -> u32
     {
         match self.files.last() {
@@ -142,7 +142,7 @@ impl SourceMap {
         }
     }
 
-    /// The line and column of a position of the map.
+    /// Returns the line and column at a position of the map.
     pub(crate) fn line_column(&self, position: u32) -> LineColumn
     {
         let (_, file) = self.file_of(position);
@@ -152,7 +152,7 @@ impl SourceMap {
         }
     }
 
-    /// The bytes that a span of the map takes in its file.
+    /// Returns the range of bytes that a span of the map takes in its file.
     pub(crate) fn byte_range(&self, span: Span) -> Range<usize>
     {
         let (lo, hi) = span.bounds();
@@ -163,7 +163,7 @@ impl SourceMap {
         }
     }
 
-    /// Where the file of this text would begin, if it fits.
+    /// Returns the position at which the file of this text would begin, or `None` if it doesn't fit.
     pub(crate) fn fits(&self, text: &str) -> Option<u32>
     {
         let last = self.last_hi();
@@ -174,7 +174,7 @@ impl SourceMap {
         }
     }
 
-    /// Adds the text as the next file; a refused growth leaves the map as it was.
+    /// Adds the text as the next file. If memory runs out, the map does not change.
     pub(crate) fn add_file(&mut self, text: &str) -> Result<(), AllocError>
     {
         let lo = self.last_hi() + 1;

@@ -1,11 +1,11 @@
 // Made from crates/pm_span/src/spans.rt by rust/erase: change that file, not this one.
-//! Where tokens stand.
+//! Spans: where tokens are.
 
 use crate::shim::prelude::GrowText;
 
 use crate::shim::fmt;
 
-/// Where a token stands: positions of a source map, from `lo` up to `hi`, in characters.
+/// Where a token is: the positions from `lo` to `hi` in a source map, in characters.
 #[derive(Clone, Copy)]
 pub struct Span {
     lo: u32,
@@ -13,7 +13,8 @@ pub struct Span {
 }
 
 impl Span {
-    /// The span 0..0, in the empty file 0, which every map holds: that of what was read from no text.
+    /// Returns the span 0..0 for tokens that were not read from a text. It is in the empty file 0, which every map
+    /// holds.
     ///
     /// # Contract
     ///
@@ -28,7 +29,8 @@ impl Span {
         Span { lo: 0, hi: 0 }
     }
 
-    /// The span 0..0, as [`call_site`](Span::call_site): in a compiler, that of names with mixed hygiene.
+    /// Returns the span 0..0, as [`call_site`](Span::call_site) does. In a compiler it is for names with mixed
+    /// hygiene.
     ///
     /// # Contract
     ///
@@ -43,8 +45,8 @@ impl Span {
         Span::call_site()
     }
 
-    /// The span 0..0, as [`call_site`](Span::call_site): in a compiler, that of names that resolve where a
-    /// macro is defined.
+    /// Returns the span 0..0, as [`call_site`](Span::call_site) does. In a compiler it is for names that resolve
+    /// where the macro is defined.
     ///
     /// # Contract
     ///
@@ -59,9 +61,10 @@ impl Span {
         Span::mixed_site()
     }
 
-    /// This span, resolved as the other one is.
+    /// Returns this span, unchanged.
     ///
-    /// No names are resolved here, so it is this span: 1..2 resolved at 3..4 is 1..2.
+    /// In a compiler it would resolve names as the other span does. No names are resolved here: 1..2 resolved at
+    /// 3..4 is 1..2.
     ///
     /// # Contract
     ///
@@ -72,9 +75,10 @@ impl Span {
         self
     }
 
-    /// The other span, resolved as this one is.
+    /// Returns the other span, unchanged.
     ///
-    /// No names are resolved here, so it is the other span: 1..2 located at 3..4 is 3..4.
+    /// In a compiler it would resolve names as this span does. No names are resolved here: 1..2 located at 3..4 is
+    /// 3..4.
     ///
     /// # Contract
     ///
@@ -85,7 +89,7 @@ impl Span {
         other
     }
 
-    /// The path of the file on disk that the span is in: always `None`, as every text is handed in.
+    /// Returns `None`, because no text comes from a file on disk here. In a compiler it is the path of that file.
     ///
     /// # Contract
     ///
@@ -102,13 +106,13 @@ impl Span {
         Span { lo, hi }
     }
 
-    /// Where the span begins and ends.
+    /// Returns the positions where the span begins and ends.
     pub(crate) fn bounds(self) -> (u32, u32)
     {
         (self.lo, self.hi)
     }
 
-    /// Whether two spans have the same positions.
+    /// Returns whether both spans have the same positions.
     ///
     /// # Contract
     ///

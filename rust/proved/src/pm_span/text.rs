@@ -1,9 +1,9 @@
 // Made from crates/pm_span/src/text.rt by rust/erase: change that file, not this one.
-//! The characters and the lines of texts.
+//! Characters and lines of texts.
 
 use crate::pm_span::plain::count_plain;
 
-/// How many characters the text has, which are as many as its bytes or fewer.
+/// Returns the number of characters in the text, which is at most the number of its bytes.
 ///
 /// # Contract
 ///
@@ -19,22 +19,21 @@ pub fn char_count(text: &str) -> usize
     count_chars(text)
 }
 
-/// The same, counted without a look whether the text is ASCII.
+/// Counts the characters without a test for ASCII.
 fn count_chars(text: &str) -> usize
 {
     text.chars().count()
 }
 
-/// Whether the text has fewer characters than `count`.
+/// Returns whether the text has fewer than `count` characters.
 ///
-/// They are counted only where its bytes, which are at least as many, don't answer it.
+/// The characters are counted only if the text has at least `count` bytes: no text has more characters than bytes.
 pub(crate) fn has_fewer_chars(text: &str, count: usize) -> bool
 {
     text.len() < count || char_count(text) < count
 }
 
-/// The first line of the text, without its line feed, and what follows that; `None` where the text
-/// is one line.
+/// Splits the text at its first line feed, which neither part has. Returns `None` if there is no line feed.
 pub(crate) fn split_line(text: &str) -> Option<(&str, &str)>
 {
     text.split_once('\n')
@@ -42,13 +41,13 @@ pub(crate) fn split_line(text: &str) -> Option<(&str, &str)>
 
 /// The first line of a text.
 pub(crate) struct FirstLine<'a> {
-    /// How many characters it has, without its line feed.
+    /// The number of its characters, without the line feed.
     pub(crate) count: usize,
-    /// The line without its line feed, and what follows that; `None` where the text is one line.
+    /// The line without its line feed, and the text after the line feed; `None` if the text has no line feed.
     pub(crate) split: Option<(&'a str, &'a str)>,
 }
 
-/// The first line of the text. A line of ASCII is read once, by words.
+/// Returns the first line of the text. A line of ASCII is read once, 8 bytes at a time.
 #[cfg_attr(not(debug_assertions), inline(always))]
 pub(crate) fn first_line(text: &str) -> FirstLine<'_>
 {
@@ -75,7 +74,7 @@ pub(crate) fn first_line(text: &str) -> FirstLine<'_>
     }
 }
 
-/// The text after its first `count` characters.
+/// Returns the text after its first `count` characters.
 pub(crate) fn skip_chars(text: &str, count: usize) -> &str
 {
     let mut rest = text.chars();
@@ -85,7 +84,7 @@ pub(crate) fn skip_chars(text: &str, count: usize) -> &str
     rest.as_str()
 }
 
-/// The text before its last `count` characters.
+/// Returns the text before its last `count` characters.
 pub(crate) fn skip_chars_back(text: &str, count: usize) -> &str
 {
     let mut front = text.chars();

@@ -1,20 +1,20 @@
 // Made from crates/pm_span/src/text_lines.rt by rust/erase: change that file, not this one.
-//! What one pass over a text finds of its lines.
+//! One pass over a text, which finds its lines and counts its characters.
 
 use crate::shim::prelude::Grow;
 
 use crate::pm_span::text::{FirstLine, first_line};
 use crate::shim::alloc::AllocError;
 
-/// What one pass over a text finds.
+/// The result of one pass over a text.
 pub(crate) struct Lines {
-    /// The offsets after each line feed, in characters.
+    /// The offset after each line feed, in characters.
     pub(crate) starts: Vec<u32>,
-    /// How many characters the text has.
+    /// The number of characters in the text.
     pub(crate) count: u32,
 }
 
-/// The lines of the text.
+/// Finds the lines of the text. Out of memory is the only error.
 #[cfg_attr(not(debug_assertions), inline(always))]
 pub(crate) fn find_lines(text: &str) -> Result<Lines, AllocError>
 {

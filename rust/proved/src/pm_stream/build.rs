@@ -1,5 +1,5 @@
 // Made from crates/pm_stream/src/build.rt by rust/erase: change that file, not this one.
-//! Building and changing streams.
+//! Calls that build and change streams.
 
 mod collects;
 
@@ -8,10 +8,10 @@ use crate::pm_token::{Ident, Literal, Punct};
 use crate::shim::alloc::AllocError;
 
 impl TokenStream {
-    /// The stream of this tree, by the rule `split`. Fails where memory runs out.
+    /// Returns the stream of this tree, by the rule `split`. Fails if memory runs out.
     ///
-    /// The literal `-3i32` gives two trees, the mark `-` Alone and the literal `3i32`, both with the
-    /// span of that literal. Any other tree gives itself.
+    /// A negative literal gives two trees: `-3i32` gives the mark `-` Alone and the literal `3i32`, both with the span
+    /// of `-3i32`. Any other tree gives itself.
     ///
     /// # Contract
     ///
@@ -26,8 +26,8 @@ impl TokenStream {
         Ok(stream)
     }
 
-    /// The stream of these trees, in order, each by the rule `split`. Fails where memory runs out,
-    /// which it doesn't for no trees.
+    /// Returns the stream of these trees, in order, each by the rule `split`. Fails if memory runs out. Without trees
+    /// it never fails.
     ///
     /// # Contract
     ///
@@ -54,10 +54,10 @@ impl TokenStream {
         Ok(stream)
     }
 
-    /// The stream of the trees of these streams, one stream after another. Fails where memory runs
-    /// out, which it doesn't for no streams.
+    /// Returns the stream of the trees of these streams, one stream after another. Fails if memory runs out. Without
+    /// streams it never fails.
     ///
-    /// The trees of a stream that shares them with no other are moved, not copied.
+    /// Trees that no other stream shares are moved, not copied.
     ///
     /// # Contract
     ///
@@ -83,11 +83,10 @@ impl TokenStream {
         Ok(stream)
     }
 
-    /// Puts these trees after its own, in order, each by the rule `split`.
+    /// Appends these trees to the stream, in order, each by the rule `split`.
     ///
-    /// Where memory runs out the trees before that which found none stay, both halves of a negative
-    /// literal or none. It doesn't run out for no trees. Other streams that share the trees keep
-    /// what they had.
+    /// If memory runs out, the stream keeps the trees that were appended before. Of a negative literal, both trees are
+    /// appended or neither. Without trees the call never fails. Other streams that share the old trees do not change.
     ///
     /// # Contract
     ///
@@ -118,10 +117,10 @@ impl TokenStream {
         Ok(())
     }
 
-    /// Puts the trees of these streams after its own, one stream after another.
+    /// Appends the trees of these streams, one stream after another.
     ///
-    /// Where memory runs out the streams before that which found none stay whole, and no tree of that
-    /// one. The trees of a stream that shares them with no other are moved, not copied.
+    /// If memory runs out, the streams that were appended before remain, and no tree of the next stream is appended.
+    /// Trees that no other stream shares are moved, not copied.
     ///
     /// # Contract
     ///
@@ -151,7 +150,7 @@ impl TokenStream {
         Ok(())
     }
 
-    /// Puts these groups after its trees, as [`extend_trees`](TokenStream::extend_trees) does.
+    /// Appends these groups to the stream, as [`extend_trees`](TokenStream::extend_trees) does.
     ///
     /// # Contract
     ///
@@ -182,7 +181,7 @@ impl TokenStream {
         Ok(())
     }
 
-    /// Puts these identifiers after its trees, as [`extend_trees`](TokenStream::extend_trees) does.
+    /// Appends these identifiers to the stream, as [`extend_trees`](TokenStream::extend_trees) does.
     ///
     /// # Contract
     ///
@@ -213,7 +212,7 @@ impl TokenStream {
         Ok(())
     }
 
-    /// Puts these marks after its trees, as [`extend_trees`](TokenStream::extend_trees) does.
+    /// Appends these marks to the stream, as [`extend_trees`](TokenStream::extend_trees) does.
     ///
     /// # Contract
     ///
@@ -244,8 +243,8 @@ impl TokenStream {
         Ok(())
     }
 
-    /// Puts these literals after its trees, as [`extend_trees`](TokenStream::extend_trees) does: a
-    /// negative one as its `-` and the rest.
+    /// Appends these literals to the stream, as [`extend_trees`](TokenStream::extend_trees) does. A negative literal
+    /// gives its `-` and the rest.
     ///
     /// # Contract
     ///

@@ -1,5 +1,5 @@
 // Made from crates/pm_stream/src/debug.rt by rust/erase: change that file, not this one.
-//! How streams are shown to programmers.
+//! How streams are shown by `Debug`.
 
 use crate::pm_stream::stream::{Group, TokenStream, TokenTree};
 use crate::pm_token::parts::show_span;

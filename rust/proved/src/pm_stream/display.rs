@@ -1,8 +1,8 @@
 // Made from crates/pm_stream/src/display.rt by rust/erase: change that file, not this one.
 //! How streams are printed.
 //!
-//! Where a step into a group is refused memory, the function calls itself for the group, so that it
-//! prints all the same.
+//! If memory for the list of open groups runs out, the function calls itself for the group. So it prints the group
+//! anyway.
 
 use crate::pm_stream::steps::{Step, Steps};
 use crate::pm_stream::stream::{Group, TokenStream, TokenTree};
@@ -10,6 +10,7 @@ use crate::pm_token::{Delimiter, Spacing};
 use crate::shim::fmt;
 use crate::shim::fmt::Display;
 
+/// Prints the trees, with a space before them if `within`.
 fn print_trees<W: fmt::Write>(
     trees: &[TokenTree],
     within: bool,
@@ -40,7 +41,8 @@ fn print_trees<W: fmt::Write>(
     }
 }
 
-/// What is printed of one step, with a space before it if gap. Then gap is whether one goes before what comes after it.
+/// Prints one step, with a space before it if `gap`. Then sets `gap` to whether a space goes before what is printed
+/// next.
 #[cfg_attr(not(debug_assertions), inline(always))]
 fn print_step<W: fmt::Write>(
     step: Step<'_>,
@@ -67,12 +69,13 @@ fn print_step<W: fmt::Write>(
     }
 }
 
+/// Prints a space if `gap`.
 fn print_space<W: fmt::Write>(gap: bool, f: &mut fmt::Formatter<W>) -> fmt::Result
 {
     if gap { f.write_str(" ") } else { Ok(()) }
 }
 
-/// A token, or what a group begins with.
+/// Prints a token, or the opener of a group.
 fn print_front<W: fmt::Write>(tree: &TokenTree, f: &mut fmt::Formatter<W>) -> fmt::Result
 {
     match tree {
@@ -83,18 +86,19 @@ fn print_front<W: fmt::Write>(tree: &TokenTree, f: &mut fmt::Formatter<W>) -> fm
     }
 }
 
-/// What a group begins with.
+/// Prints the opener of a group.
 fn print_opening<W: fmt::Write>(delimiter: Delimiter, f: &mut fmt::Formatter<W>) -> fmt::Result
 {
     f.write_str(opener(delimiter))
 }
 
-/// What a group ends with, and in a Brace the space before it.
+/// Prints the closer of a group, with a space before `}`.
 fn print_ending<W: fmt::Write>(delimiter: Delimiter, f: &mut fmt::Formatter<W>) -> fmt::Result
 {
     f.write_str(closer(delimiter))
 }
 
+/// Returns the opener of a group with this delimiter.
 pub(crate) fn opener(delimiter: Delimiter) -> &'static str
 {
     match delimiter {
@@ -105,6 +109,7 @@ pub(crate) fn opener(delimiter: Delimiter) -> &'static str
     }
 }
 
+/// Returns the closer of a group with this delimiter, with a space before `}`.
 pub(crate) fn closer(delimiter: Delimiter) -> &'static str
 {
     match delimiter {
@@ -115,12 +120,13 @@ pub(crate) fn closer(delimiter: Delimiter) -> &'static str
     }
 }
 
+/// Whether the delimiter is `Brace`.
 pub(crate) fn is_brace(delimiter: Delimiter) -> bool
 {
     delimiter == Delimiter::Brace
 }
 
-/// Whether a space goes before what is printed next, within a group or after a token.
+/// Whether a space goes before what is printed next: the first tree inside a group, or the tree after a token.
 fn gap_within(tree: &TokenTree) -> bool
 {
     match tree {
@@ -130,10 +136,9 @@ fn gap_within(tree: &TokenTree) -> bool
     }
 }
 
-/// The trees by the rule `printed`: one space between two, but none after a Joint mark. A group is
-/// written with its delimiters, a Brace with spaces inside them, so that `{x}` is printed `{ x }`
-/// and `{}` is `{ }`. Fails only where the writer does, whatever memory there is; the text may be
-/// written in part then.
+/// Prints the trees by the rule `printed`: one space between two trees, but none after a Joint mark. Groups are printed
+/// with their delimiters. Braces have spaces inside, so `{x}` is printed `{ x }` and `{}` is printed `{ }`. Fails only
+/// if the writer fails; a part of the text may be written then. If memory runs out, all trees are printed anyway.
 impl Display for TokenStream {
     fn fmt<W: fmt::Write>(&self, f: &mut fmt::Formatter<W>) -> fmt::Result {
         print_trees(self.trees(), false, f)
@@ -142,7 +147,7 @@ impl Display for TokenStream {
 
 crate::shim::display!(TokenStream);
 
-/// A token, or a group with its delimiters, by the rule `printed`. Fails as a stream does.
+/// Prints a token, or a group with its delimiters, by the rule `printed`. Fails only if the writer fails.
 impl Display for TokenTree {
     fn fmt<W: fmt::Write>(&self, f: &mut fmt::Formatter<W>) -> fmt::Result {
         match self {
@@ -156,8 +161,8 @@ impl Display for TokenTree {
 
 crate::shim::display!(TokenTree);
 
-/// The trees between the delimiters, by the rule `printed`. A group without delimiters is its trees
-/// alone. Fails as a stream does.
+/// Prints the trees between the delimiters, by the rule `printed`. Of a group without delimiters only the trees are
+/// printed. Fails only if the writer fails.
 impl Display for Group {
     fn fmt<W: fmt::Write>(&self, f: &mut fmt::Formatter<W>) -> fmt::Result {
         let delimiter = self.delimiter();

@@ -9,7 +9,7 @@ use crate::pm_token::parts::{ident, punct, string_literal};
 use crate::pm_token::{Delimiter, Ident, Literal, Punct, Spacing};
 use crate::shim::alloc::AllocError;
 
-/// The group `[doc = ".."]` of the text (`doc-tokens`), where it and each tree in it has this span.
+/// Returns the group `[doc = ".."]` for this text (`doc-tokens`). The group and each tree in it has this span.
 pub(crate) fn doc_group(text: &str, span: Span) -> Result<Group, AllocError>
 {
     let doc = ident("doc", false, span)?;
@@ -24,11 +24,12 @@ pub(crate) fn doc_group(text: &str, span: Span) -> Result<Group, AllocError>
 }
 
 impl Group {
-    /// The literal of a doc comment's group, and `None` of every other group. Of `[doc = "x"]` it is `"x"`.
+    /// Returns the literal of a doc comment's group, and `None` for every other group. For `[doc = "x"]` it returns
+    /// `"x"`.
     ///
-    /// A doc comment is read as `#`, perhaps `!`, and this group: in brackets the identifier `doc`, the mark `=` Alone
-    /// and a literal (`doc-tokens`). What stands before the group doesn't count, so the one of the attribute
-    /// `#[doc = "x"]` has its literal too.
+    /// A doc comment is parsed to `#`, to `!` if it is inner, and to this group. The group has the identifier `doc`,
+    /// the mark `=` Alone and a literal, in brackets (`doc-tokens`). The trees before the group are not checked, so the
+    /// group of the attribute `#[doc = "x"]` has its literal too.
     ///
     /// # Contract
     ///
@@ -55,7 +56,7 @@ impl Group {
     }
 }
 
-/// The literal of the three trees `doc`, `=` Alone and a literal, and `None` of others.
+/// Returns the literal if the trees are `doc`, `=` Alone and a literal, and otherwise `None`.
 fn doc_in(trees: &[TokenTree]) -> Option<&Literal>
 {
     let [

@@ -6,9 +6,9 @@ use crate::pm_span::Span;
 use crate::pm_span::parts::{bounds, span_of};
 use crate::shim::fmt;
 
-/// The span of a group, which gives those of its delimiters too.
+/// The span of a group, from which the spans of its delimiters are computed.
 ///
-/// They are the first and the last character of the group's span, whatever its delimiter is. A
+/// The spans of the delimiters are the first and the last character of the group's span, whatever its delimiter is. A
 /// group that was read from `(x)` at 1..4 opens at 1..2 and closes at 3..4.
 #[derive(Clone, Copy)]
 pub struct DelimSpan {
@@ -16,7 +16,7 @@ pub struct DelimSpan {
 }
 
 impl DelimSpan {
-    /// The span of the whole group, with its delimiters.
+    /// Returns the span of the whole group, including its delimiters.
     ///
     /// # Contract
     ///
@@ -26,9 +26,9 @@ impl DelimSpan {
         self.span
     }
 
-    /// The span of the opening delimiter (`open-span`): the first character of the group's span.
+    /// Returns the span of the opening delimiter (`open-span`): the first character of the group's span.
     ///
-    /// It is empty where the group's span is: of 1..4 it is 1..2, and of 0..0 it is 0..0.
+    /// The result is empty if the group's span is empty. For 1..4 it is 1..2, and for 0..0 it is 0..0.
     ///
     /// # Contract
     ///
@@ -41,9 +41,9 @@ impl DelimSpan {
         span_of(lo, hi.min(lo.saturating_add(1)))
     }
 
-    /// The span of the closing delimiter (`close-span`): the last character of the group's span.
+    /// Returns the span of the closing delimiter (`close-span`): the last character of the group's span.
     ///
-    /// It is empty where the group's span is: of 1..4 it is 3..4, and of 0..0 it is 0..0.
+    /// The result is empty if the group's span is empty. For 1..4 it is 3..4, and for 0..0 it is 0..0.
     ///
     /// # Contract
     ///
@@ -65,9 +65,9 @@ impl fmt::Debug for DelimSpan {
 }
 
 impl Group {
-    /// The span of its opening delimiter (`open-span`): the first character of its span.
+    /// Returns the span of the opening delimiter (`open-span`): the first character of the group's span.
     ///
-    /// It is empty where the group's span is: of 1..4 it is 1..2, and of 0..0 it is 0..0.
+    /// The result is empty if the group's span is empty. For 1..4 it is 1..2, and for 0..0 it is 0..0.
     ///
     /// # Contract
     ///
@@ -79,9 +79,9 @@ impl Group {
         self.delim_span().open()
     }
 
-    /// The span of its closing delimiter (`close-span`): the last character of its span.
+    /// Returns the span of the closing delimiter (`close-span`): the last character of the group's span.
     ///
-    /// It is empty where the group's span is: of 1..4 it is 3..4, and of 0..0 it is 0..0.
+    /// The result is empty if the group's span is empty. For 1..4 it is 3..4, and for 0..0 it is 0..0.
     ///
     /// # Contract
     ///
@@ -93,7 +93,7 @@ impl Group {
         self.delim_span().close()
     }
 
-    /// Its span, together with those of its delimiters.
+    /// Returns the span of the group, together with those of its delimiters.
     ///
     /// # Contract
     ///

@@ -1,10 +1,11 @@
 // Made from crates/pm_stream/src/laws.rt by rust/erase: change that file, not this one.
-//! What is proved of the definitions that the other contracts cite.
+//! Facts that are proved about the definitions which the other contracts use.
 
-/// What is printed of a stream is its trees in order, with one space between two of them but none
-/// after a Joint mark; of a group, its delimiters around its stream: `( .. )` and `[ .. ]` without
-/// spaces inside, `{ }` of an empty stream and else `{ .. }` with one space on each side, or the
-/// stream alone.
+/// The printed text of a stream is its trees in order, with one space between two trees but none after a Joint mark.
+///
+/// The text of a group is its delimiters around the text of its stream. `( .. )` and `[ .. ]` have no spaces inside.
+/// Braces are `{ }` around an empty stream, and otherwise `{ .. }` with one space on each side. A group without
+/// delimiters is printed as its stream.
 ///
 /// # Contract
 ///

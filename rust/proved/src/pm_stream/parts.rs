@@ -1,12 +1,12 @@
 // Made from crates/pm_stream/src/parts.rt by rust/erase: change that file, not this one.
-//! What the crates above make streams of, and users don't.
+//! Calls for the crates that are built on this one, not for users.
 
 use crate::pm_stream::stream::{Group, TokenStream, TokenTree};
 use crate::pm_span::Span;
 use crate::pm_token::{Delimiter, Ident, Literal, Punct};
 use crate::shim::alloc::AllocError;
 
-/// The group of these parts.
+/// Returns the group with this delimiter, stream and span.
 ///
 /// # Contract
 ///
@@ -16,7 +16,7 @@ pub fn group(delimiter: Delimiter, stream: TokenStream, span: Span) -> Group
     Group::from_parts(delimiter, stream, span)
 }
 
-/// The stream of these trees. Fails where memory runs out.
+/// Returns the stream of these trees. Fails if memory runs out.
 ///
 /// # Contract
 ///
@@ -31,8 +31,8 @@ pub fn stream(trees: Vec<TokenTree>) -> Result<TokenStream, AllocError>
     TokenStream::from_vec(trees)
 }
 
-/// The trees of the stream, in order. A list that no other stream shares is taken over. Another is copied, which fails
-/// where memory runs out.
+/// Returns the trees of the stream, in order. A list that no other stream shares is moved. A shared list is copied,
+/// which fails if memory runs out.
 ///
 /// # Contract
 ///
@@ -47,7 +47,7 @@ pub fn into_trees(stream: TokenStream) -> Result<Vec<TokenTree>, AllocError>
     stream.into_list()
 }
 
-/// Takes the trees out of the group, which is empty afterwards.
+/// Takes the trees out of the group and returns them. The group is empty afterwards.
 ///
 /// # Contract
 ///
@@ -61,7 +61,7 @@ pub fn take_stream(group: &mut Group) -> TokenStream
     group.take_stream()
 }
 
-/// Puts these trees into the group in place of its own.
+/// Replaces the group's trees with these trees.
 ///
 /// # Contract
 ///
@@ -72,7 +72,7 @@ pub fn set_stream(group: &mut Group, stream: TokenStream)
     group.set_stream(stream);
 }
 
-/// Puts a group after the trees of a stream. Where memory runs out the stream stays as it was.
+/// Appends a group to a stream. If memory runs out, the stream does not change.
 ///
 /// # Contract
 ///
@@ -89,7 +89,7 @@ pub fn put_group(stream: &mut TokenStream, group: Group) -> Result<(), AllocErro
     stream.put_group(group)
 }
 
-/// Puts an identifier after the trees of a stream. Where memory runs out the stream stays as it was.
+/// Appends an identifier to a stream. If memory runs out, the stream does not change.
 ///
 /// # Contract
 ///
@@ -106,7 +106,7 @@ pub fn put_ident(stream: &mut TokenStream, ident: Ident) -> Result<(), AllocErro
     stream.put_ident(ident)
 }
 
-/// Puts a mark after the trees of a stream. Where memory runs out the stream stays as it was.
+/// Appends a mark to a stream. If memory runs out, the stream does not change.
 ///
 /// # Contract
 ///
@@ -123,8 +123,8 @@ pub fn put_punct(stream: &mut TokenStream, punct: Punct) -> Result<(), AllocErro
     stream.put_punct(punct)
 }
 
-/// Puts a literal after the trees of a stream, a negative one as its `-` and the rest. Where memory runs out the
-/// stream stays as it was.
+/// Appends a literal to a stream; a negative one gives its `-` and the rest. If memory runs out, the stream does not
+/// change.
 ///
 /// # Contract
 ///

@@ -1,5 +1,5 @@
 // Made from crates/pm_stream/src/reprinting.rt by rust/erase: change that file, not this one.
-//! From a text to its printed text, with no trees in between.
+//! Prints a text as its stream is printed, without building trees.
 
 use crate::pm_stream::display::is_brace;
 use crate::pm_stream::reading::{Lexed, TokenSink, read};
@@ -8,13 +8,14 @@ use crate::pm_token::parts::TextBuilder;
 use crate::pm_token::{Delimiter, ParseError};
 use crate::shim::alloc::AllocError;
 
-/// The printed text of a text: what Display writes of the stream that it parses to.
+/// Returns the printed text of a text: what Display writes for the stream that it parses to.
 ///
-/// Trees are not made. It takes memory for the printed text, which is seldom longer than the source, and
-/// for a list of the groups that are open. Answers are those of
-/// [`parse_unmapped`](crate::pm_stream::TokenStream::parse_unmapped): `Lex` has the position of the fault, in
-/// characters from 1 on (`fault`), `MapFull` is answered exactly where the text would not fit a new map
-/// (`fits`), and `Memory` where a growth was refused.
+/// No trees are built. The call allocates memory for the printed text, which is seldom longer than the source, and for
+/// a list of the open groups.
+///
+/// The errors are those of [`parse_unmapped`](crate::pm_stream::TokenStream::parse_unmapped). `Lex` has the position of
+/// the fault (`fault`), in characters counted from 1. `MapFull` is returned exactly if the text does not fit a new map
+/// (`fits`), and `Memory` if memory runs out.
 ///
 /// `a+=b` gives `a += b`, and `{x}` gives `{ x }`. The fault of `(]` is 2..2.
 ///
@@ -52,7 +53,7 @@ pub fn reprint(text: &str) -> Result<String, ParseError>
     reprint_at(lo, text)
 }
 
-/// The printed text of a text that begins at the position `base`.
+/// Returns the printed text of a text that begins at the position `base`.
 fn reprint_at(base: u32, text: &str) -> Result<String, ParseError>
 {
     let mut printer = Printer {
@@ -63,19 +64,19 @@ fn reprint_at(base: u32, text: &str) -> Result<String, ParseError>
     Ok(printer.draft.into_string())
 }
 
-/// What was printed so far.
+/// A sink that prints the tokens.
 struct Printer {
-    /// What is printed of what was read.
+    /// The printed text of what was read so far.
     draft: TextBuilder,
     /// Whether a space goes before what is printed next.
     gap: bool,
 }
 
-/// A group whose closer is still to come.
+/// A group whose closer was not read yet.
 struct OpenGroup {
-    /// What stands around it.
+    /// Its delimiter.
     delimiter: Delimiter,
-    /// Where its opener begins.
+    /// The position of its opener.
     lo: u32,
 }
 
@@ -129,7 +130,8 @@ impl TokenSink for Printer {
         })
     }
 
-    /// Out of line, so that less is kept in registers for the pieces that come more often.
+    /// Handles a closer. It is not inlined, so that the loop keeps fewer values in registers for the other, more
+    /// frequent pieces.
     #[inline(never)]
     fn close(
         &mut self,
@@ -153,7 +155,8 @@ impl Printer {
         self.draft.push_text(text)
     }
 
-    /// Prints the character, after a space if one goes before it. It costs less than a text of one character.
+    /// Prints the character, after a space if one goes before it. This is faster than `write` with a text of one
+    /// character.
     fn write_char(&mut self, c: char) -> Result<(), AllocError>
     {
         if self.gap {
@@ -173,7 +176,7 @@ impl Printer {
         Ok(())
     }
 
-    /// Prints what a group begins with, after a space if one goes before it.
+    /// Prints the opener of a group, after a space if one goes before it.
     #[cfg_attr(not(debug_assertions), inline(always))]
     fn write_opening(&mut self, delimiter: Delimiter) -> Result<(), AllocError>
     {
@@ -186,7 +189,7 @@ impl Printer {
     }
 }
 
-/// Prints what a group ends with, and in a Brace the space before it.
+/// Prints the closer of a group, with a space before `}`.
 fn push_ending(draft: &mut TextBuilder, delimiter: Delimiter) -> Result<(), AllocError>
 {
     match delimiter {
@@ -200,7 +203,7 @@ fn push_ending(draft: &mut TextBuilder, delimiter: Delimiter) -> Result<(), Allo
     }
 }
 
-/// What a doc comment is printed as before its text.
+/// Returns what is printed of a doc comment before its text.
 fn doc_front(inner: bool) -> &'static str
 {
     if inner { "# ! [doc = " } else { "# [doc = " }

@@ -1,9 +1,8 @@
 // Made from crates/pm_stream/src/same.rt by rust/erase: change that file, not this one.
 //! Whether two streams have the same tokens.
 //!
-//! Groups may nest as deep as a text is long, so what is left after a group stands in a list and
-//! not on the stack. If memory for the list is refused, the function calls itself for the group,
-//! so that it answers all the same.
+//! Groups may nest as deep as a text is long, so the trees that are left after a group are kept in a list, not on the
+//! stack. If memory for the list runs out, the function calls itself for the group. So it returns an answer anyway.
 
 use crate::shim::prelude::Grow;
 
@@ -18,14 +17,14 @@ struct Lists<'a> {
 }
 
 impl TokenStream {
-    /// Whether both have the `same` trees but for their spans: whether they are equal once every span
-    /// in them, at any depth, is 0..0.
+    /// Returns whether both streams have the `same` trees up to spans: whether they are equal once every span, at any
+    /// depth, is 0..0.
     ///
-    /// It always answers, whatever memory there is, and in time proportional to the number of trees
-    /// of the smaller one and the length of their texts.
+    /// The answer is right even if memory runs out. The time is proportional to the number of trees of the smaller
+    /// stream and the length of their texts.
     ///
-    /// What `a` and `  a` parse to is the same. `(a)` and `[a]` are not, nor are `+ =` and `+=`, where
-    /// one `+` is Alone and the other Joint.
+    /// The texts `a` and `  a` give the same tokens. `(a)` and `[a]` do not, and neither do `+ =` and `+=`: the `+` is
+    /// Alone in one and Joint in the other.
     ///
     /// # Contract
     ///
@@ -39,7 +38,7 @@ impl TokenStream {
     }
 }
 
-/// Whether these trees are those of the other list, up to spans.
+/// Whether both lists have the same trees up to spans.
 fn are_same(trees: &[TokenTree], others: &[TokenTree]) -> bool
 {
     let mut outer = Vec::new();

@@ -15,7 +15,7 @@ use crate::pm_token::{Delimiter, Ident, Literal, Punct};
 use crate::shim::alloc::AllocError;
 use crate::shim::rc::Rc;
 
-/// Token trees in order, each a token or a group of trees between delimiters.
+/// A list of token trees, each a token or a group of trees between delimiters.
 pub struct TokenStream {
     trees: Option<Rc<Vec<TokenTree>>>,
 }
@@ -39,9 +39,9 @@ pub struct Group {
     span: Span,
 }
 
-// A walk from the last group to the first, into each that has no other owner. The way back is
-// kept in the lists themselves, where the group was that the walk went into: so a stream is
-// dropped in little stack and no memory, however deep its groups nest.
+// Walks from the last group to the first, and into each group that has no other owner. The way back is kept in the
+// lists themselves, where the entered group was. So dropping takes little stack and allocates nothing, however deep the
+// groups nest.
 impl Drop for TokenStream {
     fn drop(&mut self) {
         let trees = self.trees.take();
@@ -55,9 +55,9 @@ impl Drop for TokenStream {
             trees: Some(shared),
         };
         let mut outer = last.stream;
-        // A step takes a group, or the way back that an earlier step left there. So there are at
-        // most two for each group, and one that ends the walk: fewer than the bound, which no memory has
-        // groups for. It spares a measure of the walk; what it left would be dropped by other walks.
+        // Each step takes a group, or the way back that an earlier step left there. So there are at most two steps for
+        // each group, and one that ends the walk. No memory holds enough groups to reach the bound. With a bound, the
+        // loop needs no proof that it ends.
         for _ in 0..u64::MAX {
             let Some(group) = here.take_group() else {
                 let Some(way) = outer.take_group() else {
@@ -82,7 +82,7 @@ impl Drop for TokenStream {
     }
 }
 
-/// The last group of a list that has no other owner. The tokens after it are dropped.
+/// Removes and returns the last group of a list, unless the list has another owner. Drops the tokens after the group.
 #[cfg_attr(not(debug_assertions), inline(always))]
 fn take_group(shared: &mut Rc<Vec<TokenTree>>) -> Option<Group>
 {
@@ -92,11 +92,11 @@ fn take_group(shared: &mut Rc<Vec<TokenTree>>) -> Option<Group>
     }
 }
 
-/// The last group. The tokens after it are dropped.
+/// Removes and returns the last group. Drops the tokens after it.
 #[cfg_attr(not(debug_assertions), inline(always))]
 fn pop_group(trees: &mut Vec<TokenTree>) -> Option<Group>
 {
-    // Identifiers go a way of their own, in which their fields are not loaded. What is popped there is one.
+    // Identifiers take a branch of their own, which does not load their fields. The tree popped there is an identifier.
     while let Some(last) = trees.last() {
         if let TokenTree::Ident(_) = last {
             match trees.pop() {
@@ -119,7 +119,7 @@ fn pop_group(trees: &mut Vec<TokenTree>) -> Option<Group>
     None
 }
 
-/// Puts a tree after the others, in a list that has no other owner.
+/// Appends a tree to a list that has no other owner. Otherwise, or if memory runs out, returns the tree.
 fn put_last(shared: &mut Rc<Vec<TokenTree>>, tree: TokenTree) -> Result<(), TokenTree>
 {
     match Rc::get_mut(shared) {
@@ -132,7 +132,7 @@ fn put_last(shared: &mut Rc<Vec<TokenTree>>, tree: TokenTree) -> Result<(), Toke
 }
 
 impl TokenStream {
-    /// A stream with no trees. It takes no memory.
+    /// Returns a stream with no trees. It allocates nothing.
     ///
     /// # Contract
     ///
@@ -144,8 +144,8 @@ impl TokenStream {
         TokenStream { trees: None }
     }
 
-    /// The stream of these trees. An empty list takes no memory; any other is moved into memory that
-    /// streams share, and is lost where that is refused.
+    /// Returns the stream of these trees. An empty list allocates nothing. Any other list is moved into memory that
+    /// streams can share. If memory runs out, the trees are dropped.
     pub(crate) fn from_vec(trees: Vec<TokenTree>) -> Result<TokenStream, AllocError>
     {
         if trees.is_empty() {
@@ -156,7 +156,7 @@ impl TokenStream {
         })
     }
 
-    /// Whether it has no trees.
+    /// Returns whether the stream has no trees.
     ///
     /// # Contract
     ///
@@ -168,9 +168,8 @@ impl TokenStream {
         self.trees().is_empty()
     }
 
-    /// Its trees, in order. Proofs learn by it what every stream is (`built`), and that each of its
-    /// trees may be put into a stream again. A map that holds all spans of the stream holds those of
-    /// each tree.
+    /// Returns the stream's trees, in order. The contract also says that every stream is `built`, and that each of its
+    /// trees may be put into a stream again. A map that holds all spans of the stream holds those of each tree.
     ///
     /// # Contract
     ///
@@ -191,7 +190,7 @@ impl TokenStream {
         listed(&self.trees)
     }
 
-    /// The last group, where the trees have no other owner. The tokens after it are dropped.
+    /// Removes and returns the last group, if the trees have no other owner. Drops the tokens after the group.
     fn take_group(&mut self) -> Option<Group>
     {
         let Some(shared) = &mut self.trees else {
@@ -200,7 +199,7 @@ impl TokenStream {
         take_group(shared)
     }
 
-    /// Puts a group of the outer trees after its own, or gives them back.
+    /// Appends a group that holds the outer trees. Returns the outer trees if that fails.
     fn push_outer(&mut self, outer: TokenStream) -> Result<(), TokenStream>
     {
         let Some(shared) = &mut self.trees else {
@@ -218,13 +217,14 @@ impl TokenStream {
         Ok(())
     }
 
-    /// What is true of every stream. It computes nothing: it hands the type's invariant to proofs.
+    /// States that every stream is `built`. It computes nothing: its contract hands the type's invariant to proofs.
     fn built(&self)
     {
         let _ = &self.trees;
     }
 }
 
+/// Returns the trees in the list, or none without a list.
 fn listed(trees: &Option<Rc<Vec<TokenTree>>>) -> &[TokenTree]
 {
     match trees {
@@ -234,7 +234,7 @@ fn listed(trees: &Option<Rc<Vec<TokenTree>>>) -> &[TokenTree]
 }
 
 impl TokenTree {
-    /// Where it stands. Proofs learn by it that a tree that may be put into a stream is `built`.
+    /// Returns the span of the tree. The contract also says that a tree that may be put into a stream is `built`.
     ///
     /// # Contract
     ///
@@ -255,7 +255,7 @@ impl TokenTree {
         }
     }
 
-    /// Sets where the tree stands, and changes nothing else. The trees in a group keep their spans.
+    /// Sets the span of the tree, and changes nothing else. The trees in a group keep their spans.
     ///
     /// # Contract
     ///
@@ -272,7 +272,7 @@ impl TokenTree {
         }
     }
 
-    /// The trees within a group, and none of a token.
+    /// Returns the trees inside a group. A token has none.
     pub(crate) fn inside(&self) -> &[TokenTree]
     {
         match self {
@@ -281,7 +281,7 @@ impl TokenTree {
         }
     }
 
-    /// The trees within a group, and none of a token.
+    /// Returns the trees inside a group, as a stream. A token has none.
     fn into_inside(self) -> TokenStream
     {
         match self {
@@ -293,7 +293,7 @@ impl TokenTree {
 }
 
 impl Group {
-    /// The group of these parts.
+    /// Returns the group with this delimiter, stream and span.
     pub(crate) fn from_parts(delimiter: Delimiter, stream: TokenStream, span: Span) -> Group
     {
         Group {
@@ -303,9 +303,9 @@ impl Group {
         }
     }
 
-    /// A group of these trees between these delimiters, with the span 0..0. It takes no memory.
+    /// Returns a group of these trees between these delimiters, with the span 0..0. It allocates nothing.
     ///
-    /// Of `Delimiter::Parenthesis` and the stream `x` it is `(x)`. The trees keep their spans.
+    /// With `Delimiter::Parenthesis` and the stream `x` it returns `(x)`. The trees keep their spans.
     ///
     /// # Contract
     ///
@@ -317,7 +317,7 @@ impl Group {
         Group::from_parts(delimiter, stream, Span::call_site())
     }
 
-    /// What stands around its trees.
+    /// Returns the delimiter around the group's trees.
     ///
     /// # Contract
     ///
@@ -327,7 +327,7 @@ impl Group {
         self.delimiter
     }
 
-    /// Its trees, without the delimiters. They are `built`, as those of every stream.
+    /// Returns the group's trees, without the delimiters. Like every stream, they are `built`.
     ///
     /// # Contract
     ///
@@ -341,11 +341,11 @@ impl Group {
         &self.stream
     }
 
-    /// Its trees, without the delimiters, as a stream of their own: `x` of `(x)`.
+    /// Returns a stream of the group's trees, without the delimiters: `x` for `(x)`.
     ///
-    /// They are shared until one of the two is changed, so that this takes no memory. It fails only where
-    /// the trees have more owners than can be counted, and never for a group without trees.
-    /// [`stream_ref`](Group::stream_ref) lends them.
+    /// The trees are shared until one of the two is changed, so this allocates nothing. It fails only if the trees have
+    /// more owners than can be counted, and never for a group without trees. [`stream_ref`](Group::stream_ref) borrows
+    /// the trees.
     ///
     /// # Contract
     ///
@@ -360,7 +360,7 @@ impl Group {
         self.stream.try_clone()
     }
 
-    /// Where it stands, delimiters and all. Proofs learn by it what every group is (`built`).
+    /// Returns the span of the group, including its delimiters. The contract also says that every group is `built`.
     ///
     /// # Contract
     ///
@@ -371,13 +371,13 @@ impl Group {
     /// [alone]: crate::contracts#pm_stream.Trees.alone
     pub fn span(&self) -> Span
     {
-        // They compute nothing: proofs learn what is inside, and that the span is in order.
+        // These calls compute nothing. Their contracts say that the stream is `built`, and that `lo` is at most `hi`.
         self.stream.built();
         bounds(self.span);
         self.span
     }
 
-    /// Sets where the group stands, and changes nothing else. The trees in it keep their spans.
+    /// Sets the span of the group, and changes nothing else. The trees in it keep their spans.
     ///
     /// # Contract
     ///
@@ -387,7 +387,7 @@ impl Group {
         self.span = span;
     }
 
-    /// Takes the trees out of the group, which is empty afterwards.
+    /// Takes the trees out of the group and returns them. The group is empty afterwards.
     #[cfg_attr(not(debug_assertions), inline(always))]
     pub(crate) fn take_stream(&mut self) -> TokenStream
     {
@@ -395,7 +395,7 @@ impl Group {
         TokenStream { trees }
     }
 
-    /// Puts these trees in place of its own.
+    /// Replaces the group's trees with these trees.
     #[cfg_attr(not(debug_assertions), inline(always))]
     pub(crate) fn set_stream(&mut self, stream: TokenStream)
     {

@@ -1,5 +1,5 @@
 // Made from crates/pm_stream/src/token_stream.rt by rust/erase: change that file, not this one.
-//! The trees of a stream, given away one at a time.
+//! The iterator that takes a stream apart: it returns the trees one at a time.
 
 use crate::shim::prelude::TryClone;
 
@@ -9,19 +9,19 @@ use crate::shim::alloc::AllocError;
 use crate::shim::collections::VecDeque;
 use crate::shim::fmt;
 
-/// The trees of a stream that are left, in order. A group comes whole, with its trees inside it.
+/// An iterator over the trees of a stream, in order. A group is one item, with its trees inside it.
 ///
-/// [`TokenStream::into_iter`] makes it.
+/// [`TokenStream::into_iter`] creates it.
 pub struct IntoIter {
     left: VecDeque<TokenTree>,
 }
 
 impl TokenStream {
-    /// Its trees in order. A group comes whole, with its trees inside it: `a (b c) d` gives `a`, `(b c)`
-    /// and `d`.
+    /// Returns an iterator over the stream's trees, in order. A group is one item, with its trees inside it:
+    /// `a (b c) d` gives `a`, `(b c)` and `d`.
     ///
-    /// Where another stream shares the trees they are copied, and this fails where memory for that runs
-    /// out; the other stream stays as it was. Else it takes no memory.
+    /// If another stream shares the trees, they are copied. The call fails if memory for the copy runs out, and the
+    /// other stream does not change. Without sharing, the call allocates nothing.
     ///
     /// # Contract
     ///
@@ -49,13 +49,13 @@ impl TokenStream {
 impl Iterator for IntoIter {
     type Item = TokenTree;
 
-    /// The next tree, or `None` after the last. It may be put into a stream again, and those that are
+    /// Returns the next tree, or `None` after the last. The tree may be put into a stream again, and the trees that are
     /// left are `built`.
     fn next(&mut self) -> Option<TokenTree> {
         self.left.pop_front()
     }
 
-    /// Exactly how many trees are left, as the lower and as the upper bound. A group counts as one.
+    /// Returns the exact number of trees that are left, as the lower and as the upper bound. A group counts as one.
     fn size_hint(&self) -> (usize, Option<usize>)
     {
         let left = self.left.len();
@@ -63,7 +63,7 @@ impl Iterator for IntoIter {
     }
 }
 
-/// An iterator over copies of the trees that are left. Fails where memory runs out.
+/// Returns an iterator over copies of the trees that are left. Fails if memory runs out.
 impl TryClone for IntoIter {
     fn try_clone(&self) -> Result<IntoIter, AllocError> {
         Ok(IntoIter {
@@ -74,7 +74,7 @@ impl TryClone for IntoIter {
 
 crate::shim::copied!(IntoIter);
 
-/// Shows the list of the trees that are left, as a stream of them is shown.
+/// Shows the list of the trees that are left, in the form in which a stream is shown.
 impl fmt::Debug for IntoIter {
     fn fmt(&self, f: &mut core::fmt::Formatter<'_>) -> fmt::Result {
         f.write_str("TokenStream ")?;

@@ -1,20 +1,20 @@
 // Made from crates/pm_stream/src/walk.rt by rust/erase: change that file, not this one.
-//! All trees of a stream, one at a time.
+//! A walk over all trees of a stream, one at a time.
 
 use crate::pm_stream::steps::Steps;
 use crate::pm_stream::stream::{Group, TokenStream, TokenTree};
 use crate::shim::alloc::AllocError;
 
-/// The trees of a stream that are left to read, each group before those inside it.
+/// A walk over the trees of a stream, each group before the trees inside it.
 pub struct Walk<'a> {
     steps: Steps<'a>,
 }
 
 impl TokenStream {
-    /// A walk over all its trees, each group before those inside it (`reading-order`). It takes no
-    /// memory.
+    /// Returns a walk over all trees of the stream, each group before the trees inside it (`reading-order`). It
+    /// allocates nothing.
     ///
-    /// `a (b) c` has four trees in the order `a`, `(b)`, `b`, `c`.
+    /// `a (b) c` has four trees, in the order `a`, `(b)`, `b`, `c`.
     ///
     /// # Contract
     ///
@@ -30,10 +30,10 @@ impl TokenStream {
 }
 
 impl<'a> Walk<'a> {
-    /// The next tree, or `None` after the last.
+    /// Returns the next tree, or `None` after the last.
     ///
-    /// It takes memory only at a group, for what comes after that, so it fails only where the next tree
-    /// is a group. Where memory is refused the walk stays as it was.
+    /// It allocates only at a group, to remember the trees after it. So it fails only if the next tree is a group.
+    /// After an error the walk is as before.
     ///
     /// # Contract
     ///
@@ -62,9 +62,10 @@ impl<'a> Walk<'a> {
             }
         }
     }
-    /// Passes over the trees in this group, where [`next`](Walk::next) gave it last. It takes no memory.
+    /// Skips the trees inside this group, which must be the tree that [`next`](Walk::next) returned last. It allocates
+    /// nothing.
     ///
-    /// In `a (b) c`, after `(b)` was given and passed over, `c` is next.
+    /// In `a (b) c`, after `next` returned `(b)` and this call skipped its trees, the next tree is `c`.
     ///
     /// # Contract
     ///

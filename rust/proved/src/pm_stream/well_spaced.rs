@@ -1,8 +1,8 @@
 // Made from crates/pm_stream/src/well_spaced.rt by rust/erase: change that file, not this one.
-//! Whether a stream comes back from its printed text.
+//! Whether parsing the printed text of a stream gives the stream again.
 //!
-//! Where a step into a group is refused memory, the function calls itself for the group, so that it
-//! answers all the same.
+//! If memory for the list of open groups runs out, the function calls itself for the group. So it returns an answer
+//! anyway.
 
 use crate::pm_stream::steps::{Step, Steps};
 use crate::pm_stream::stream::{TokenStream, TokenTree};
@@ -10,14 +10,14 @@ use crate::lexical::parts::begins;
 use crate::pm_token::{Delimiter, Punct, Spacing};
 
 impl TokenStream {
-    /// Whether it is `well-spaced`: whether a parse of its printed text gives the same stream again,
-    /// up to spans. Every stream that was read from a text is well spaced.
+    /// Returns whether the stream is `well-spaced`: whether parsing its printed text gives the same stream, up to
+    /// spans. Every stream that was parsed from a text is well spaced.
     ///
-    /// It always answers, whatever memory there is, and in time proportional to the number of trees.
-    /// Proofs learn by it what every stream is (`built`).
+    /// The answer is right even if memory runs out. The time is proportional to the number of trees. The contract also
+    /// says that every stream is `built`.
     ///
-    /// The stream of `+` Joint and the identifier `a` is not well spaced: it prints `+a`, which is
-    /// `+` Alone and `a`.
+    /// The stream of `+` Joint and the identifier `a` is not well spaced. It is printed as `+a`, which parses to `+`
+    /// Alone and `a`.
     ///
     /// # Contract
     ///
@@ -60,7 +60,7 @@ fn are_well_spaced(trees: &[TokenTree]) -> bool
     }
 }
 
-/// Whether the group that the step goes into is shown, or its token may stand there.
+/// Whether the step fits: the group that it enters has delimiters, or its token may come before the trees after it.
 fn step_fits(step: Step<'_>) -> bool
 {
     match step {
@@ -70,13 +70,13 @@ fn step_fits(step: Step<'_>) -> bool
     }
 }
 
-/// Whether a group with the delimiter shows where it begins and ends.
+/// Whether the printed text shows where a group with this delimiter begins and ends.
 fn is_shown(delimiter: Delimiter) -> bool
 {
     delimiter != Delimiter::None
 }
 
-/// Whether the tree may stand before these, whatever is inside it.
+/// Whether the tree may come before these trees, whatever is inside it.
 fn fits(tree: &TokenTree, after: &[TokenTree]) -> bool
 {
     match tree {
@@ -86,7 +86,7 @@ fn fits(tree: &TokenTree, after: &[TokenTree]) -> bool
     }
 }
 
-/// Whether the mark may stand before these trees.
+/// Whether the mark may come before these trees.
 fn mark_fits(punct: &Punct, after: &[TokenTree]) -> bool
 {
     let mark = punct.as_char();
@@ -96,13 +96,13 @@ fn mark_fits(punct: &Punct, after: &[TokenTree]) -> bool
     }
 }
 
-/// Whether this mark may stand before these trees with the spacing Joint, so that the stream is `well-spaced`.
+/// Returns whether this mark may come before these trees with the spacing Joint, in a stream that is `well-spaced`.
 ///
-/// `'` may where an identifier is next, or a literal that begins as `b"` or `r"` do. Any other mark may where a mark is
-/// next with which it begins no comment, or a literal that begins with `'`. Alone each mark may stand anywhere, but `'`
-/// nowhere.
+/// The mark `'` may come before an identifier, or a literal that begins with `b"`, `c"`, `r"`, `br"` or `cr"`. Any
+/// other mark may come before a mark with which it begins no comment, or a literal that begins with `'`. With the
+/// spacing Alone each mark may come before any tree, except that `'` is never Alone.
 ///
-/// `+` may before `=`, and may not before `a` or at the end.
+/// `+` may be Joint before `=`, but not before `a` or at the end.
 ///
 /// # Contract
 ///
@@ -122,7 +122,7 @@ pub fn may_be_joint(mark: char, after: &[TokenTree]) -> bool
     }
 }
 
-/// Whether the first tree may stand right after `'`.
+/// Whether the first tree may come right after `'`.
 fn follows_quote(trees: &[TokenTree]) -> bool
 {
     match trees.first() {
@@ -132,7 +132,7 @@ fn follows_quote(trees: &[TokenTree]) -> bool
     }
 }
 
-/// Whether the first tree may stand right after this Joint mark, which isn't `'`.
+/// Whether the first tree may come right after this Joint mark, which isn't `'`.
 fn follows_joint(mark: char, trees: &[TokenTree]) -> bool
 {
     match trees.first() {
@@ -142,7 +142,7 @@ fn follows_joint(mark: char, trees: &[TokenTree]) -> bool
     }
 }
 
-/// Whether it is how a literal begins that may stand right after `'`.
+/// Whether the text begins as a literal does that may come right after `'`.
 fn is_quotable(text: &str) -> bool
 {
     begins(text, "b\"")
@@ -152,7 +152,7 @@ fn is_quotable(text: &str) -> bool
         || begins(text, "cr\"")
 }
 
-/// Whether a `'` stands at the front of the text.
+/// Whether the text begins with `'`.
 fn begins_with_quote(text: &str) -> bool
 {
     text.chars().next() == Some('\'')

@@ -1,7 +1,7 @@
 // Made from crates/pm_token/src/delimiters.rt by rust/erase: change that file, not this one.
 //! The delimiters of groups.
 
-/// How a group of trees is delimited.
+/// The delimiters around a group of trees.
 #[derive(Clone, Copy, Debug, PartialEq, Eq)]
 pub enum Delimiter {
     /// `( .. )`
@@ -10,6 +10,6 @@ pub enum Delimiter {
     Brace,
     /// `[ .. ]`
     Bracket,
-    /// Nothing is written: the group only holds its trees together.
+    /// No delimiters are written: the group only keeps its trees together.
     None,
 }

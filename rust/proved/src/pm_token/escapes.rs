@@ -1,5 +1,5 @@
 // Made from crates/pm_token/src/escapes.rt by rust/erase: change that file, not this one.
-//! How literals between quotes are written.
+//! Writes the text of literals that have quotes.
 
 use crate::shim::prelude::{Grow, GrowText};
 
@@ -12,13 +12,13 @@ use crate::pm_token::symbols::Symbol;
 use crate::shim::alloc::AllocError;
 use crate::shim::ucd_category::GeneralCategory;
 
-/// A text while it is written, seen as its characters.
+/// A text that is being written. Contracts speak of its characters.
 pub struct TextBuilder {
     text: String,
 }
 
 impl TextBuilder {
-    /// Nothing yet.
+    /// Makes an empty builder.
     pub(crate) fn new() -> TextBuilder
     {
         TextBuilder {
@@ -26,7 +26,7 @@ impl TextBuilder {
         }
     }
 
-    /// Nothing yet, with room for so many bytes. Fails where memory runs out.
+    /// Makes an empty builder with room for this number of bytes. Out of memory is the only error.
     ///
     /// # Contract
     ///
@@ -40,13 +40,13 @@ impl TextBuilder {
         })
     }
 
-    /// What is written, as the text of a token. Fails where memory runs out.
+    /// Returns what was written as the text of a token. Out of memory is the only error.
     pub(crate) fn finish(self) -> Result<Symbol, AllocError>
     {
         Symbol::from_string(self.text)
     }
 
-    /// The text. It takes no memory.
+    /// Returns what was written. This allocates nothing.
     ///
     /// # Contract
     ///
@@ -59,7 +59,7 @@ impl TextBuilder {
         self.text
     }
 
-    /// Writes the text. Fails where memory runs out.
+    /// Writes the text. Out of memory is the only error.
     ///
     /// # Contract
     ///
@@ -72,7 +72,7 @@ impl TextBuilder {
         self.text.push_str_fallibly(text)
     }
 
-    /// Writes the string literal of the text. Fails where memory runs out.
+    /// Writes the string literal of the text. Out of memory is the only error.
     ///
     /// # Contract
     ///
@@ -88,7 +88,7 @@ impl TextBuilder {
         self.push('"')
     }
 
-    /// Writes the character.
+    /// Writes the character. Out of memory is the only error.
     ///
     /// # Contract
     ///
@@ -115,7 +115,7 @@ impl TextBuilder {
         self.push('0')
     }
 
-    /// Writes the character by its number, as `\u{1f}`.
+    /// Writes the character as its number, such as `\u{1f}`.
     fn push_unicode(&mut self, c: char) -> Result<(), AllocError>
     {
         for unit in c.escape_unicode() {
@@ -124,7 +124,7 @@ impl TextBuilder {
         Ok(())
     }
 
-    /// Writes a character of a string that has no short escape.
+    /// Writes a character that has no short escape, for a string.
     fn push_char(&mut self, c: char) -> Result<(), AllocError>
     {
         if is_bare(c) {
@@ -134,7 +134,7 @@ impl TextBuilder {
         }
     }
 
-    /// Writes the character between these quotes, where the rest of the content follows.
+    /// Writes the character for a literal in these quotes, whose content goes on with `rest`.
     pub(crate) fn push_escaped(
         &mut self,
         quote: char,
@@ -154,8 +154,8 @@ impl TextBuilder {
         }
     }
 
-    /// Writes the front of the text that stands for itself between these quotes, as far as it is ASCII, and answers
-    /// what follows it.
+    /// Writes the ASCII characters that the text begins with, as far as they need no escape between these
+    /// quotes. It returns the rest of the text.
     #[cfg_attr(not(debug_assertions), inline(always))]
     fn push_plain<'a>(&mut self, quote: char, text: &'a str) -> Result<&'a str, AllocError>
     {
@@ -165,7 +165,7 @@ impl TextBuilder {
         Ok(rest)
     }
 
-    /// Writes the characters of the text between these quotes.
+    /// Writes the characters of the text for a literal in these quotes. Out of memory is the only error.
     ///
     /// # Contract
     ///
@@ -187,9 +187,9 @@ impl TextBuilder {
     }
 }
 
-/// How many bytes at the front are ASCII characters that stand for themselves between these quotes.
+/// Returns how many of the first bytes are ASCII characters that need no escape between these quotes.
 ///
-/// Words of 8 bytes pay from two words on.
+/// Words of 8 bytes are faster from two words on.
 fn count_plain(bytes: &[u8], quote: char) -> usize
 {
     if quote == '"' && bytes.len() >= 16 {
@@ -199,7 +199,7 @@ fn count_plain(bytes: &[u8], quote: char) -> usize
     }
 }
 
-/// How many bytes at the front stand for themselves between these quotes, by one byte after the other.
+/// Does what `count_plain` does, one byte at a time.
 fn count_by_bytes(bytes: &[u8], quote: char) -> usize
 {
     let mut count = 0;
@@ -212,14 +212,14 @@ fn count_by_bytes(bytes: &[u8], quote: char) -> usize
     count
 }
 
-/// Whether the byte is an ASCII character that prints and is neither this quote nor a backslash.
+/// Returns whether the byte is a printable ASCII character and neither this quote nor a backslash.
 #[cfg_attr(not(debug_assertions), inline(always))]
 pub(crate) fn stands_for_itself(byte: u8, quote: char) -> bool
 {
     byte >= b' ' && byte < 0x7F && byte != b'\\' && char::from(byte) != quote
 }
 
-/// Whether the text begins with one of the digits 0 to 7.
+/// Returns whether the text begins with one of the digits 0 to 7.
 ///
 /// # Contract
 ///
@@ -236,7 +236,7 @@ pub fn begins_octal(text: &str) -> bool
     }
 }
 
-/// Whether the character stands for itself in a string literal, by the rule `bare`.
+/// Returns whether the character needs no escape in a string literal, quotes and backslashes aside (`bare`).
 ///
 /// # Contract
 ///
@@ -251,7 +251,7 @@ pub fn is_bare(c: char) -> bool
     !hides(GeneralCategory::for_char(c))
 }
 
-/// Whether characters of the category show on their neighbours or not at all, by the rule `hidden`.
+/// Returns whether characters of this category are invisible, or show only on their neighbours (`hidden`).
 fn hides(category: GeneralCategory) -> bool
 {
     matches!(

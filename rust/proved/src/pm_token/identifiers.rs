@@ -22,7 +22,7 @@ pub struct Ident {
 }
 
 impl Ident {
-    /// The identifier of this name, which has no `r#`.
+    /// Makes the identifier of this name, which has no `r#`. Out of memory is the only error.
     #[cfg_attr(not(debug_assertions), inline(always))]
     pub(crate) fn from_parts(
         name: &str,
@@ -36,13 +36,13 @@ impl Ident {
         })
     }
 
-    /// Drops the identifier, part by part, so that a short name need not be in memory.
+    /// Drops the identifier field by field, so that a short name need not be written to memory first.
     #[cfg_attr(not(debug_assertions), inline(always))]
     pub(crate) fn discard(self) {
         self.name.discard();
     }
 
-    /// The identifier of this name, if the name has no fault.
+    /// Makes the identifier of this name, if the name is valid.
     #[cfg_attr(not(debug_assertions), inline(always))]
     fn checked(name: &str, raw: bool, span: Span) -> Result<Ident, IdentError>
     {
@@ -52,13 +52,14 @@ impl Ident {
         }
     }
 
-    /// The plain identifier of this name, which stands at this span. A keyword is one too: `fn` as the
-    /// name of a variable is found out only by who compiles what is printed.
+    /// Makes the plain identifier of this name, with this span.
     ///
-    /// Refused, by the rule `identifier-fault`, with the first of these that holds: `Empty` where the
-    /// name has no character; `Number` where it has ASCII digits only; `Invalid` where it isn't a
-    /// character that may begin an identifier and then characters that may go on with one. Only a
-    /// name without a fault is refused for `Memory`. `255` is a `Number`, and `r#a` is `Invalid`.
+    /// Keywords are accepted: only a compiler of the printed tokens rejects `fn` as the name of a variable.
+    ///
+    /// The error is the first that is true of the name (`identifier-fault`). `Empty` means that the name has no
+    /// characters, and `Number` that it has only ASCII digits. `Invalid` means that it is not a character that
+    /// may begin an identifier, followed by characters that may continue one. `Memory` comes only for a valid
+    /// name. `255` is a `Number`, and `r#a` is `Invalid`.
     ///
     /// # Contract
     ///
@@ -85,10 +86,10 @@ impl Ident {
         Ident::checked(name, false, span)
     }
 
-    /// The raw identifier of this name, given without `r#`, which stands at this span.
+    /// Makes the raw identifier of this name, which is given without `r#`, with this span.
     ///
-    /// Refused as by [`new`](Ident::new), and then with `Reserved` where the name is `_`, `super`,
-    /// `self`, `Self` or `crate`. `fn` makes `r#fn`.
+    /// The errors are those of [`new`](Ident::new), and then `Reserved` if the name is `_`, `super`, `self`,
+    /// `Self` or `crate`. The name `fn` makes `r#fn`.
     ///
     /// # Contract
     ///
@@ -115,10 +116,10 @@ impl Ident {
         Ident::checked(name, true, span)
     }
 
-    /// Whether `text` is how the identifier is written: a raw `a` is `r#a`, and not `a`.
+    /// Returns whether `text` is how the identifier is written: a raw `a` is written `r#a`, and not `a`.
     ///
-    /// Of a text that a program writes out, as in `name.eq_str("fn")`, a proof learns by `spelled` that
-    /// the identifier is written `fn`: `spelled (codes "fn")` computes to `codes "fn"`.
+    /// If the text is a constant, as in `name.eq_str("fn")`, the clause `spelled` gives a proof that the
+    /// identifier is written `fn`: `spelled (codes "fn")` computes to `codes "fn"`.
     ///
     /// # Contract
     ///
@@ -136,16 +137,17 @@ impl Ident {
     #[cfg_attr(not(debug_assertions), inline(always))]
     pub fn eq_str(&self, text: &str) -> bool
 
-        // The same, in words that compute for an ASCII text that is known.
+        // These two clauses compute if the text is a constant and ASCII.
     {
-        // Mostly it is plain and short. The text comes first, as its length is often known to who compiles this.
+        // Most identifiers are plain and short. The text comes first, because the compiler often knows its
+        // length.
         match self.name.plain_bytes() {
             Some(name) => text.as_bytes() == name,
             None => self.is_written(text),
         }
     }
 
-    /// The same, of any identifier.
+    /// Does what `eq_str` does, for any identifier.
     #[inline(never)]
     fn is_written(&self, text: &str) -> bool
     {
@@ -159,9 +161,9 @@ impl Ident {
         }
     }
 
-    /// The first byte that the identifier is written with: `a` of `ab`, and `r` of a raw `ab`.
+    /// Returns the first byte of the identifier as it is written: `a` for `ab`, and `r` for a raw `ab`.
     ///
-    /// A caller that looks for one of many words has to compare only those that begin so.
+    /// A caller that looks for one of many words needs to compare only those that begin with this byte.
     ///
     /// # Contract
     ///
@@ -181,21 +183,21 @@ impl Ident {
         }
     }
 
-    /// The name, without `r#`.
+    /// Returns the name, without `r#`.
     #[cfg_attr(not(debug_assertions), inline(always))]
     pub(crate) fn name(&self) -> &str
     {
         self.name.as_str()
     }
 
-    /// Whether it is raw.
+    /// Returns whether the identifier is raw.
     #[cfg_attr(not(debug_assertions), inline(always))]
     pub(crate) fn is_raw(&self) -> bool
     {
         self.name.is_raw()
     }
 
-    /// Where it stands. Proofs learn by it what every identifier is (`built`).
+    /// Returns the identifier's span. Its contract also gives what is true of every identifier (`built`).
     ///
     /// # Contract
     ///
@@ -208,12 +210,12 @@ impl Ident {
     pub fn span(&self) -> Span
     {
         let Ident { span, .. } = self;
-        // It computes nothing: proofs learn that the span is in order.
+        // This computes nothing. It shows to the proof that the span does not end before it begins.
         bounds(*span);
         *span
     }
 
-    /// Sets where it stands.
+    /// Sets the identifier's span, and changes nothing else.
     ///
     /// # Contract
     ///
@@ -224,8 +226,8 @@ impl Ident {
     }
 }
 
-/// The same identifier, with the same span. It takes no memory. A name of more than 22 bytes is shared, and the copy
-/// fails where it has more owners than can be counted.
+/// Copies the identifier with its span. This allocates nothing, because a name of more than 22 bytes is shared.
+/// The copy fails if such a name has more owners than can be counted.
 impl TryClone for Ident {
     #[cfg_attr(not(debug_assertions), inline(always))]
     fn try_clone(&self) -> Result<Ident, AllocError> {

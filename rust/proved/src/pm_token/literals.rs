@@ -20,14 +20,14 @@ use crate::pm_span::parts::bounds;
 use crate::shim::alloc::AllocError;
 use crate::shim::fmt;
 
-/// A literal: a string, a character, a number, by its text.
+/// A literal: a string, a character, a byte or a number, kept as its text.
 pub struct Literal {
     text: Symbol,
     span: Span,
 }
 
 impl Literal {
-    /// The literal of this text, where it stands. Fails where memory runs out.
+    /// Makes the literal of this text, with this span. Out of memory is the only error.
     #[cfg_attr(not(debug_assertions), inline(always))]
     pub(crate) fn from_parts(text: &str, span: Span) -> Result<Literal, AllocError>
     {
@@ -37,7 +37,7 @@ impl Literal {
         })
     }
 
-    /// The literal as it is written, with its quotes, its suffix and the `-` that may stand before it.
+    /// Returns the literal as it is written, with its quotes, its suffix and a `-` before a negative number.
     ///
     /// # Contract
     ///
@@ -50,8 +50,8 @@ impl Literal {
         self.text.as_str()
     }
 
-    /// Where it stands. Proofs learn by it what the text of every literal is: a `literal-token` or,
-    /// outside of streams, a `negative-literal`.
+    /// Returns the literal's span. Its contract also gives what is true of every literal's text: it is a
+    /// `literal-token` or, outside of streams, a `negative-literal`.
     ///
     /// # Contract
     ///
@@ -62,12 +62,12 @@ impl Literal {
     /// [IsLiteralText]: crate::contracts#pm_token.LiteralText.IsLiteralText
     pub fn span(&self) -> Span
     {
-        // It computes nothing: proofs learn that the span is in order.
+        // This computes nothing. It shows to the proof that the span does not end before it begins.
         bounds(self.span);
         self.span
     }
 
-    /// Sets where it stands, and changes nothing else.
+    /// Sets the literal's span, and changes nothing else.
     ///
     /// # Contract
     ///
@@ -78,8 +78,8 @@ impl Literal {
     }
 }
 
-/// The same literal, with the same span. A text of more than 22 bytes is shared, or copied where it begins with `-`.
-/// The copy fails where the text has more owners than can be counted, or memory runs out.
+/// Copies the literal with its span. A text of more than 22 bytes is shared, but copied if it begins with `-`.
+/// The copy fails if a shared text has more owners than can be counted, or if memory runs out.
 impl TryClone for Literal {
     #[cfg_attr(not(debug_assertions), inline(always))]
     fn try_clone(&self) -> Result<Literal, AllocError> {

@@ -9,17 +9,17 @@ use crate::pm_span::parts::bounds;
 use crate::shim::alloc::AllocError;
 use crate::shim::fmt;
 
-/// Whether a mark goes together with what follows right after it, as far as the text tells.
+/// Whether a punctuation mark is joint with what directly follows it.
 #[derive(Clone, Copy, Debug, PartialEq, Eq)]
 pub enum Spacing {
-    /// It doesn't. The marks that a doc comment gives are Alone too.
+    /// The mark is not joint. The marks made from a doc comment are also `Alone`.
     Alone,
-    /// One of the 22 mark characters follows, and no comment begins there (`joint`); or the mark is a
-    /// `'` with its identifier (`lone-quote`). At `+=` the `+` is Joint, and at `'a` the `'`.
+    /// One of the 22 mark characters directly follows, and no comment begins there (`joint`). Or the mark is
+    /// the `'` before its identifier (`lone-quote`). In `+=` the `+` is `Joint`, and in `'a` the `'`.
     Joint,
 }
 
-/// A punctuation mark, which is one character, by the rule `marks`.
+/// A punctuation mark, which is one character (`marks`).
 pub struct Punct {
     mark: char,
     spacing: Spacing,
@@ -27,9 +27,9 @@ pub struct Punct {
 }
 
 impl Punct {
-    /// Whether the character is one of the 22 punctuation marks (`marks`).
+    /// Returns whether the character is one of the 22 punctuation marks (`marks`).
     ///
-    /// `+` and `'` are, and `_`, `(` and `"` are not.
+    /// `+` and `'` are punctuation marks; `_`, `(` and `"` are not.
     ///
     /// # Contract
     ///
@@ -41,10 +41,10 @@ impl Punct {
         crate::lexical::is_mark(c)
     }
 
-    /// The punctuation mark of this character, with the span 0..0. It takes no memory.
+    /// Makes the punctuation mark of this character, with the span 0..0. This allocates nothing.
     ///
-    /// The character is one of the 22 `marks`: [`Punct::is_punct_char`] is the test. Of `'+'` it prints
-    /// `+`, whatever its spacing.
+    /// The character must be one of the 22 `marks`; [`Punct::is_punct_char`] tests this. The mark of `'+'`
+    /// prints as `+`, whatever its spacing.
     ///
     /// # Contract
     ///
@@ -70,7 +70,7 @@ impl Punct {
         }
     }
 
-    /// The mark's character.
+    /// Returns the mark's character.
     ///
     /// # Contract
     ///
@@ -81,7 +81,7 @@ impl Punct {
         self.mark
     }
 
-    /// Whether it goes together with what follows right after it.
+    /// Returns whether the mark is joint with what directly follows it.
     ///
     /// # Contract
     ///
@@ -92,7 +92,7 @@ impl Punct {
         self.spacing
     }
 
-    /// Where it stands. Proofs learn by it what every mark is (`built`).
+    /// Returns the mark's span. Its contract also gives what is true of every mark (`built`).
     ///
     /// # Contract
     ///
@@ -104,12 +104,12 @@ impl Punct {
     /// [mark_token]: crate::contracts#pm_token.Leaf.mark_token
     pub fn span(&self) -> Span
     {
-        // It computes nothing: proofs learn that the span is in order.
+        // This computes nothing. It shows to the proof that the span does not end before it begins.
         bounds(self.span);
         self.span
     }
 
-    /// Sets where it stands, and changes nothing else.
+    /// Sets the mark's span, and changes nothing else.
     ///
     /// # Contract
     ///
@@ -120,7 +120,7 @@ impl Punct {
     }
 }
 
-/// The same mark, with the same span. It takes no memory.
+/// Copies the mark with its span. This allocates nothing.
 impl TryClone for Punct {
     #[cfg_attr(not(debug_assertions), inline(always))]
     fn try_clone(&self) -> Result<Punct, AllocError> {
@@ -142,8 +142,8 @@ impl fmt::Display for Punct {
 
 crate::shim::display!(Punct);
 
-/// The text of a mark.
-// A text of one byte is written by one store, where a character would be encoded first.
+/// Returns the text of a mark.
+// A text of one byte is written by one store; a character would have to be encoded first.
 #[cfg_attr(not(debug_assertions), inline(always))]
 fn text_of(mark: char) -> &'static str
 {

@@ -1,5 +1,5 @@
 // Made from crates/pm_token/src/parts.rt by rust/erase: change that file, not this one.
-//! What the crates above make tokens of, and users don't.
+//! Calls for the crates that make tokens. Users of the library do not need them.
 
 use crate::pm_token::errors::LexError;
 pub use crate::pm_token::escapes::{TextBuilder, begins_octal, is_bare};
@@ -11,8 +11,8 @@ use crate::pm_span::parts::bounds;
 use crate::shim::alloc::AllocError;
 use crate::shim::fmt;
 
-/// The identifier of this name, which has no `r#` even if it is raw. Fails where memory runs out.
-// Inlined, as it is what most pieces of a text become.
+/// Makes the identifier of this name, which has no `r#` even if it is raw. Out of memory is the only error.
+// Inlined, because most tokens of a text are identifiers.
 #[cfg_attr(not(debug_assertions), inline(always))]
 /// # Contract
 ///
@@ -29,7 +29,7 @@ pub fn ident(name: &str, raw: bool, span: Span) -> Result<Ident, AllocError>
     Ident::from_parts(name, raw, span)
 }
 
-/// The name of the identifier, without `r#` even if it is raw. It is lent, and nothing is copied.
+/// Borrows the name of the identifier, without `r#` even if it is raw. Nothing is copied.
 ///
 /// # Contract
 ///
@@ -42,7 +42,7 @@ pub fn name_of(ident: &Ident) -> &str
     ident.name()
 }
 
-/// Whether the identifier is raw.
+/// Returns whether the identifier is raw.
 ///
 /// # Contract
 ///
@@ -53,16 +53,16 @@ pub fn is_raw(ident: &Ident) -> bool
     ident.is_raw()
 }
 
-/// Drops the identifier, as `drop` does, but part by part and inlined.
+/// Drops the identifier, as `drop` does, but field by field and inlined.
 ///
-/// `drop` takes the address of the whole identifier, so that one that was just moved out of a list is first written to
-/// the stack. Here a short name, which owns no memory, costs nothing.
+/// `drop` takes the address of the whole identifier. So an identifier that was just moved out of a list would
+/// first be written to the stack. Here a short name, which owns no memory, costs nothing.
 #[cfg_attr(not(debug_assertions), inline(always))]
 pub fn discard(ident: Ident) {
     ident.discard();
 }
 
-/// The mark of this character.
+/// Makes the mark of this character.
 ///
 /// # Contract
 ///
@@ -76,7 +76,7 @@ pub fn punct(mark: char, spacing: Spacing, span: Span) -> Punct
     Punct::from_parts(mark, spacing, span)
 }
 
-/// The literal of this text, by the rule `literal-token`. Fails where memory runs out.
+/// Makes the literal of this text (`literal-token`). Out of memory is the only error.
 ///
 /// # Contract
 ///
@@ -93,8 +93,8 @@ pub fn literal(text: &str, span: Span) -> Result<Literal, AllocError>
     Literal::from_parts(text, span)
 }
 
-/// The `-` of a negative literal, Alone, and the rest, both with the literal's span. Of any other
-/// literal there is no mark, and the rest is the literal. It takes no memory.
+/// Splits a negative literal into its `-`, which is `Alone`, and its number. Both have the literal's span. Any
+/// other literal is returned whole, without a mark. This allocates nothing.
 ///
 /// # Contract
 ///
@@ -113,7 +113,7 @@ pub fn split_minus(literal: Literal) -> (Option<Punct>, Literal)
     literal.split_minus()
 }
 
-/// The string literal of the text. Fails where memory runs out.
+/// Makes the string literal of the text. Out of memory is the only error.
 ///
 /// # Contract
 ///
@@ -128,7 +128,7 @@ pub fn string_literal(text: &str, span: Span) -> Result<Literal, AllocError>
     Literal::string_at(text, span)
 }
 
-/// The fault that stands at this span.
+/// Makes the syntax error with this span.
 ///
 /// # Contract
 ///

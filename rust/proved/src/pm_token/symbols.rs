@@ -1,5 +1,5 @@
 // Made from crates/pm_token/src/symbols.rt by rust/erase: change that file, not this one.
-//! The text of a token, kept once.
+//! The texts of tokens.
 
 use crate::shim::prelude::{Box, Grow, GrowText, TryClone};
 
@@ -13,8 +13,8 @@ use short::{ROOM, Short};
 use crate::shim::alloc::AllocError;
 use crate::shim::fmt;
 
-/// A short text, in place, or a long one, behind a pointer. One that begins with `-` has a block of its own, so that
-/// the `-` can be taken away without memory.
+/// A text: a short one in place, or a long one in memory that copies share. A long text that begins with `-` is
+/// not shared, so that the `-` can be removed without an allocation.
 enum Text {
     Short(Short),
     Long(Unsigned),
@@ -22,7 +22,7 @@ enum Text {
 }
 
 impl Text {
-    /// A copy of a long text. Fails where memory runs out.
+    /// Copies a long text. Out of memory is the only error.
     fn long(text: &str) -> Result<Text, AllocError>
     {
         if is_negative(text) {
@@ -31,7 +31,7 @@ impl Text {
         Ok(Text::Long(Unsigned::new(Shared::new(text)?)))
     }
 
-    /// The long text itself. Fails where memory runs out.
+    /// Takes a long text without a copy. Out of memory is the only error.
     fn long_from_string(text: String) -> Result<Text, AllocError>
     {
         if is_negative(text.as_str()) {
@@ -40,7 +40,7 @@ impl Text {
         Ok(Text::Long(Unsigned::new(Shared::from_string(text)?)))
     }
 
-    /// A copy of the text. Fails where memory runs out.
+    /// Copies the text. Out of memory is the only error.
     #[cfg_attr(not(debug_assertions), inline(always))]
     fn new(text: &str) -> Result<Text, AllocError>
     {
@@ -51,8 +51,8 @@ impl Text {
         }
     }
 
-    /// The text itself if it is long, and a copy if it is short. Fails where memory runs out, which a
-    /// short text doesn't take.
+    /// Takes the text without a copy if it is long, and copies it if it is short. Out of memory is the only
+    /// error; a short text needs no memory.
     fn from_string(text: String) -> Result<Text, AllocError>
     {
         if text.len() <= ROOM {
@@ -63,7 +63,7 @@ impl Text {
     }
 }
 
-/// The same text, which a long one shares. It fails as the copy of a literal does.
+/// Copies the text; a long one is shared, unless it begins with `-`. The errors are those of a literal's copy.
 impl TryClone for Text {
     #[cfg_attr(not(debug_assertions), inline(always))]
     fn try_clone(&self) -> Result<Text, AllocError> {
@@ -77,7 +77,7 @@ impl TryClone for Text {
 
 crate::shim::copied!(Text);
 
-/// Whether the text begins with `-`.
+/// Returns whether the text begins with `-`.
 fn is_negative(text: &str) -> bool
 {
     match text.chars().next() {
@@ -86,7 +86,7 @@ fn is_negative(text: &str) -> bool
     }
 }
 
-/// Takes away the `-` that the text begins with, and answers whether there was one.
+/// Removes the `-` that the text begins with, and returns whether there was one.
 fn strip_minus(text: &mut String) -> bool
 {
     match text.as_str().chars().next() {
@@ -98,13 +98,13 @@ fn strip_minus(text: &mut String) -> bool
     }
 }
 
-/// The text that a token owns: a literal, in characters.
+/// The text of a literal. Contracts speak of its characters.
 pub struct Symbol {
     text: Text,
 }
 
 impl Symbol {
-    /// Keeps a copy of the text. Fails where memory runs out.
+    /// Copies the text. Out of memory is the only error.
     ///
     /// # Contract
     ///
@@ -120,7 +120,7 @@ impl Symbol {
         })
     }
 
-    /// Keeps the text. Fails where memory runs out.
+    /// Takes the text. Out of memory is the only error.
     ///
     /// # Contract
     ///
@@ -138,7 +138,7 @@ impl Symbol {
         })
     }
 
-    /// Both texts, one after the other, if together they are short. It takes no memory.
+    /// Returns both texts joined, if the result is short. This allocates nothing.
     ///
     /// # Contract
     ///
@@ -159,8 +159,8 @@ impl Symbol {
         })
     }
 
-    /// The number in decimal digits, behind a `-` where it is negative, and what follows it, if together they are
-    /// short. It takes no memory.
+    /// Returns a number in decimal digits, after a `-` if it is negative, joined with `suffix`, if the result
+    /// is short. This allocates nothing.
     #[cfg_attr(not(debug_assertions), inline(always))]
     pub(crate) fn number(negative: bool, value: u64, suffix: &str) -> Option<Symbol>
     {
@@ -169,7 +169,7 @@ impl Symbol {
         })
     }
 
-    /// Both texts, one after the other. Fails where memory runs out, which texts that are short together don't take.
+    /// Returns both texts joined. Out of memory is the only error; a short result needs no memory.
     ///
     /// # Contract
     ///
@@ -188,7 +188,7 @@ impl Symbol {
         }
     }
 
-    /// The same of texts that are long together.
+    /// Does what `concat` does, if the result is long.
     fn long_concat(front: &str, back: &str) -> Result<Symbol, AllocError>
     {
         let mut text = String::with_capacity_fallibly(front.len() + back.len())?;
@@ -197,7 +197,7 @@ impl Symbol {
         Symbol::from_string(text)
     }
 
-    /// Takes away the `-` that the text begins with, and answers whether there was one.
+    /// Removes the `-` that the text begins with, and returns whether there was one.
     ///
     /// # Contract
     ///
@@ -210,13 +210,13 @@ impl Symbol {
     {
         match &mut self.text {
             Text::Short(text) => text.strip_minus(),
-            // It has none.
+            // A shared text never begins with `-`.
             Text::Long(text) => is_negative(text.as_str()),
             Text::Negative(text) => strip_minus(text),
         }
     }
 
-    /// The text.
+    /// Returns the text.
     ///
     /// # Contract
     ///
@@ -234,7 +234,7 @@ impl Symbol {
     }
 }
 
-/// The same text, which a long one shares. It fails as the copy of a literal does.
+/// Copies the text; a long one is shared, unless it begins with `-`. The errors are those of a literal's copy.
 impl TryClone for Symbol {
     #[cfg_attr(not(debug_assertions), inline(always))]
     fn try_clone(&self) -> Result<Symbol, AllocError> {

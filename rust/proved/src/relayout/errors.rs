@@ -1,14 +1,14 @@
 // Made from crates/relayout/src/errors.rt by rust/erase: change that file, not this one.
-//! Why no other white space is written.
+//! The error of `relayout` and `with_doc_comments`.
 
 use crate::shim::alloc::AllocError;
 use crate::shim::fmt;
 
-/// Why no other white space is written.
+/// Why `relayout` or `with_doc_comments` returned no text.
 #[derive(Debug, PartialEq, Eq)]
 #[non_exhaustive]
 pub enum RelayoutError {
-    /// Somewhere in the text no piece stands.
+    /// No pieces cover the text: somewhere in it no piece begins.
     NoPiece,
     /// Memory ran out.
     Memory(AllocError),

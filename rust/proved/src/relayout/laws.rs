@@ -1,12 +1,13 @@
 // Made from crates/relayout/src/laws.rt by rust/erase: change that file, not this one.
-//! What is proved of texts with other white space. The functions compute nothing: their contracts are the laws, which
-//! `specs/Laws.antt` states.
+//! The laws about texts with other white space or with doc comments. The functions compute nothing: their contracts are
+//! the laws, which `specs/Laws.antt` and `specs/Commented.antt` state.
 
-/// Where white space becomes other white space, the pieces are the same: some has to stand where some stood and none
-/// where none did, and what follows a line comment begins with LF. Nothing else is asked of it, as no piece looks past
-/// the white space after it.
+/// Changing white space keeps the other pieces of a text, if no run is added or removed and each run after a line
+/// comment begins with LF.
 ///
-/// `a  +b // c` and LF may become `a`, LF, `+b`, tab, `// c` and two LFs.
+/// No other condition is needed, since no piece depends on what follows the white space after it.
+///
+/// Example: `a  +b // c` and LF may become `a`, LF, `+b`, tab, `// c` and two LFs.
 ///
 /// # Contract
 ///
@@ -16,7 +17,7 @@
 pub fn pieces_stay()
 {}
 
-/// Texts with the same pieces but for white characters parse to the same tokens up to spans.
+/// Texts with the same pieces, except for white characters, parse to the same tokens up to spans.
 ///
 /// # Contract
 ///
@@ -26,11 +27,12 @@ pub fn pieces_stay()
 pub fn tokens_stay()
 {}
 
-/// Where doc comments stand in the place of the attributes that they are read as, the text parses to the same tokens up
-/// to spans. Each attribute has to begin its line, end it, and have a text that a comment of one line gives
-/// (`doc-line`): one without LF and CR, and after `///` one that doesn't begin with a slash.
+/// If doc comments replace the attributes that they are read as, the text parses to the same tokens up to spans.
 ///
-/// `#[doc = " a"]` and LF may become `/// a` and LF, and `# ![doc = "/b"]` and LF `//!/b` and LF.
+/// Each attribute must begin its line and end it, and a one-line comment must be able to hold its text (`doc-line`):
+/// the text has no LF and no CR, and after `///` it does not begin with a slash.
+///
+/// Example: `#[doc = " a"]` and LF may become `/// a` and LF, and `# ![doc = "/b"]` and LF may become `//!/b` and LF.
 ///
 /// # Contract
 ///

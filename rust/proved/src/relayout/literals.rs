@@ -1,11 +1,11 @@
 // Made from crates/relayout/src/literals.rt by rust/erase: change that file, not this one.
-//! Texts of string literals, as `Literal::string` writes them.
+//! Reads the text of a string literal that `Literal::string` wrote.
 
 use crate::pm_token::parts::{TextBuilder, is_bare};
 use crate::shim::alloc::AllocError;
 
-/// The characters of ASCII at the front of a literal's content that stand for themselves, and what follows them. `None`
-/// where no quote begins the text.
+/// Returns the ASCII characters at the start of a literal's content that need no escape, and what follows them. Returns
+/// `None` if the text does not begin with a quote.
 #[cfg_attr(not(debug_assertions), inline(always))]
 pub(crate) fn plain_front(text: &str) -> Option<(&str, &str)>
 {
@@ -13,9 +13,10 @@ pub(crate) fn plain_front(text: &str) -> Option<(&str, &str)>
     Some(split_plain(content))
 }
 
-/// The text whose literal has this content, from such a front on, before `]` and LF, and what follows these. `None`
-/// says nothing: characters past ASCII may stand for themselves too, and an escape is a backslash and a letter. It
-/// takes memory only where such a literal stands.
+/// Returns the text of a literal before `]` and LF, and what follows that LF. `front` is the start of the literal's
+/// content that `plain_front` found, and `after` follows it. `None` does not mean that there is no such literal: this
+/// reads only characters without an escape and escapes of one letter. It allocates only if quote, `]` and LF end the
+/// content.
 pub(crate) fn escaped_text<'a>(
     front: &str,
     after: &'a str,
@@ -44,21 +45,21 @@ pub(crate) fn escaped_text<'a>(
     Ok(None)
 }
 
-/// What follows this ASCII front of the text.
+/// Returns what follows `front`, if the text begins with it.
 #[cfg_attr(not(debug_assertions), inline(always))]
 pub(crate) fn strip<'a>(text: &'a str, front: &str) -> Option<&'a str>
 {
     text.strip_prefix(front)
 }
 
-/// The characters of ASCII at the front that stand for themselves in a literal, and what follows them.
+/// Splits off the ASCII characters at the start that need no escape in a literal.
 #[cfg_attr(not(debug_assertions), inline(always))]
 fn split_plain(text: &str) -> (&str, &str)
 {
     text.split_at(plain_size(text.as_bytes()))
 }
 
-/// How many bytes at the front are characters of ASCII that stand for themselves.
+/// Returns how many bytes at the start are ASCII characters that need no escape.
 #[cfg_attr(not(debug_assertions), inline(always))]
 fn plain_size(bytes: &[u8]) -> usize
 {
@@ -72,14 +73,14 @@ fn plain_size(bytes: &[u8]) -> usize
     count
 }
 
-/// Whether the byte is a character of ASCII that stands for itself.
+/// Whether the byte is an ASCII character that needs no escape.
 #[cfg_attr(not(debug_assertions), inline(always))]
 fn is_plain(byte: u8) -> bool
 {
     byte >= b' ' && byte < 0x7F && byte != b'\\' && byte != b'"'
 }
 
-/// How many bytes the content of a literal has at the front, of characters and escapes that `split_unit` may read.
+/// Returns how many bytes at the start may be characters and escapes that `split_unit` reads.
 fn content_size(bytes: &[u8]) -> usize
 {
     let mut count = 0;
@@ -101,7 +102,7 @@ fn is_letter(byte: u8) -> bool {
     matches!(byte, b'\\' | b'"' | b't' | b'n' | b'r')
 }
 
-/// The character that is written at the front, by itself past ASCII or by a short escape, and what follows it.
+/// Splits off the first character, if it needs no escape and is past ASCII, or is written with a short escape.
 fn split_unit(text: &str) -> Option<(char, &str)>
 {
     let (c, after) = split_first(text)?;
@@ -124,13 +125,13 @@ fn split_first(text: &str) -> Option<(char, &str)>
     Some((first, characters.as_str()))
 }
 
-/// Whether the character is past ASCII and stands for itself.
+/// Whether the character is past ASCII and needs no escape.
 fn stands_past_ascii(c: char) -> bool
 {
     !c.is_ascii() && is_bare(c)
 }
 
-/// What this letter means after a backslash, where it is the escape by which a literal has that character.
+/// Returns the character that the escape of this letter means, if `Literal::string` writes it with that escape.
 fn meaning(letter: char) -> Option<char>
 {
     match letter {

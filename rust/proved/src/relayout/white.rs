@@ -1,27 +1,27 @@
 // Made from crates/relayout/src/white.rt by rust/erase: change that file, not this one.
-//! White space, and what stands in its place.
+//! White space, and what replaces it.
 
 use crate::pm_token::parts::TextBuilder;
 use crate::shim::alloc::AllocError;
 
-/// What is to stand in the place of a run of white characters.
+/// What replaces a run of white characters.
 #[derive(Clone, Copy, Debug, PartialEq, Eq)]
 pub enum White {
-    /// The run as it is.
+    /// The run stays as it is.
     Kept,
-    /// A space, or LF right after a line comment.
+    /// One space, or LF if the run follows a line comment.
     Space,
-    /// The run's line ends, each LF or CR LF, with nothing before them, and after the last one tabs and then spaces. A
-    /// run without a line end stays as it is.
+    /// The line ends of the run, each LF or CR LF, and after the last one tabs and then spaces. The run's other
+    /// characters are dropped. A run without a line end stays as it is.
     Lines {
-        /// How many tabs.
+        /// The number of tabs after the last line end.
         tabs: usize,
-        /// How many spaces.
+        /// The number of spaces after the tabs.
         spaces: usize,
     },
 }
 
-/// Writes what is chosen for a run, which may stand right after a line comment.
+/// Writes what the choice puts in place of a run. `line` says whether the run follows a line comment.
 pub(crate) fn push_white(
     out: &mut TextBuilder,
     choice: White,
@@ -52,7 +52,7 @@ fn push_lines(
     push_times(out, ' ', spaces)
 }
 
-/// Writes the run's line ends, and answers whether there are any.
+/// Writes the run's line ends, and returns whether there are any.
 fn push_line_ends(out: &mut TextBuilder, run: &str) -> Result<bool, AllocError>
 {
     let mut ended = false;
@@ -65,7 +65,7 @@ fn push_line_ends(out: &mut TextBuilder, run: &str) -> Result<bool, AllocError>
     Ok(ended)
 }
 
-/// Writes the character if it is LF, after CR or not.
+/// Writes the character if it is LF. `returned` says that a CR precedes it, which is then written before it.
 fn push_line_end(out: &mut TextBuilder, returned: bool, c: char) -> Result<(), AllocError>
 {
     match c {
@@ -78,7 +78,7 @@ fn push_line_end(out: &mut TextBuilder, returned: bool, c: char) -> Result<(), A
     }
 }
 
-/// Writes the character so many times.
+/// Writes the character `count` times.
 fn push_times(out: &mut TextBuilder, c: char, count: usize) -> Result<(), AllocError>
 {
     let mut left = count;

@@ -1,15 +1,17 @@
 // Made from crates/token_buffer/src/arguments.rt by rust/erase: change that file, not this one.
-//! Generic arguments, which stand between marks and in no group.
+//! Finds the end of generic arguments, which are between marks and in no group.
 
 use crate::token_buffer::cursor::{Cursor, TokenText};
 use crate::pm_token::Spacing;
 
 impl<'a> Cursor<'a> {
-    /// The trees after the generic arguments that come first, `<` and all up to its `>`, if they do. A `>` closes the
-    /// last `<` that is open, but for the one of `->`; where more than 4294967295 are open there is no end. It takes
-    /// time in proportion to how many trees it passes.
+    /// Returns the trees after the generic arguments that come first, or `None` if none come first.
     ///
-    /// Of `<Vec<T>, fn() -> T> (x)` it is `(x)`. Of `< (x)` there is none.
+    /// Generic arguments are a `<` and all trees up to its `>`. A `>` closes the last open `<`, unless it is that
+    /// of `->`. If more than 4294967295 are open, the result is `None`. The time is proportional to the number of
+    /// trees passed.
+    ///
+    /// `<Vec<T>, fn() -> T> (x)` gives `(x)`. `< (x)` gives `None`.
     ///
     /// # Contract
     ///
@@ -45,10 +47,10 @@ impl<'a> Cursor<'a> {
         None
     }
 
-    /// The trees after the turbofish that comes first, `::` and [`generic_arguments`](Cursor::generic_arguments), if
-    /// one does.
+    /// Returns the trees after the turbofish that comes first, or `None` if none does. A turbofish is `::` and
+    /// [`generic_arguments`](Cursor::generic_arguments).
     ///
-    /// Of `::<T>(x)` it is `(x)`. Of `::f` there is none.
+    /// `::<T>(x)` gives `(x)`. `::f` gives `None`.
     ///
     /// # Contract
     ///
@@ -72,13 +74,13 @@ impl<'a> Cursor<'a> {
     }
 }
 
-/// Whether it is this mark.
+/// Returns whether the tree is this mark.
 fn is_mark(text: TokenText<'_>, mark: char) -> bool
 {
     matches!(text, TokenText::Punct(found, _) if found == mark)
 }
 
-/// Whether it is the mark `-`, Joint.
+/// Returns whether the tree is a `Joint` `-`.
 fn begins_arrow(text: TokenText<'_>) -> bool
 {
     matches!(text, TokenText::Punct('-', Spacing::Joint))

@@ -1,5 +1,5 @@
 // Made from crates/token_buffer/src/buffer.rt by rust/erase: change that file, not this one.
-//! A text's tokens, one after another.
+//! The tokens of a text, one after another.
 
 use crate::shim::prelude::Grow;
 
@@ -11,22 +11,24 @@ use crate::pm_span::parts::fits_new;
 use crate::pm_stream::reading::read;
 use crate::pm_token::ParseError;
 
-/// The tokens of a text, for [`Cursor`](crate::token_buffer::Cursor)s to read.
+/// The tokens of a text, which [`Cursor`](crate::token_buffer::Cursor)s read.
 ///
-/// It takes 16 bytes a token, and as many for each beginning and each end of a group. Each token's text stays in the
-/// source.
+/// The buffer takes 16 bytes for each token, and for each start and each end of a group. The text of each token
+/// stays in the source.
 pub struct TokenBuffer<'a> {
     text: &'a str,
     entries: Vec<Entry>,
 }
 
 impl<'a> TokenBuffer<'a> {
-    /// The tokens of a text: those of the stream that it parses to (`parses-to`).
+    /// Reads the tokens of a text, which are those of the stream that it parses to (`parses-to`).
     ///
-    /// Positions, and faults, are those of a new map, where the text begins at 1, as `TokenStream::parse_unmapped` has
-    /// them. `TooLong` is answered of a text with more than 4294967295 bytes, and of one without a fault that has more
-    /// tokens, each end of a group counted as one; of a shorter one `Parse(MapFull)` exactly where it has too many
-    /// characters for a new map (`fits`).
+    /// Positions are those of a new map, in which the text begins at 1. Syntax errors are those of
+    /// `TokenStream::parse_unmapped`.
+    ///
+    /// `TooLong` comes if the text has more than 4294967295 bytes, or is valid and has more tokens than that; each
+    /// end of a group counts as a token. A text with fewer bytes gives `Parse(MapFull)` exactly if it has too many
+    /// characters for a new map (`fits`). `Parse(Memory)` comes if memory runs out.
     ///
     /// `a += (b)` has the identifier `a`, the marks `+` and `=`, and the group of `b`.
     ///
@@ -73,7 +75,7 @@ impl<'a> TokenBuffer<'a> {
         };
         let mut filling = Filling {
             text,
-            // A token of code has some four bytes, with the white characters after it.
+            // In source code a token has about four bytes, with the white space after it.
             entries: Vec::with_capacity_fallibly(text.len() / 4)?,
         };
         read(lo, text, &mut filling)?;
@@ -84,7 +86,7 @@ impl<'a> TokenBuffer<'a> {
         Ok(TokenBuffer { text, entries })
     }
 
-    /// A cursor over all its trees.
+    /// Returns a cursor over all trees of the buffer.
     ///
     /// # Contract
     ///

@@ -1,15 +1,16 @@
 // Made from crates/token_buffer/src/compared.rt by rust/erase: change that file, not this one.
-//! Whether two cursors have the same trees left.
+//! Equality of cursors.
 
 use crate::token_buffer::cursor::{Cursor, LiteralText};
 use crate::token_buffer::part::{Part, part_of};
 use crate::token_buffer::string::{is_same, is_string_of};
 
-/// Two cursors are equal if they have the `same` trees left but for their spans, whatever texts they are in.
+/// Two cursors are equal if their remaining trees are the `same` up to spans. They may be in different texts.
 impl<'a> PartialEq for Cursor<'a> {
-    /// It takes no memory, and time in proportion to the entries and texts of the one that has less.
+    /// Returns whether the remaining trees of both are the same. This allocates nothing, and takes time in
+    /// proportion to the entries and texts of the shorter rest.
     ///
-    /// What is left of `/// a` and of `# [doc = " a"]` is equal. `+ =` and `+=` are not.
+    /// The rests `/// a` and `# [doc = " a"]` are equal. `+ =` and `+=` are not.
     fn eq(&self, other: &Cursor<'a>) -> bool
     {
         let text = self.text;
@@ -33,7 +34,7 @@ impl<'a> PartialEq for Cursor<'a> {
 impl<'a> Eq for Cursor<'a> {
 }
 
-/// Whether both are the same.
+/// Returns whether both parts are the same.
 fn are_same(part: Part<'_>, other: Part<'_>) -> bool
 {
     match (part, other) {
@@ -50,7 +51,7 @@ fn are_same(part: Part<'_>, other: Part<'_>) -> bool
     }
 }
 
-/// Whether both literals have the same text.
+/// Returns whether both literals have the same text.
 fn are_same_literals(literal: LiteralText<'_>, other: LiteralText<'_>) -> bool
 {
     match (literal, other) {

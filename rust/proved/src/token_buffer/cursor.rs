@@ -1,15 +1,16 @@
 // Made from crates/token_buffer/src/cursor.rt by rust/erase: change that file, not this one.
-//! A place among the tokens of a buffer.
+//! Cursors over the trees of a buffer.
 
 use crate::token_buffer::entry::Entry;
 use crate::pm_span::Span;
 use crate::pm_span::parts::{char_count, span_of};
 use crate::pm_token::{Delimiter, Spacing};
 
-/// The trees of a buffer, or of a group in it, from one on. It is copied freely, and lends the texts of its tokens.
+/// The remaining trees of a buffer, or of a group in it. A cursor is cheap to copy, and lends the texts of its
+/// tokens.
 ///
-/// What reads trees goes on by the cursors that the calls answer, and backs up by an older one. Each call takes the
-/// same time whatever is left, and no memory, but those that say otherwise.
+/// A reader goes on with the cursors that the calls return, and backs up with an older one. Each call takes
+/// constant time and allocates nothing, unless its comment says otherwise.
 #[derive(Clone, Copy)]
 pub struct Cursor<'a> {
     pub(crate) text: &'a str,
@@ -21,7 +22,7 @@ pub struct Cursor<'a> {
 pub struct Name<'a> {
     /// Whether it is written with `r#`.
     pub raw: bool,
-    /// Its name, without `r#`.
+    /// The name, without `r#`.
     pub text: &'a str,
 }
 
@@ -30,11 +31,12 @@ pub struct Name<'a> {
 pub enum LiteralText<'a> {
     /// The literal as it is written.
     Source(&'a str),
-    /// What a doc comment says. The literal is the string of it (`string-text`), which isn't written anywhere.
+    /// The text of a doc comment. The literal is the string of this text (`string-text`), which is not in the
+    /// source.
     Doc(&'a str),
 }
 
-/// A tree, by its text.
+/// A token by its text, or a group.
 #[derive(Clone, Copy)]
 pub enum TokenText<'a> {
     /// An identifier.
@@ -43,18 +45,18 @@ pub enum TokenText<'a> {
     Punct(char, Spacing),
     /// A literal.
     Literal(LiteralText<'a>),
-    /// A group, and its trees.
+    /// A group, and a cursor over its trees.
     Group(Delimiter, Cursor<'a>),
 }
 
 impl<'a> Cursor<'a> {
-    /// The cursor over the trees of these entries.
+    /// Makes the cursor over the trees of these entries.
     pub(crate) fn over(text: &'a str, entries: &'a [Entry]) -> Cursor<'a>
     {
         Cursor { text, entries }
     }
 
-    /// Whether no tree is left.
+    /// Returns whether no tree is left.
     ///
     /// # Contract
     ///
@@ -67,9 +69,9 @@ impl<'a> Cursor<'a> {
         self.entries.is_empty()
     }
 
-    /// The first tree and those after it. None at the end.
+    /// Returns the first tree and a cursor over the trees after it, or `None` at the end.
     ///
-    /// Of `a (b)` it is the identifier `a`, and what is left is the group.
+    /// In `a (b)` the first tree is the identifier `a`, and the group is left.
     ///
     /// # Contract
     ///
@@ -160,7 +162,7 @@ impl<'a> Cursor<'a> {
         }
     }
 
-    /// The trees after the first one, which may be a group. None at the end.
+    /// Returns a cursor over the trees after the first one, or `None` at the end. The first tree may be a group.
     ///
     /// # Contract
     ///
@@ -179,10 +181,11 @@ impl<'a> Cursor<'a> {
         Some(rest)
     }
 
-    /// Where the first tree stands, in characters, a group with its delimiters. None at the end.
+    /// Returns the span of the first tree, or `None` at the end.
     ///
-    /// It takes time proportional to the length of its text where that is an identifier or a literal. Of a text `(b)`
-    /// it is 1..4.
+    /// The span is in characters, and that of a group includes its delimiters. The time is proportional to the
+    /// text's length if the tree is an identifier or a literal, and else constant. In a text `(b)` the span is
+    /// 1..4.
     ///
     /// # Contract
     ///
@@ -243,7 +246,7 @@ impl<'a> Cursor<'a> {
         }
     }
 
-    /// The identifier that comes first, if one does, and the trees after it.
+    /// Returns the identifier that comes first and the trees after it, or `None` if none comes first.
     ///
     /// # Contract
     ///
@@ -265,7 +268,7 @@ impl<'a> Cursor<'a> {
         }
     }
 
-    /// The mark that comes first, if one does, with its spacing, and the trees after it.
+    /// Returns the mark that comes first, its spacing and the trees after it, or `None` if none comes first.
     ///
     /// # Contract
     ///
@@ -287,7 +290,7 @@ impl<'a> Cursor<'a> {
         }
     }
 
-    /// The literal that comes first, if one does, and the trees after it.
+    /// Returns the literal that comes first and the trees after it, or `None` if none comes first.
     ///
     /// # Contract
     ///
@@ -309,8 +312,9 @@ impl<'a> Cursor<'a> {
         }
     }
 
-    /// The name of the lifetime that comes first, if one does, and the trees after it: of `'a` the mark `'`, Joint,
-    /// and the identifier `a`.
+    /// Returns the name of the lifetime that comes first and the trees after it, or `None` if none comes first.
+    ///
+    /// The lifetime `'a` is the mark `'`, which is `Joint`, and the identifier `a`.
     ///
     /// # Contract
     ///
@@ -335,7 +339,8 @@ impl<'a> Cursor<'a> {
         }
     }
 
-    /// The trees in the group that comes first, if one does that is delimited so, and the trees after it.
+    /// Returns the trees in the group that comes first and the trees after it, or `None` if no group with this
+    /// delimiter comes first.
     ///
     /// # Contract
     ///
@@ -355,7 +360,8 @@ impl<'a> Cursor<'a> {
         }
     }
 
-    /// The delimiter and the trees of the group that comes first, if one does, and the trees after it.
+    /// Returns the delimiter and the trees of the group that comes first and the trees after it, or `None` if none
+    /// comes first.
     ///
     /// # Contract
     ///
@@ -376,7 +382,7 @@ impl<'a> Cursor<'a> {
     }
 }
 
-/// The position where the group of a closer ends, and 0 of what is no closer.
+/// Returns the position at which a closer's group ends, or 0 for any other entry.
 fn closer_end(entry: Entry) -> u32
 {
     match entry {
@@ -388,7 +394,7 @@ fn closer_end(entry: Entry) -> u32
     }
 }
 
-/// The spacing of a mark.
+/// Returns the spacing of a mark.
 fn spacing(joint: bool) -> Spacing
 {
     if joint {

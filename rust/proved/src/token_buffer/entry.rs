@@ -1,13 +1,13 @@
 // Made from crates/token_buffer/src/entry.rt by rust/erase: change that file, not this one.
-//! What a buffer is made of.
+//! The entries of a buffer.
 
 use crate::pm_token::Delimiter;
 
-/// A token, or where a group begins or ends. `lo` and `hi` are byte offsets into the text, `at` and `end` positions
-/// in characters.
+/// A token, or the start or the end of a group. `lo` and `hi` are byte offsets in the text; `at` and `end` are
+/// positions, in characters.
 #[derive(Clone, Copy)]
 pub enum Entry {
-    /// An identifier. Its name, without `r#`, stands from `lo` to `hi`.
+    /// An identifier. Its name, without `r#`, is the text from `lo` to `hi`.
     Name {
         raw: bool,
         lo: u32,
@@ -27,13 +27,13 @@ pub enum Entry {
         hi: u32,
         at: u32,
     },
-    /// A group begins, with so many entries inside.
+    /// The start of a group, with the number of entries inside.
     Open {
         delimiter: Delimiter,
         at: u32,
         count: u32,
     },
-    /// A group ends.
+    /// The end of a group.
     Close {
         delimiter: Delimiter,
         end: u32,
@@ -43,7 +43,8 @@ pub enum Entry {
         at: u32,
         end: u32,
     },
-    /// The literal of a doc comment, whose text stands from `lo` to `hi`. So many characters of the comment follow it.
+    /// The literal of a doc comment, whose text is from `lo` to `hi`. The comment has `closing` more characters
+    /// after it.
     DocText {
         closing: u8,
         lo: u32,

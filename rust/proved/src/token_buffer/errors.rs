@@ -1,23 +1,23 @@
 // Made from crates/token_buffer/src/errors.rt by rust/erase: change that file, not this one.
-//! Why a buffer isn't made.
+//! The errors of a buffer that can't be made.
 
 use crate::pm_span::Span;
 use crate::pm_token::ParseError;
 use crate::shim::alloc::{AllocError, AllocFailed};
 use crate::shim::fmt;
 
-/// Why a buffer was not made.
+/// The reason why a buffer was not made.
 #[derive(Debug, PartialEq)]
 #[non_exhaustive]
 pub enum BufferError {
-    /// The text wasn't read.
+    /// The text could not be read.
     Parse(ParseError),
-    /// The text has more than 4294967295 bytes, or more tokens.
+    /// The text has more than 4294967295 bytes, or more than 4294967295 tokens.
     TooLong,
 }
 
 impl BufferError {
-    /// Where the fault of the text stands, as [`ParseError::span`] has it; `None` if the text has no fault.
+    /// Returns the span of a syntax error, as [`ParseError::span`] does, or `None` for the other errors.
     ///
     /// # Contract
     ///

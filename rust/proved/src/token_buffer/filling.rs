@@ -1,5 +1,5 @@
 // Made from crates/token_buffer/src/filling.rt by rust/erase: change that file, not this one.
-//! From the tokens of a text to the entries of its buffer.
+//! Makes the entries of a buffer from the tokens of its text.
 
 use crate::shim::prelude::Grow;
 
@@ -8,24 +8,24 @@ use crate::pm_stream::reading::{Lexed, TokenSink};
 use crate::pm_token::Delimiter;
 use crate::shim::alloc::AllocError;
 
-/// One more than the largest count of entries that an opener can keep.
+/// One more than the largest number of entries that an opener can count.
 const COUNTS: usize = u32::MAX as usize + 1;
 
-/// What was put into a buffer so far.
+/// A buffer while its text is read.
 pub struct Filling<'t> {
     /// The whole text.
     pub text: &'t str,
-    /// The entries of all tokens.
+    /// The entries of all tokens so far.
     pub entries: Vec<Entry>,
 }
 
 /// A group whose closer is still to come.
 pub struct OpenGroup {
-    /// What stands around it.
+    /// The delimiter of the group.
     delimiter: Delimiter,
     /// The position of its opener.
     lo: u32,
-    /// How many entries stand before that of its opener.
+    /// The index of its opener's entry.
     index: usize,
 }
 
@@ -120,7 +120,7 @@ impl<'t> TokenSink for Filling<'t> {
         self.entries[group.index] = Entry::Open {
             delimiter,
             at: group.lo,
-            // The count of a longer group is wrong, but no buffer is made of so many entries.
+            // The count of a longer group is wrong, but a buffer with so many entries is never returned.
             count: (inside % COUNTS) as u32,
         };
         self.push(Entry::Close {
@@ -131,7 +131,7 @@ impl<'t> TokenSink for Filling<'t> {
 }
 
 impl<'t> Filling<'t> {
-    /// Puts in an entry.
+    /// Adds an entry.
     #[cfg_attr(not(debug_assertions), inline(always))]
     fn push(&mut self, entry: Entry) -> Result<(), AllocError>
     {
@@ -139,8 +139,9 @@ impl<'t> Filling<'t> {
         Ok(())
     }
 
-    /// Puts in a doc comment: the mark `#`, the mark `!` if it is inner, and the group of its text.
-    // Out of line, since few pieces are doc comments. A `Lexed` passed to it would lie in memory for every piece.
+    /// Adds a doc comment: the mark `#`, the mark `!` if it is inner, and the group with its text.
+    // Out of line, since few pieces are doc comments. If it took a `Lexed`, that of every piece would be put in
+    // memory.
     #[inline(never)]
     fn push_doc(&mut self, inner: bool, text: Entry, at: u32, end: u32) -> Result<(), AllocError>
     {
@@ -162,7 +163,7 @@ impl<'t> Filling<'t> {
         })
     }
 
-    /// The byte offsets where a piece begins and where it ends.
+    /// Returns the byte offsets at which a piece begins and ends.
     #[cfg_attr(not(debug_assertions), inline(always))]
     fn bytes(&self, lexed: Lexed<'_>) -> (u32, u32)
     {
@@ -171,7 +172,7 @@ impl<'t> Filling<'t> {
     }
 }
 
-/// A mark that isn't Joint.
+/// Makes the entry of a mark that isn't `Joint`.
 fn alone(mark: char, at: u32, end: u32) -> Entry
 {
     Entry::Mark {

@@ -1,26 +1,26 @@
 // Made from crates/token_buffer/src/part.rt by rust/erase: change that file, not this one.
-//! What an entry says, without where it stands.
+//! The content of an entry, without its position.
 
 use crate::token_buffer::cursor::{LiteralText, Name};
 use crate::token_buffer::entry::Entry;
 use crate::pm_token::Delimiter;
 
-/// A token, or where a group begins or ends.
+/// The content of an entry: a token, or the start or the end of a group.
 #[derive(Clone, Copy)]
 pub enum Part<'a> {
     /// An identifier.
     Ident(Name<'a>),
-    /// A mark, and whether it is Joint.
+    /// A mark, and whether it is `Joint`.
     Punct(char, bool),
     /// A literal.
     Literal(LiteralText<'a>),
-    /// A group begins.
+    /// The start of a group.
     Open(Delimiter),
-    /// A group ends.
+    /// The end of a group.
     Close(Delimiter),
 }
 
-/// What an entry says of its text.
+/// Returns the content of an entry.
 ///
 /// # Contract
 ///

@@ -1,5 +1,5 @@
 // Made from crates/token_buffer/src/string.rt by rust/erase: change that file, not this one.
-//! The string literal of what a doc comment says, which is written nowhere.
+//! The string literal of a doc comment's text, which is not in the source.
 
 use crate::pm_token::parts::{begins_octal, is_bare};
 use crate::shim::fmt;
@@ -7,13 +7,13 @@ use crate::shim::fmt;
 /// How a character is written in a string literal.
 #[derive(Clone, Copy)]
 enum Escape {
-    /// The character stands for itself.
+    /// The character itself.
     Bare(char),
-    /// A backslash, and this character.
+    /// A backslash and this character.
     Short(char),
     /// `\x00`.
     LongZero,
-    /// The character's number, as `\u{1f}`.
+    /// The character's number, such as `\u{1f}`.
     Unicode(char),
 }
 
@@ -66,7 +66,7 @@ pub fn write_one<W: fmt::Write>(c: char, f: &mut fmt::Formatter<W>) -> fmt::Resu
     f.write_char(c)
 }
 
-/// Whether the texts are the same, and so are their string literals.
+/// Returns whether both texts are the same. Their string literals are the same exactly then.
 ///
 /// # Contract
 ///
@@ -82,7 +82,7 @@ pub fn is_same(text: &str, other: &str) -> bool
     text == other
 }
 
-/// Whether the literal is the string literal of the text.
+/// Returns whether `literal` is the string literal of `text`.
 ///
 /// # Contract
 ///
@@ -106,7 +106,7 @@ pub fn is_string_of(literal: &str, text: &str) -> bool
     left == "\""
 }
 
-/// Writes a character as this says.
+/// Writes a character in this way.
 fn write_escape<W: fmt::Write>(escape: Escape, f: &mut fmt::Formatter<W>) -> fmt::Result
 {
     match escape {
@@ -120,7 +120,7 @@ fn write_escape<W: fmt::Write>(escape: Escape, f: &mut fmt::Formatter<W>) -> fmt
     }
 }
 
-/// Writes the character by its number, as `\u{1f}`.
+/// Writes the character as its number, such as `\u{1f}`.
 fn write_unicode<W: fmt::Write>(c: char, f: &mut fmt::Formatter<W>) -> fmt::Result
 {
     for unit in c.escape_unicode() {
@@ -129,7 +129,7 @@ fn write_unicode<W: fmt::Write>(c: char, f: &mut fmt::Formatter<W>) -> fmt::Resu
     Ok(())
 }
 
-/// What follows a character that is written as this says, if the text begins so.
+/// Returns the text after a character that is written in this way, or `None` if the text doesn't begin with that.
 fn after_escape(text: &str, escape: Escape) -> Option<&str>
 {
     match escape {
@@ -140,7 +140,7 @@ fn after_escape(text: &str, escape: Escape) -> Option<&str>
     }
 }
 
-/// What follows the number of the character, as `\u{1f}`, if the text begins so.
+/// Returns the text after the character's number, such as `\u{1f}`, or `None` if the text doesn't begin with that.
 fn after_unicode(text: &str, c: char) -> Option<&str>
 {
     let mut rest = text;
@@ -150,7 +150,7 @@ fn after_unicode(text: &str, c: char) -> Option<&str>
     Some(rest)
 }
 
-/// What follows the character, if the text begins with it.
+/// Returns the text after the character, or `None` if the text doesn't begin with it.
 fn after(text: &str, c: char) -> Option<&str>
 {
     let mut rest = text.chars();
@@ -160,7 +160,7 @@ fn after(text: &str, c: char) -> Option<&str>
     }
 }
 
-/// How a character is written where the rest of the text follows.
+/// Returns how the character is written in a string literal, if `rest` follows it.
 fn escape_of(c: char, rest: &str) -> Escape
 {
     match c {

@@ -1,7 +1,7 @@
 // Made from crates/buffer_tests/src/lib.rt by rust/erase: change that file, not this one.
-//! Tests of token buffers, and of the openers that `explain` tells.
+//! Tests of token buffers, and of the openers that `explain` returns.
 //!
-//! They stand in a crate of their own, since a crate that has tests is proved once more with them.
+//! They are in a crate of their own, because a crate that has tests is proved a second time with them.
 
 #[cfg(test)]
 mod cursors;

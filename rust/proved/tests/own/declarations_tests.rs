@@ -1,5 +1,5 @@
 // Made from crates/declarations_tests/src/lib.rt by rust/erase: change that file, not this one.
-//! Tests of the parts of declarations: texts with the trees that each part takes, or where the fault stands.
+//! Tests of `declarations`: for each text, the number of trees in each part, or where the error is.
 
 #[cfg(test)]
 mod any_items;

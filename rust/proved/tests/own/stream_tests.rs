@@ -1,8 +1,8 @@
 // Made from crates/stream_tests/src/lib.rt by rust/erase: change that file, not this one.
-//! Tests of streams that are read or built, of their laws, of spans and of the source map, where the recorded answers
-//! of `conformance` show nothing.
+//! Tests of parsed and built streams, of their laws, of spans and of the source map, for what the recorded answers of
+//! `conformance` don't cover.
 //!
-//! They stand in a crate of their own, since a crate that has tests is proved once more with them.
+//! They are in a crate of their own, because a crate that has tests is proved a second time with them.
 
 #[cfg(test)]
 mod beginnings;

@@ -1,5 +1,5 @@
 // Made from crates/highlight/src/answer.rt by rust/erase: change that file, not this one.
-//! What the program writes for a text.
+//! Writes a text with its pieces marked.
 
 use crate::highlight::format::Format;
 use crate::highlight::marking::marked;
@@ -7,12 +7,12 @@ use crate::highlight::page::frame_of;
 use crate::messages::Failure;
 use proved_tokens::shim::io::Write;
 
-/// Writes the text with its pieces marked, a page between its head and its foot. All of it stands in
+/// Writes the text with its pieces marked; for a page, between the page's head and foot. The marked text is complete in
 /// memory before the first byte is written.
 ///
-/// What is written is exactly the format's function of the pieces of the text, and of the reason why
-/// what follows them doesn't parse. A reader who leaves out the tags and undoes the escapes sees the
-/// text; for a terminal, a text without ESC. After an error a beginning of what is to be written stands.
+/// The output depends only on the format, the pieces of the text, and the reason why what follows them doesn't parse.
+/// Without tags and with escapes undone, the output is the text; for a terminal this holds if the text has no ESC.
+/// After an error a prefix of the output may have been written.
 pub fn write_marked<W: Write>(
     format: Format,
     text: &str,

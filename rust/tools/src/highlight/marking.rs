@@ -1,5 +1,5 @@
 // Made from crates/highlight/src/marking.rt by rust/erase: change that file, not this one.
-//! A text with its pieces marked.
+//! Marks the pieces of a text.
 
 use crate::highlight::format::Format;
 use crate::highlight::nesting::Nesting;
@@ -11,11 +11,11 @@ use crate::messages::Failure;
 use proved_tokens::proc_macro2::{PieceKind, PlacedPiece, pieces};
 use proved_tokens::shim::alloc::AllocError;
 
-/// The text with its pieces marked.
+/// Returns the text with its pieces marked.
 ///
-/// A closer that matches no opener is marked as a fault, and so is an opener that is never closed, as
-/// far as that is known where the text isn't read whole. Where no piece stands what is at fault is
-/// marked, with the reason why; what stands around it is not read.
+/// A closer that matches no opener is marked as an error, and so is an opener that is never closed. If the text could
+/// not be read to its end, openers that still wait are not marked, since their closers may follow. Where no piece
+/// begins, the part that is wrong is marked with the reason, and the text around it is marked as not read.
 pub fn marked(format: Format, text: &str) -> Result<String, Failure>
 {
     let mut styling = Styling {
@@ -39,7 +39,7 @@ pub fn marked(format: Format, text: &str) -> Result<String, Failure>
     }
 }
 
-/// The styles of the delimiters, the first last.
+/// Returns the styles of the delimiters in reverse order, so that the first is the last item.
 fn styles_of_delimiters(text: &str) -> Result<Vec<Style>, AllocError>
 {
     let mut nesting = Nesting::new();
@@ -52,16 +52,16 @@ fn styles_of_delimiters(text: &str) -> Result<Vec<Style>, AllocError>
     Ok(styles)
 }
 
-/// What is to be known to style the next piece.
+/// What is known before a piece and decides its style.
 struct Styling {
-    // The styles of the delimiters from here on, the first last.
+    // The styles of the remaining delimiters, in reverse order.
     delimiters: Vec<Style>,
-    // Whether the last piece was the `'` of a lifetime.
+    // Whether the piece before was the `'` of a lifetime.
     is_after_quote: bool,
 }
 
 impl Styling {
-    /// What the next piece is shown as.
+    /// Returns the style of the next piece.
     fn style_of(&mut self, next: PlacedPiece<'_>) -> Style
     {
         let is_after_quote = self.is_after_quote;
@@ -85,7 +85,7 @@ fn is_quote(kind: PieceKind<'_>) -> bool
     }
 }
 
-/// Why the text doesn't parse, if it doesn't.
+/// Returns why the text doesn't parse, if it doesn't.
 fn explained(text: &str) -> Result<Option<Explained>, Failure>
 {
     match explain(text) {

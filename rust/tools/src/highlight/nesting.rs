@@ -1,5 +1,5 @@
 // Made from crates/highlight/src/nesting.rt by rust/erase: change that file, not this one.
-//! Which delimiters match.
+//! Which delimiters match each other.
 
 use proved_tokens::shim::prelude::Grow;
 
@@ -7,9 +7,9 @@ use crate::highlight::style::Style;
 use proved_tokens::proc_macro2::PieceKind;
 use proved_tokens::shim::alloc::AllocError;
 
-/// The delimiters before a byte offset of a text, with the style of each so far.
+/// The delimiters up to some byte offset of a text, with the style of each so far.
 pub struct Nesting {
-    // An opener counts as never closed until a closer matches it.
+    // The style of an opener is `Unclosed` until a closer matches it.
     styles: Vec<Style>,
     // The openers that no closer has matched yet, the innermost last.
     openers: Vec<Opener>,
@@ -20,7 +20,7 @@ pub struct Nesting {
 #[derive(Clone, Copy)]
 pub struct Opener {
     closer: char,
-    // How many delimiters stand before it.
+    // The number of delimiters before it.
     index: usize,
     around: Awaited,
 }
@@ -34,7 +34,7 @@ pub struct Awaited {
 }
 
 impl Nesting {
-    /// No delimiter.
+    /// Returns the state before the first delimiter.
     pub fn new() -> Nesting
     {
         Nesting {
@@ -48,9 +48,9 @@ impl Nesting {
         }
     }
 
-    /// Takes the next piece, of which a delimiter alone counts.
+    /// Takes the next piece. Only delimiters change anything.
     ///
-    /// A closer matches the innermost opener that waits for it; those inside that one are never closed.
+    /// A closer matches the innermost opener that waits for it. The openers inside that one are never closed.
     #[inline]
     pub fn take(&mut self, kind: PieceKind<'_>) -> Result<(), AllocError>
     {
@@ -86,7 +86,7 @@ impl Nesting {
         Ok(self.styles.push_fallibly(style)?)
     }
 
-    /// Takes out the opener that the closer matches and those inside it, and answers the style of both.
+    /// Removes the opener that the closer matches and the openers inside it, and returns the style of the pair.
     fn matched(&mut self, closer: char) -> Style
     {
         if !self.awaited.has(closer) {
@@ -103,8 +103,8 @@ impl Nesting {
         Style::StrayCloser
     }
 
-    /// The styles of all delimiters. Where the text isn't read whole, the openers that wait may be
-    /// closed in what follows.
+    /// Returns the styles of all delimiters. If the text was not read to its end, the waiting openers count as closed,
+    /// since their closers may follow.
     pub fn into_styles(self, is_whole: bool) -> Vec<Style>
     {
         let Nesting {
@@ -133,7 +133,7 @@ impl Awaited {
     }
 }
 
-/// Sets the style at the index, if one stands there.
+/// Sets the style at the index, if there is an item at it.
 fn set_style(styles: &mut Vec<Style>, index: usize, style: Style)
 {
     if index < styles.len() {

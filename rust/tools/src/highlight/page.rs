@@ -1,16 +1,16 @@
 // Made from crates/highlight/src/page.rt by rust/erase: change that file, not this one.
-//! What stands around the marked text.
+//! The text before and after the marked text.
 
 use crate::highlight::format::Format;
 
-/// What is written before and after the marked text.
+/// The text before and after the marked text.
 #[derive(Clone, Copy)]
 pub struct Frame {
     pub head: &'static str,
     pub foot: &'static str,
 }
 
-/// The frame of a format: a page's head and foot, and nothing for a terminal.
+/// Returns the frame of a format: the head and foot of a page, and nothing for a terminal.
 pub fn frame_of(format: Format) -> Frame
 {
     match format {
@@ -22,8 +22,8 @@ pub fn frame_of(format: Format) -> Frame
     }
 }
 
-/// A browser leaves out the line feed after `<pre>`, so that one at the front of the text stays. The
-/// first line's anchor stands here; each other line's follows its line feed.
+/// The head of a page. Browsers ignore the line feed after `<pre>`, so that a line feed at the start of the text stays.
+/// The anchor of the first line ends the head; the other anchors follow their line feeds.
 const HEAD: &str = r#"<!DOCTYPE html>
 <html lang="en">
 <head>

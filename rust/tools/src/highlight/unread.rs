@@ -1,5 +1,5 @@
 // Made from crates/highlight/src/unread.rt by rust/erase: change that file, not this one.
-//! What follows the pieces of a text, with what is at fault in it.
+//! The text that follows the last piece, and what is wrong in it.
 
 use crate::highlight::style::Style;
 use crate::highlight::writing::Sheet;
@@ -8,8 +8,9 @@ use proved_tokens::lexical::parts::before;
 use proved_tokens::pm_span::parts::bounds;
 use proved_tokens::shim::alloc::AllocError;
 
-/// Appends the rest of a text, where no piece stands. What is at fault is marked with the reason why the rest doesn't
-/// parse; the first character alone where that reason is of what follows, as where U+FEFF stands first.
+/// Appends the rest of a text, at which no piece begins. The part that is wrong is marked with the reason why the rest
+/// doesn't parse. If that reason is about something later, only the first character is marked, as for U+FEFF that comes
+/// first.
 pub fn push_unread(
     sheet: &mut Sheet,
     answer: &Option<Explained>,
@@ -38,7 +39,8 @@ pub fn push_unread(
 /// The position of a text's first character.
 const FIRST: u32 = 1;
 
-/// What is marked for a reason: what is at fault, or what stands before it where that is nothing, as at a text's end.
+/// Returns what is marked for an error: the part that is wrong or, if that is empty, as at the end of a text, the part
+/// before it.
 fn fault_of(why: &Explained) -> Stretch
 {
     if why.at.start == why.at.end {
@@ -48,7 +50,7 @@ fn fault_of(why: &Explained) -> Stretch
     }
 }
 
-/// Appends a text of which for the reason so many characters are at fault after so many others.
+/// Appends a text in which, for this reason, `size` characters are wrong after the first `before` ones.
 fn push_faulty(
     sheet: &mut Sheet,
     reason: &Reason,
@@ -65,7 +67,7 @@ fn push_faulty(
     Ok(())
 }
 
-/// Appends a text of which the first character is at fault, for no known reason.
+/// Appends a text of which only the first character is marked, without a reason.
 fn push_stuck(sheet: &mut Sheet, text: &str) -> Result<(), AllocError>
 {
     let mut after = text.chars();
@@ -77,7 +79,7 @@ fn push_stuck(sheet: &mut Sheet, text: &str) -> Result<(), AllocError>
     Ok(())
 }
 
-/// The first `count` characters of the text, or all where it has fewer, and what follows them.
+/// Splits the text after its first `count` characters, or at its end if it has fewer.
 fn split_chars(text: &str, count: u32) -> (&str, &str)
 {
     let mut rest = text.chars();

@@ -1,5 +1,5 @@
 // Made from crates/highlight/src/writing.rt by rust/erase: change that file, not this one.
-//! Appends pieces to what is written, marked.
+//! Appends marked pieces to the output.
 
 use proved_tokens::shim::prelude::{Grow, GrowText, format};
 
@@ -8,17 +8,17 @@ use crate::highlight::style::Style;
 use proved_tokens::explain::Reason;
 use proved_tokens::shim::alloc::AllocError;
 
-/// What is written so far.
+/// The output so far.
 pub struct Sheet {
     /// The text with its marks.
     pub out: String,
-    /// The line on which the next piece begins, from 1.
+    /// The line on which the next piece begins, counted from 1.
     pub line: usize,
     format: Format,
 }
 
 impl Sheet {
-    /// Nothing, at line 1.
+    /// Returns an empty output, at line 1.
     pub fn new(format: Format) -> Sheet
     {
         Sheet {
@@ -34,7 +34,7 @@ impl Sheet {
         self.push_marked(style.class(), style.colour(), text)
     }
 
-    /// Appends what is at fault for the reason, with what that says.
+    /// Appends a part of the text that is wrong, with the message of the reason.
     pub fn push_faulty(
         &mut self,
         reason: &Reason,
@@ -45,7 +45,7 @@ impl Sheet {
         self.push_marked(class.as_str(), Style::NoPiece.colour(), text)
     }
 
-    /// Appends the text in this class or in this colour, but no mark with nothing in it.
+    /// Appends the text with this class or in this colour. An empty text gets no mark.
     fn push_marked(&mut self, class: &str, colour: &str, text: &str) -> Result<(), AllocError>
     {
         if text.is_empty() {
@@ -57,7 +57,7 @@ impl Sheet {
         }
     }
 
-    /// Appends the text in a `<span>` of the class, or bare where the class is empty.
+    /// Appends the text in a `<span>` of the class, or without one if the class is empty.
     fn push_span(&mut self, class: &str, text: &str) -> Result<(), AllocError>
     {
         if class.is_empty() {
@@ -71,7 +71,7 @@ impl Sheet {
         Ok(())
     }
 
-    /// Appends the text in the colour, or bare where the colour is empty.
+    /// Appends the text in the colour, or without one if the colour is empty.
     fn push_coloured(&mut self, colour: &str, text: &str) -> Result<(), AllocError>
     {
         if colour.is_empty() {
@@ -84,7 +84,7 @@ impl Sheet {
         self.out.push_str_fallibly("\x1b[0m")
     }
 
-    /// Appends the text itself, escaped, with an anchor after each line feed.
+    /// Appends the text, escaped, with an anchor after each line feed.
     fn push_escaped(&mut self, text: &str) -> Result<(), AllocError>
     {
         let mut rest = self.push_bare(text)?.chars();
@@ -95,7 +95,7 @@ impl Sheet {
         Ok(())
     }
 
-    /// Appends what stands before the first byte that is escaped, all at once, and answers the text from there on.
+    /// Appends the part of the text before the first byte that is escaped, and returns the rest.
     fn push_bare<'a>(&mut self, text: &'a str) -> Result<&'a str, AllocError>
     {
         let size = bare_size(text.as_bytes());
@@ -103,7 +103,7 @@ impl Sheet {
         Ok(&text[size..])
     }
 
-    /// Appends a character.
+    /// Appends a character, escaped if it must be.
     fn push_character(&mut self, c: char) -> Result<(), AllocError>
     {
         match c {
@@ -116,7 +116,7 @@ impl Sheet {
         }
     }
 
-    /// Begins a line, with its anchor. A text with more lines than can be counted has no page in memory.
+    /// Begins a line, with its anchor. More lines than can be counted count as running out of memory.
     fn push_line_feed(&mut self) -> Result<(), AllocError>
     {
         let Some(line) = self.line.checked_add(1) else {
@@ -129,7 +129,7 @@ impl Sheet {
     }
 }
 
-/// How many bytes stand before the first that is escaped, or before the end.
+/// Returns how many bytes precede the first byte that is escaped, or the end.
 fn bare_size(bytes: &[u8]) -> usize
 {
     let mut size = 0;
@@ -142,7 +142,7 @@ fn bare_size(bytes: &[u8]) -> usize
     size
 }
 
-/// Whether the byte isn't appended as it is.
+/// Whether the byte is not appended as it is.
 fn is_escaped(byte: u8) -> bool
 {
     match byte {

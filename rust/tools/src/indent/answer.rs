@@ -1,5 +1,5 @@
 // Made from crates/indent/src/answer.rt by rust/erase: change that file, not this one.
-//! What the program writes for a text.
+//! Writes a text with its lines indented, or checks that they are.
 
 use crate::indent::choosing::{Step, choices};
 use proved_tokens::explain::{ExplainError, explain};
@@ -8,10 +8,10 @@ use proved_tokens::proc_macro2::{SourceMap, TokenStream};
 use proved_tokens::relayout::{RelayoutError, relayout};
 use proved_tokens::shim::io::Write;
 
-/// Writes the text with its lines indented. Its tokens and comments stay, whatever the indentation is.
+/// Writes the text with its lines indented. Its tokens and comments stay the same, whatever the indentation is.
 ///
-/// Fails with `Fault`, which has line and column, `MapFull` and `Memory` before anything is written, and with `Write`;
-/// then a beginning of the text may stand.
+/// Returns `Fault`, which has line and column, `MapFull` or `Memory` before anything is written. Returns `Write` if a
+/// write fails: a prefix of the text may have been written then.
 pub fn print_text<W: Write>(
     text: &str,
     step: Step,
@@ -27,16 +27,16 @@ pub fn print_text<W: Write>(
     }
 }
 
-/// Whether the text is the same with its lines indented.
+/// Returns whether indenting its lines leaves the text as it is.
 ///
-/// Fails with `Fault`, `MapFull` and `Memory`.
+/// Returns `Fault`, `MapFull` or `Memory` as an error, for the same reasons as `print_text`.
 pub fn is_indented(text: &str, step: Step) -> Result<bool, Failure>
 {
     let indented = indent(text, step)?;
     Ok(indented.as_str() == text)
 }
 
-/// The text with its lines indented. No trees are built to learn whether it parses.
+/// Returns the text with its lines indented. It finds out whether the text parses without building trees.
 fn indent(text: &str, step: Step) -> Result<String, Failure>
 {
     match explain(text) {
@@ -48,7 +48,7 @@ fn indent(text: &str, step: Step) -> Result<String, Failure>
 }
 }
 
-/// The failure of a text that doesn't parse: the line and column of its fault. Only here a map is needed to find them.
+/// Returns the error for a text that doesn't parse, with its line and column. Only this needs a map.
 fn fault_of(text: &str) -> Failure
 {
     let mut map = SourceMap::new();
@@ -58,7 +58,7 @@ fn fault_of(text: &str) -> Failure
     }
 }
 
-/// The text with its lines indented, if it parses. It fails only where memory runs out.
+/// Returns a text that parses with its lines indented. The only error is that memory runs out.
 fn indent_parsed(text: &str, step: Step) -> Result<String, Failure>
 {
     let choices = choices(text, step)?;

@@ -1,5 +1,5 @@
 // Made from crates/indent/src/choosing.rt by rust/erase: change that file, not this one.
-//! Which white space indents a text.
+//! Chooses the white space that indents a text.
 
 use proved_tokens::shim::prelude::Grow;
 
@@ -7,19 +7,19 @@ use proved_tokens::lexical::{PieceKind, PlacedPiece, pieces};
 use proved_tokens::relayout::White;
 use proved_tokens::shim::alloc::AllocError;
 
-/// How far each open group indents a line.
+/// By how much each open group indents a line.
 #[derive(Clone, Copy, Debug, PartialEq, Eq)]
 pub enum Step {
-    /// By a tab.
+    /// By one tab.
     Tab,
-    /// By so many spaces.
+    /// By this number of spaces.
     Spaces(u8),
 }
 
-/// For each run of white space of a text, what is to stand in its place so that its lines are indented by the groups
-/// that are open.
+/// Returns the choice for each run of white space of a text, so that its lines are indented by the groups that are
+/// open.
 ///
-/// A closer that a line begins with, or that stands after such ones, counts as closed at the line's front.
+/// Closers at the start of a line count as closed before the line.
 pub fn choices(text: &str, step: Step) -> Result<Vec<White>, AllocError>
 {
     let mut choices = Vec::new();
@@ -36,7 +36,7 @@ pub fn choices(text: &str, step: Step) -> Result<Vec<White>, AllocError>
     }
 }
 
-/// How many groups are open after the piece.
+/// Returns how many groups are open after the piece.
 fn open_after(next: PlacedPiece<'_>, open: usize) -> usize {
     match next.piece.kind {
         PieceKind::Opener(_) => open.saturating_add(1),
@@ -45,7 +45,8 @@ fn open_after(next: PlacedPiece<'_>, open: usize) -> usize {
     }
 }
 
-/// Chooses what stands in the place of a run, if there is one, before this text, where so many groups are open.
+/// Adds the choice for a run of white space, if it is not empty. `rest` follows the run, and `open` groups are open
+/// there.
 fn push_choice(
     choices: &mut Vec<White>,
     run: &str,
@@ -66,7 +67,7 @@ fn push_choice(
     Ok(())
 }
 
-/// How many closers a line begins with.
+/// Returns how many closers are at the start of the line.
 fn closers(line: &str) -> usize {
     let mut count: usize = 0;
     for c in line.chars() {
@@ -79,7 +80,7 @@ fn closers(line: &str) -> usize {
     count
 }
 
-/// The white space at the front of a line on this level.
+/// Returns the white space that begins a line on this level.
 fn indentation(level: usize, step: Step) -> White
 {
     match step {

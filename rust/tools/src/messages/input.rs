@@ -1,5 +1,5 @@
 // Made from crates/messages/src/input.rt by rust/erase: change that file, not this one.
-//! What a program is given: its words and its input.
+//! The words and the input of a program.
 
 use proved_tokens::shim::prelude::{GrowText, HostRuntime, TryClone};
 
@@ -9,10 +9,10 @@ use proved_tokens::shim::fs::File;
 use proved_tokens::shim::io;
 use proved_tokens::shim::io::Read;
 
-/// The words after the program's name, which is the first of its arguments.
+/// Returns the words after the program's name, which is the first of its arguments.
 ///
-/// Fails with `Usage` where the arguments are no text, and with `Memory` where they weren't had for any other
-/// reason, or memory for the list ran out.
+/// Fails with `Usage` if the arguments are not UTF-8, and with `Memory` if memory runs out, or if the arguments can't
+/// be read for any other reason.
 pub fn words(
     arguments: io::Result<Args>,
     usage: &'static str,
@@ -25,14 +25,14 @@ pub fn words(
     }
 }
 
-/// Whether arguments weren't had since they are no text.
+/// Whether the error is that the arguments are not UTF-8.
 fn is_no_text(kind: io::ErrorKind) -> bool
 {
     matches!(kind, io::ErrorKind::InvalidData)
 }
 
-/// The path that the words name: the only one, or `-` where there is none. Fails with `Usage` exactly where there
-/// are several, and with `Memory`.
+/// Returns the path that the words name: the only word, or `-` if there is none. Fails with `Usage` exactly if there
+/// are several words, and with `Memory` if memory runs out.
 pub fn path(words: &[String], usage: &'static str) -> Result<String, Failure>
 {
     match words {
@@ -42,9 +42,10 @@ pub fn path(words: &[String], usage: &'static str) -> Result<String, Failure>
     }
 }
 
-/// The text of the file at this path, or of standard input where the path is `-`.
+/// Returns the text of the file at this path, or of standard input if the path is `-`.
 ///
-/// Fails with `Read` where the file can't be opened or read, with `NotUtf8` where it is no text, and with `Memory`.
+/// Fails with `Read` if the file can't be opened or read, with `NotUtf8` if it is not UTF-8, and with `Memory` if
+/// memory runs out.
 pub fn read_text(rt: &HostRuntime, path: &str) -> Result<String, Failure> {
     if path == "-" {
         return text_of(rt.stdin());
@@ -55,7 +56,7 @@ pub fn read_text(rt: &HostRuntime, path: &str) -> Result<String, Failure> {
     }
 }
 
-/// All that the reader has left, as a text.
+/// Returns all that is left in the reader, as a text.
 fn text_of<R: Read>(mut reader: R) -> Result<String, Failure>
 {
     let mut bytes = Vec::new();
@@ -65,7 +66,7 @@ fn text_of<R: Read>(mut reader: R) -> Result<String, Failure>
     }
 }
 
-/// The bytes as a text.
+/// Returns the bytes as a text.
 fn decoded(bytes: Vec<u8>) -> Result<String, Failure>
 {
     match String::from_utf8(bytes) {

@@ -5,7 +5,7 @@ use proved_tokens::shim::prelude::{Grow, GrowText};
 
 use proved_tokens::shim::alloc::AllocError;
 
-/// The text as it stands in a string of JSON.
+/// Returns the text as it is written in a string of JSON.
 pub fn escaped(text: &str) -> Result<String, AllocError>
 {
     let mut out = String::new();
@@ -15,7 +15,7 @@ pub fn escaped(text: &str) -> Result<String, AllocError>
     Ok(out)
 }
 
-/// Appends a character: a quote, a backslash and the controls are escaped.
+/// Appends a character. A quote, a backslash or a control character is escaped.
 fn push_escaped(out: &mut String, c: char) -> Result<(), AllocError>
 {
     match c {
@@ -27,14 +27,14 @@ fn push_escaped(out: &mut String, c: char) -> Result<(), AllocError>
     }
 }
 
-/// Appends what begins the escape of a control, and its last digit.
+/// Appends the escape of a control character, from its beginning and its last digit.
 fn push_control(out: &mut String, front: &str, digit: u8) -> Result<(), AllocError>
 {
     out.push_str_fallibly(front)?;
     out.push_fallibly(hex(digit))
 }
 
-/// A digit of a number to the base 16.
+/// Returns a digit to the base 16.
 fn hex(digit: u8) -> char
 {
     if digit < 10 {

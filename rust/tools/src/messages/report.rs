@@ -1,5 +1,5 @@
 // Made from crates/messages/src/report.rt by rust/erase: change that file, not this one.
-//! What a program says of its failure, and its status.
+//! The error message of a program, and its exit status.
 
 use proved_tokens::shim::prelude::format;
 
@@ -10,8 +10,8 @@ use proved_tokens::shim::io;
 use proved_tokens::shim::io::Write;
 use proved_tokens::shim::process::ExitCode;
 
-/// Says on `errors` why a program failed that reads the file at this path, and answers its status, that of `status`.
-/// A message that can't be written changes nothing.
+/// Writes to `errors` why a program failed, if it did, and returns its exit status. The program reads the file at this
+/// path. If the message can't be written, the exit status stays the same.
 pub fn conclude<E: Write>(
     path: &str,
     outcome: Result<(), Failure>,
@@ -24,7 +24,7 @@ pub fn conclude<E: Write>(
     ExitCode::from(status(&outcome))
 }
 
-/// The status of a program: 0 after its work, 1 where the text has a fault, and 2 after any other failure.
+/// Returns the exit status of a program: 0 after success, 1 if the text has a fault, and 2 after any other failure.
 pub fn status(outcome: &Result<(), Failure>) -> u8
 {
     match outcome {
@@ -34,11 +34,11 @@ pub fn status(outcome: &Result<(), Failure>) -> u8
     }
 }
 
-/// Says on `errors` why a program failed that reads the file at this path, in one line.
+/// Writes to `errors`, in one line, why a program failed. The program reads the file at this path.
 ///
-/// Line and column of a fault count from 1, the column in characters. A failed read or write has the system's reason.
-/// Nothing is said where nobody reads the output any more. Of `(]` in the file `a.rs` the line is
-/// `a.rs:1:2: error: no token stands here, or a delimiter has no match`.
+/// The line and column of a fault count from 1, and the column counts characters. For a failed read or write the line
+/// has the system's reason. Nothing is written if nobody reads the output any more. For `(]` in the file `a.rs` the
+/// line is `a.rs:1:2: error: no token stands here, or a delimiter has no match`.
 pub fn say<E: Write>(path: &str, failure: &Failure, errors: &mut E) -> io::Result<()>
 {
     match failure {
@@ -61,11 +61,11 @@ pub fn say<E: Write>(path: &str, failure: &Failure, errors: &mut E) -> io::Resul
     }
 }
 
-/// What is said of a text's fault.
+/// The message for a text's fault.
 const FAULT: &str = "no token stands here, or a delimiter has no match";
 
-/// Says on `errors` what is wrong at this line and column of the file at this path: `FILE:L:C: error: what`, line and
-/// column from 1, the column in characters.
+/// Writes to `errors` what is wrong at this line and column of the file at this path: `FILE:L:C: error: what`. The line
+/// and column in the message count from 1, and the column counts characters.
 pub fn say_at<D: Display, E: Write>(
     path: &str,
     start: LineColumn,
@@ -74,12 +74,12 @@ pub fn say_at<D: Display, E: Write>(
 ) -> io::Result<()>
 {
     let line = start.line;
-    // As wide as the sum needs.
+    // The sum may not fit the type of the column.
     let column = start.column as u128 + 1;
     writeln!(errors, "{path}:{line}:{column}: error: {what}")
 }
 
-/// Says on `errors` what is wrong with the file at this path: `FILE: error: what`.
+/// Writes to `errors` what is wrong with the file at this path: `FILE: error: what`.
 pub fn say_of<D: Display, E: Write>(path: &str, what: D, errors: &mut E) -> io::Result<()>
 {
     writeln!(errors, "{path}: error: {what}")

@@ -1,5 +1,5 @@
 // Made from crates/outline/src/entries.rt by rust/erase: change that file, not this one.
-//! The declarations among trees.
+//! The declarations in trees.
 
 use proved_tokens::shim::prelude::Grow;
 
@@ -9,31 +9,32 @@ use proved_tokens::pm_stream::TokenTree;
 use proved_tokens::pm_token::Ident;
 use proved_tokens::shim::alloc::AllocError;
 
-/// A declaration.
+/// A declaration that may be listed.
 #[derive(Clone, Copy)]
 pub struct Entry<'a> {
-    /// How many declarations it stands in.
+    /// The number of declarations that it is in.
     pub depth: usize,
-    /// What is declared.
+    /// The kind of the item.
     pub kind: ItemKind,
-    /// Its name, but for an `impl` and a block of foreign items.
+    /// The name, or `None` if it has none, such as an `impl` or an `extern` block.
     pub name: Option<&'a Ident>,
-    /// Its trees after its attributes.
+    /// The trees of the item after its attributes.
     pub header: &'a [TokenTree],
 }
 
-/// Where trees are no declarations.
+/// An error: where trees are no items.
 #[derive(Clone, Copy)]
 pub struct Stop {
-    /// What doesn't fit.
+    /// The error in the trees.
     pub fault: Fault,
-    /// The last tree before the end, at which more may be missing.
+    /// The span of the last tree, after which more trees may be missing.
     pub last: Option<Span>,
 }
 
-/// The declarations of a file, in reading order, each before those in it; or where trees are no items.
+/// Returns the declarations of a file in reading order, each before those in it.
 ///
-/// Of `mod m { fn f() {} } struct S;` they are `m`, `f` at the depth 1, and `S`.
+/// If the trees are no items, it returns a `Stop`. For `mod m { fn f() {} } struct S;` it returns `m`, `f` with the
+/// depth 1, and `S`.
 pub fn entries<'a>(
     trees: &'a [TokenTree],
 ) -> Result<Result<Vec<Entry<'a>>, Stop>, AllocError>
@@ -43,10 +44,10 @@ pub fn entries<'a>(
         Ok(items) => items,
         Err(stop) => return Ok(Err(stop)),
     };
-    // What is left of the file and of each declaration that is open, the innermost last.
+    // The items that are left of the file and of each open declaration. The innermost comes last.
     let mut levels = Vec::new();
     levels.push_fallibly(items)?;
-    // A step takes an item or leaves a declaration: there are fewer than the bound, which no memory has trees for.
+    // Each step takes an item or leaves a declaration. The bound is never reached: memory cannot hold so many trees.
     'walk: for _ in 0..u64::MAX {
         let Some(mut here) = levels.pop() else {
             return Ok(Ok(entries));
@@ -73,7 +74,7 @@ pub fn entries<'a>(
     Err(AllocError::met())
 }
 
-/// Puts in an entry that is listed.
+/// Appends the entry if it is listed.
 fn push_listed<'a>(entries: &mut Vec<Entry<'a>>, entry: Entry<'a>) -> Result<(), AllocError>
 {
     if is_listed(&entry) {
@@ -82,7 +83,7 @@ fn push_listed<'a>(entries: &mut Vec<Entry<'a>>, entry: Entry<'a>) -> Result<(),
     Ok(())
 }
 
-/// Whether an item is listed: it has a name, or a header in place of one.
+/// Returns whether the item is listed: it has a name, or its header is shown instead of one.
 pub fn is_listed(entry: &Entry<'_>) -> bool
 {
     match entry.kind {
@@ -100,7 +101,7 @@ fn items_of(trees: &[TokenTree]) -> Result<Items<'_>, Stop>
     }
 }
 
-/// The entry of an item that is in so many, and the items in it.
+/// The entry of an item, and the items in its braces. `depth` is the number of declarations that it is in.
 fn open_item<'a>(depth: usize, item: &AnyItem<'a>) -> Result<(Entry<'a>, Items<'a>), Stop>
 {
     let entry = match entry_of(depth, item) {
@@ -113,7 +114,7 @@ fn open_item<'a>(depth: usize, item: &AnyItem<'a>) -> Result<(Entry<'a>, Items<'
     }
 }
 
-/// The items in an item.
+/// The items in the braces of an item, or none if it has no such braces.
 fn items_in<'a>(item: &AnyItem<'a>) -> Result<Items<'a>, Stop>
 {
     match item.body() {
@@ -122,7 +123,7 @@ fn items_in<'a>(item: &AnyItem<'a>) -> Result<Items<'a>, Stop>
     }
 }
 
-/// The entry of an item that is in so many.
+/// Returns the entry of an item. `depth` is the number of declarations that it is in.
 pub fn entry_of<'a>(depth: usize, item: &AnyItem<'a>) -> Result<Entry<'a>, Stop>
 {
     match split_attributes(item.trees) {
@@ -136,7 +137,7 @@ pub fn entry_of<'a>(depth: usize, item: &AnyItem<'a>) -> Result<Entry<'a>, Stop>
     }
 }
 
-/// Where the first of the trees stands.
+/// Returns the span of the first tree.
 pub fn first_of(trees: &[TokenTree]) -> Span
 {
     match trees.split_first() {
@@ -145,7 +146,7 @@ pub fn first_of(trees: &[TokenTree]) -> Span
     }
 }
 
-/// Where the tree before the last stands, or the only one.
+/// Returns the span of the last tree but one, or of the only tree.
 pub fn last_of(trees: &[TokenTree]) -> Span
 {
     match trees.split_last() {
@@ -158,7 +159,7 @@ pub fn last_of(trees: &[TokenTree]) -> Span
 }
 
 impl Stop {
-    /// The fault of these trees.
+    /// Returns the error in these trees.
     pub fn at(fault: Fault, trees: &[TokenTree]) -> Stop {
         let last = match trees.split_last() {
             Some((last, _)) => Some(last.span()),

@@ -1,5 +1,5 @@
 // Made from crates/outline/src/files.rt by rust/erase: change that file, not this one.
-//! Lists files one after the other.
+//! Lists several files, one after the other.
 
 use proved_tokens::shim::prelude::{GrowList, HostRuntime};
 
@@ -9,18 +9,18 @@ use crate::outline::tags::{print_all, print_tags};
 use crate::messages::{Failure, read_text, say, say_at, status};
 use proved_tokens::shim::io::Write;
 
-/// What was had of a file: its lines, and the status that it is worth, with which it has lines where that is 0 alone.
+/// What the program found out about a file: its lines and its status. A file has lines only if its status is 0.
 pub struct Listed {
-    /// The lines of its declarations.
+    /// The lines of the file's declarations.
     pub lines: Vec<String>,
-    /// 0 where they are all, 1 where the text has a fault, and 2 where it wasn't read.
+    /// 0 if the file is listed, 1 if its text has an error, and 2 if it could not be read.
     pub status: u8,
 }
 
-/// Lists the files that the options name one after the other, and answers the status. Of a file that isn't listed
-/// `errors` says why, and the others are listed still.
+/// Lists the files that the options name, and returns the greatest status of a file.
 ///
-/// Fails where a write fails or, for a `tags` file, memory runs out.
+/// If a file cannot be listed, the reason is written to `errors`, and the other files are still listed. Fails if a
+/// write to `writer` fails or, for a `tags` file, if memory runs out.
 pub fn list_files<W: Write, E: Write>(
     rt: &HostRuntime,
     options: &Options,
@@ -53,7 +53,7 @@ fn list_each<W: Write, E: Write>(
     Ok(worst)
 }
 
-/// Writes a `tags` file of the lines of all files.
+/// Writes a `tags` file with the lines of all files.
 fn list_tags<W: Write, E: Write>(
     rt: &HostRuntime,
     paths: &[String],
@@ -72,8 +72,8 @@ fn list_tags<W: Write, E: Write>(
     Ok(worst)
 }
 
-/// Lists the file at this path. Where it isn't listed it has no lines, and `errors` says why; a message that can't be
-/// written changes nothing.
+/// Lists the file at this path. If it cannot be listed, it has no lines, and the reason is written to `errors`. A
+/// failure of that write is ignored.
 fn list_file<E: Write>(rt: &HostRuntime, form: Form, path: &str, errors: &mut E) -> Listed
 {
     match file_lines(rt, form, path) {
@@ -95,7 +95,7 @@ fn list_file<E: Write>(rt: &HostRuntime, form: Form, path: &str, errors: &mut E)
     }
 }
 
-/// The lines of the declarations in the text at the path.
+/// The lines of the declarations in the file at this path.
 fn file_lines(
     rt: &HostRuntime,
     form: Form,

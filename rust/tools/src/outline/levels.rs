@@ -1,5 +1,5 @@
 // Made from crates/outline/src/levels.rt by rust/erase: change that file, not this one.
-//! The lines of the declarations of a text, without trees of what isn't read: bodies of functions, and the like.
+//! The lines of a text's declarations. No trees are built for what is not read, such as the bodies of functions.
 
 use proved_tokens::shim::prelude::Grow;
 
@@ -12,17 +12,17 @@ use proved_tokens::proc_macro2::SourceMap;
 use proved_tokens::shim::alloc::AllocError;
 use proved_tokens::token_buffer::Cursor;
 
-/// An item that was read.
+/// An item that has been read.
 struct Step {
-    /// Its line, if it has one.
+    /// The line of the item, if it is listed.
     line: Option<String>,
-    /// How many trees it has.
+    /// The number of its trees.
     count: usize,
-    /// Whether its last tree is braces in which items stand.
+    /// Whether its last tree is a group in braces that holds items.
     has_body: bool,
 }
 
-/// The lines of the declarations that a file's trees are, in reading order; or where they are no items.
+/// Returns the lines of the declarations of a file in reading order, or a `Stop` if its trees are no items.
 pub fn lines_in(
     form: Form,
     path: &str,
@@ -35,10 +35,10 @@ pub fn lines_in(
         Ok(level) => level,
         Err(stop) => return Ok(Err(stop)),
     };
-    // The file and each declaration that is open, the innermost last.
+    // The file and each open declaration. The innermost comes last.
     let mut levels = Vec::new();
     levels.push_fallibly(first)?;
-    // A step takes an item or leaves a declaration: there are fewer than the bound, which no memory has trees for.
+    // Each step takes an item or leaves a declaration. The bound is never reached: memory cannot hold so many trees.
     'walk: for _ in 0..u64::MAX {
         let Some(level) = levels.pop() else {
             return Ok(Ok(lines));
@@ -69,7 +69,7 @@ pub fn lines_in(
     Err(AllocError::met())
 }
 
-/// Puts in a line, if there is one.
+/// Appends the line, if there is one.
 fn push_line(lines: &mut Vec<String>, line: Option<String>) -> Result<(), AllocError>
 {
     if let Some(line) = line {
@@ -90,7 +90,7 @@ fn level_of(whole: Cursor<'_>) -> Result<Result<Level<'_>, Stop>, AllocError>
     Ok(Ok(Level { trees, at, rest }))
 }
 
-/// The items in the group that comes first.
+/// The items in the group that the cursor is at.
 fn inside_of(body: Cursor<'_>) -> Result<Result<Level<'_>, Stop>, AllocError>
 {
     match body.any_group() {
@@ -99,7 +99,7 @@ fn inside_of(body: Cursor<'_>) -> Result<Result<Level<'_>, Stop>, AllocError>
     }
 }
 
-/// What is left after so many trees.
+/// The cursor after so many trees.
 fn past(cursor: Cursor<'_>, count: usize) -> Cursor<'_>
 {
     let mut here = cursor;
@@ -112,7 +112,7 @@ fn past(cursor: Cursor<'_>, count: usize) -> Cursor<'_>
     here
 }
 
-/// The level after so many of its trees, with the last of which the cursor begins.
+/// The level after so many more of its trees. `last` is the cursor at the last of these trees.
 fn passed<'a>(level: Level<'a>, count: usize, last: Cursor<'a>) -> Level<'a>
 {
     let rest = past(last, 1);
@@ -123,7 +123,7 @@ fn passed<'a>(level: Level<'a>, count: usize, last: Cursor<'a>) -> Level<'a>
     }
 }
 
-/// The first of the items that are left of a level, which are in so many.
+/// Reads the next item of a level. `depth` is the number of declarations that the item is in.
 fn step_of(
     form: Form,
     path: &str,
@@ -149,7 +149,7 @@ fn step_of(
     }))
 }
 
-/// The line of an entry of the map's one text, if it is listed.
+/// The line of an entry, if it is listed. The map has only the entry's text.
 fn listed_line(
     form: Form,
     path: &str,

@@ -10,22 +10,22 @@ use crate::messages::escaped;
 use proved_tokens::proc_macro2::LineColumn;
 use proved_tokens::shim::alloc::AllocError;
 
-/// A declaration, as it is shown.
+/// A declaration as it is shown.
 #[derive(Clone, Copy)]
 pub struct Shown<'a> {
-    /// How many declarations it stands in.
+    /// The number of declarations that it is in.
     pub depth: usize,
-    /// What is declared.
+    /// The kind of the item.
     pub kind: ItemKind,
-    /// Whether it has a name.
+    /// Whether the item has a name.
     pub named: bool,
-    /// Its name, or its header.
+    /// The name of the item, or its header if it has no name.
     pub name: &'a str,
-    /// Where it begins.
+    /// The line and the column where it begins.
     pub start: LineColumn,
 }
 
-/// The line of a declaration in the file at this path, without its end. In a `tags` file only what has a name has one.
+/// Returns the line of a declaration, without a line end. A `tags` file has lines only for items with names.
 pub fn line_of(
     form: Form,
     path: &str,
@@ -40,12 +40,12 @@ pub fn line_of(
     }
 }
 
-/// `FILE:L:C: fn name`, the line and the column from 1.
+/// The line `FILE:L:C: fn name`. Line and column count from 1.
 fn plain(path: &str, shown: Shown<'_>) -> Result<String, AllocError>
 {
     let mut out = String::new();
     let line = shown.start.line;
-    // As wide as the sum needs.
+    // The type is wide enough that the sum cannot overflow.
     let column = shown.start.column as u128 + 1;
     write!(out, "{path}:{line}:{column}: ")?;
     push_indent(&mut out, shown.depth)?;
@@ -53,12 +53,12 @@ fn plain(path: &str, shown: Shown<'_>) -> Result<String, AllocError>
     Ok(out)
 }
 
-/// An object of JSON.
+/// The declaration as a JSON object.
 fn json(path: &str, shown: Shown<'_>) -> Result<String, AllocError>
 {
     let mut out = String::new();
     let line = shown.start.line;
-    // As wide as the sum needs.
+    // The type is wide enough that the sum cannot overflow.
     let column = shown.start.column as u128 + 1;
     let file = escaped(path)?;
     let word = word_of(shown.kind);
@@ -72,7 +72,7 @@ fn json(path: &str, shown: Shown<'_>) -> Result<String, AllocError>
     Ok(out)
 }
 
-/// A line of a `tags` file.
+/// The line of a declaration in a `tags` file.
 fn tag(path: &str, shown: Shown<'_>) -> Result<String, AllocError>
 {
     let mut out = String::new();
@@ -83,7 +83,7 @@ fn tag(path: &str, shown: Shown<'_>) -> Result<String, AllocError>
     Ok(out)
 }
 
-/// Appends two spaces for each level, of 32 at most.
+/// Appends two spaces for each level, for at most 32 levels.
 fn push_indent(out: &mut String, depth: usize) -> Result<(), AllocError>
 {
     for _ in 0..depth.min(32) {
@@ -92,7 +92,7 @@ fn push_indent(out: &mut String, depth: usize) -> Result<(), AllocError>
     Ok(())
 }
 
-/// Appends what is declared: the word and the name, or the header.
+/// Appends the word for the kind and the name, or the header if there is no name.
 fn push_title(out: &mut String, shown: Shown<'_>) -> Result<(), AllocError>
 {
     let name = shown.name;

@@ -1,12 +1,12 @@
 // Made from crates/outline/src/names.rt by rust/erase: change that file, not this one.
-//! What declarations are called.
+//! The words and names by which declarations are shown.
 
 use proved_tokens::shim::prelude::Grow;
 
 use proved_tokens::declarations::ItemKind;
 use proved_tokens::shim::alloc::AllocError;
 
-/// The word for a kind of declaration.
+/// Returns the word for a kind of item.
 pub fn word_of(kind: ItemKind) -> &'static str
 {
     match kind {
@@ -28,7 +28,7 @@ pub fn word_of(kind: ItemKind) -> &'static str
     }
 }
 
-/// The text on one line: a space for each run of spaces and controls.
+/// Returns the text on one line, with one space for each run of spaces and control characters.
 pub fn one_line(text: &str) -> Result<String, AllocError>
 {
     let mut out = String::new();
@@ -40,7 +40,7 @@ pub fn one_line(text: &str) -> Result<String, AllocError>
     Ok(out)
 }
 
-/// Appends a character, after a space where a gap is before it, unless it is part of one.
+/// Appends a character, and a space before it if it is after a gap. Appends nothing if it is itself part of a gap.
 fn push_in_line(out: &mut String, gap: bool, c: char) -> Result<(), AllocError>
 {
     if c <= ' ' {

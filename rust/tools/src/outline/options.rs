@@ -1,34 +1,34 @@
 // Made from crates/outline/src/options.rt by rust/erase: change that file, not this one.
-//! What the words after the program's name ask for.
+//! What the arguments of the program say.
 
 use proved_tokens::shim::prelude::{Grow, GrowText};
 
 use crate::messages::Failure;
 use proved_tokens::shim::alloc::AllocError;
 
-/// How the program is called.
+/// The usage line of the program.
 pub const USAGE: &str = "outline [--json|--ctags] [FILE..]";
 
-/// How declarations are listed.
+/// The form in which declarations are listed.
 #[derive(Clone, Copy, Debug, PartialEq, Eq)]
 pub enum Form {
-    /// A line for each.
+    /// A line for each declaration.
     Lines,
-    /// An object of JSON on a line for each.
+    /// A JSON object on a line for each declaration.
     Json,
     /// A `tags` file for editors.
     Ctags,
 }
 
-/// What is listed.
+/// What the arguments ask the program to do.
 pub struct Options {
-    /// How.
+    /// The form in which declarations are listed.
     pub form: Form,
-    /// The paths of the files, `-` for standard input.
+    /// The paths of the files. The path `-` is standard input.
     pub paths: Vec<String>,
 }
 
-/// What a word says.
+/// The meaning of an argument.
 #[derive(Clone, Copy, Debug, PartialEq, Eq)]
 enum Word {
     Json,
@@ -37,10 +37,10 @@ enum Word {
     Path,
 }
 
-/// What the words ask for: options anywhere, the last of which counts, and paths, of which standard input is one where
-/// there is no other.
+/// Returns what the arguments say. Options may be anywhere, and the last one counts. All other arguments are paths.
 ///
-/// Fails with `Usage` where a word begins with `-` that is no option, and with `Memory`.
+/// If there is no path, standard input is read. Fails with `Usage` if an argument begins with `-` and is no option, and
+/// with `Memory`.
 pub fn options_of(words: &[String]) -> Result<Options, Failure>
 {
     let mut options = Options::new();
@@ -54,7 +54,7 @@ pub fn options_of(words: &[String]) -> Result<Options, Failure>
     Ok(options)
 }
 
-/// What the word says.
+/// The meaning of an argument.
 fn word_of(word: &str) -> Word
 {
     match word {
@@ -64,7 +64,7 @@ fn word_of(word: &str) -> Word
     }
 }
 
-/// The same of a word that is no option that is known.
+/// The meaning of an argument that is no known option.
 fn other_word(word: &str) -> Word
 {
     match word.as_bytes() {
@@ -75,7 +75,7 @@ fn other_word(word: &str) -> Word
 }
 
 impl Options {
-    /// What is asked for before any word.
+    /// The options before any argument is read.
     fn new() -> Options
     {
         Options {
@@ -84,7 +84,7 @@ impl Options {
         }
     }
 
-    /// Takes a word.
+    /// Takes one argument into account.
     fn take(&mut self, known: Word, word: &str) -> Result<(), AllocError>
     {
         match known {
@@ -96,7 +96,7 @@ impl Options {
         Ok(())
     }
 
-    /// Standard input is read where no file is named.
+    /// Adds standard input if there is no path.
     fn read_input_at_least(&mut self) -> Result<(), AllocError>
     {
         if self.paths.is_empty() {

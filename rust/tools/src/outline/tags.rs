@@ -1,12 +1,12 @@
 // Made from crates/outline/src/tags.rt by rust/erase: change that file, not this one.
-//! What is written of lines.
+//! Writes lines and `tags` files.
 
 use proved_tokens::shim::prelude::GrowText;
 
 use proved_tokens::shim::io;
 use proved_tokens::shim::io::Write;
 
-/// Writes the lines.
+/// Writes the lines, each with a line end.
 pub fn print_all<W: Write>(lines: &[String], writer: &mut W) -> io::Result<()>
 {
     for line in lines {
@@ -15,7 +15,7 @@ pub fn print_all<W: Write>(lines: &[String], writer: &mut W) -> io::Result<()>
     Ok(())
 }
 
-/// Writes a `tags` file of these lines, sorted by their bytes.
+/// Writes a `tags` file with these lines, sorted by their bytes.
 pub fn print_tags<W: Write>(lines: &mut Vec<String>, writer: &mut W) -> io::Result<()>
 {
     lines.sort_unstable();

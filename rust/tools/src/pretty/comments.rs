@@ -1,17 +1,17 @@
 // Made from crates/pretty/src/comments.rt by rust/erase: change that file, not this one.
-//! The plain comments of a text, which no token keeps.
+//! Counts the plain comments of a text, which no token keeps.
 
 use proved_tokens::lexical::parts::begins;
 use proved_tokens::lexical::{PieceKind, PlacedPiece, pieces};
 use proved_tokens::shim::io;
 use proved_tokens::shim::io::Write;
 
-/// How many comments a text has that are no doc comments.
+/// Returns how many comments of a text are not doc comments.
 ///
-/// Of `/// a`, LF, `fn f() {} // b` and `/* c */` there are two.
+/// Example: `/// a`, LF, `fn f() {} // b` and `/* c */` have two.
 pub fn count_comments(text: &str) -> usize
 {
-    // A comment has a byte at least, so that no count of them wraps.
+    // Each comment has at least one byte, so the count cannot overflow.
     let _bytes = text.len();
     let mut count: usize = 0;
     let mut walk = pieces(text);
@@ -23,7 +23,7 @@ pub fn count_comments(text: &str) -> usize
     count
 }
 
-/// Whether the piece is a comment that is no doc comment.
+/// Whether the piece is a comment, but not a doc comment.
 fn is_comment(next: PlacedPiece<'_>) -> bool
 {
     match next.piece.kind {
@@ -32,7 +32,7 @@ fn is_comment(next: PlacedPiece<'_>) -> bool
     }
 }
 
-/// Says on `errors` that so many comments are left out of what was written.
+/// Writes to `errors` that `count` comments were left out.
 pub fn say_left_out<E: Write>(count: usize, errors: &mut E) -> io::Result<()>
 {
     if count == 1 {
@@ -47,7 +47,7 @@ pub fn say_left_out<E: Write>(count: usize, errors: &mut E) -> io::Result<()>
     )
 }
 
-/// Says on `errors` that nothing was written of the file at this path, as so many comments are not to be left out.
+/// Writes to `errors` that nothing was written for the file at this path, since `count` comments would be lost.
 pub fn say_denied<E: Write>(path: &str, count: usize, errors: &mut E) -> io::Result<()>
 {
     if count == 1 {

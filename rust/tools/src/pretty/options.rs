@@ -1,24 +1,25 @@
 // Made from crates/pretty/src/options.rt by rust/erase: change that file, not this one.
-//! What the program is asked for.
+//! The options of the command line.
 
 use proved_tokens::shim::prelude::GrowText;
 
 use crate::messages::Failure;
 
-/// How the program is called.
+/// The usage line.
 pub const USAGE: &str = "pretty [--deny-comments] [FILE] (plain comments are lost)";
 
-/// What the program is asked for.
+/// The options and the file of the command line.
 pub struct Options {
-    /// Whether nothing is written of a text that has plain comments.
+    /// Whether nothing is written for a text with plain comments.
     pub deny: bool,
-    /// The path of the file, `-` for standard input.
+    /// The path of the file. `-` is standard input.
     pub path: String,
 }
 
-/// What the words ask for: `--deny-comments` anywhere, and a path, `-` where there is none.
+/// Returns the options of the command line: `--deny-comments` at any position, and the path, which is `-` if none is
+/// given.
 ///
-/// Fails with `Usage` where another word begins with `-`, or there are several paths, and with `Memory`.
+/// Returns `Usage` if another word begins with `-`, or if there are several paths, and `Memory` if memory runs out.
 pub fn options_of(words: &[String]) -> Result<Options, Failure> {
     let mut deny = false;
     let mut path: Option<&str> = None;
@@ -34,7 +35,7 @@ pub fn options_of(words: &[String]) -> Result<Options, Failure> {
     Ok(Options { deny, path })
 }
 
-/// Whether the word, which is no option, begins like one.
+/// Whether the word begins like an option, without being `-`.
 fn is_unknown(word: &str) -> bool {
     word != "-" && word.starts_with('-')
 }

@@ -1,14 +1,14 @@
 // Made from crates/pretty/src/script.rt by rust/erase: change that file, not this one.
-//! The line with which a script begins.
+//! The first line of a script.
 
 use proved_tokens::lexical::parts::{Class, Cursor, before, begins, skip, skip_to};
 use proved_tokens::pm_token::parts::TextBuilder;
 use proved_tokens::shim::alloc::AllocError;
 
-/// The line `#!..` with which a script begins, without its LF, and what follows it. The line is empty where the text
-/// does not begin with `#!`, and where that begins an attribute: where `[` follows, perhaps after white space.
+/// Splits off the first line `#!..` of a script, without its LF. The line is empty if the text does not begin with
+/// `#!`, or if that begins an attribute: if `[` follows, perhaps after white space.
 ///
-/// What follows begins with the line's LF, so that each character of it is in the line that it has in the text.
+/// The rest begins with the line's LF, so that each of its characters is on the same line as in the text.
 pub fn split_script(text: &str) -> (&str, &str)
 {
     if !is_script(text) {
@@ -18,7 +18,7 @@ pub fn split_script(text: &str) -> (&str, &str)
     (before(text, code), code)
 }
 
-/// Whether the text begins with such a line.
+/// Whether the text begins with the first line of a script.
 fn is_script(text: &str) -> bool
 {
     match strip(text, "#!") {
@@ -27,13 +27,13 @@ fn is_script(text: &str) -> bool
     }
 }
 
-/// What follows this ASCII front of the text.
+/// Returns what follows `front`, if the text begins with it.
 fn strip<'a>(text: &'a str, front: &str) -> Option<&'a str>
 {
     text.strip_prefix(front)
 }
 
-/// The text with such a line and its LF before it, if there is one.
+/// Returns the text after the line and an LF, or the text alone if the line is empty.
 pub fn with_line(line: &str, text: String) -> Result<String, AllocError>
 {
     if line.is_empty() {

@@ -1,5 +1,5 @@
 // Made from crates/rust_check/src/answer.rt by rust/erase: change that file, not this one.
-//! What the program writes for a text.
+//! Writes what is found in a text.
 
 use crate::rust_check::colours::Colours;
 use crate::rust_check::finding::{Finding, Place};
@@ -14,8 +14,8 @@ use proved_tokens::pm_span::parts::{bounds, char_count};
 use proved_tokens::shim::io;
 use proved_tokens::shim::io::Write;
 
-/// Writes why the text of the file at this path doesn't parse, and then where its hidden characters stand, if `hidden`
-/// asks for them, and answers whether something was found.
+/// Writes why the text of the file at this path doesn't parse, and then its hidden characters if `hidden` is true.
+/// Returns whether anything was found.
 pub fn check_all<W: Write>(
     form: Form,
     hidden: bool,
@@ -32,7 +32,7 @@ pub fn check_all<W: Write>(
     Ok(faulty || told)
 }
 
-/// Writes why the text of the file at this path doesn't parse, and answers whether it has a fault. Nothing is written
+/// Writes why the text of the file at this path doesn't parse, and returns whether it has an error. Nothing is written
 /// for a text that parses.
 fn check_text<W: Write>(
     form: Form,
@@ -54,14 +54,14 @@ fn check_text<W: Write>(
 }
 }
 
-/// The fault of the text.
+/// Returns the finding for the text's error.
 fn fault<'a>(text: &'a str, explained: &Explained) -> Finding<'a>
 {
     let reason = &explained.reason;
     found_at(reason.name(), reason.message(), text, explained.at.span)
 }
 
-/// Writes what is said of the fault, and what helps besides.
+/// Writes the error, and the notes about it.
 fn write_fault<W: Write>(
     form: Form,
     path: &str,
@@ -75,7 +75,7 @@ fn write_fault<W: Write>(
     write_note(form, path, text, explained, hint, writer)
 }
 
-/// Writes what is said below the fault.
+/// Writes the notes about the error, if the form has notes.
 fn write_note<W: Write>(
     form: Form,
     path: &str,
@@ -99,7 +99,7 @@ fn write_note<W: Write>(
     }
 }
 
-/// Writes the same in these colours.
+/// Writes the notes with these colours.
 fn write_notes<W: Write>(
     colours: Colours,
     path: &str,
@@ -113,7 +113,7 @@ fn write_notes<W: Write>(
     write_hint(colours, path, text, hint, writer)
 }
 
-/// Writes of a closer that doesn't match where the opener stands that waits for another.
+/// If the error is a closer that doesn't match, writes where the opener is that waits for another closer.
 fn write_waiting<W: Write>(
     colours: Colours,
     path: &str,
@@ -135,7 +135,7 @@ fn write_waiting<W: Write>(
     }
 }
 
-/// Writes what helps besides.
+/// Writes the note that the hint gives, if there is a hint.
 fn write_hint<W: Write>(
     colours: Colours,
     path: &str,
@@ -160,7 +160,7 @@ fn write_hint<W: Write>(
     }
 }
 
-/// Writes how many comments are open, and which ended last.
+/// Writes how many comments are open, and which comment ended last.
 fn write_comments<W: Write>(
     colours: Colours,
     path: &str,
@@ -174,7 +174,7 @@ fn write_comments<W: Write>(
     write_closed(colours, path, text, closed, writer)
 }
 
-/// Writes how many comments are open, if that is more than one.
+/// Writes how many comments are open, if there is more than one.
 fn write_depth<W: Write>(colours: Colours, depth: usize, writer: &mut W) -> io::Result<()>
 {
     if depth <= 1 {
@@ -209,7 +209,7 @@ fn write_closed<W: Write>(
     }
 }
 
-/// Writes what stands at this place.
+/// Writes a note with its part of the source.
 fn write_place<W: Write>(
     colours: Colours,
     path: &str,
@@ -225,7 +225,7 @@ fn write_place<W: Write>(
     write_excerpt(colours, path, &place, writer)
 }
 
-/// What is found where the span says.
+/// Returns the finding for the part of the text that the span covers.
 fn found_at<'a>(name: &'static str, says: &'static str, text: &'a str, span: Span) -> Finding<'a>
 {
     let (lo, hi) = bounds(span);

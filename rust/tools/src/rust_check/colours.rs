@@ -1,21 +1,21 @@
 // Made from crates/rust_check/src/colours.rt by rust/erase: change that file, not this one.
 //! The colours of a terminal.
 
-/// What sets a terminal's colours, or nothing in their place.
+/// The control sequences that set a terminal's colours, or empty texts instead.
 #[derive(Clone, Copy)]
 pub struct Colours {
-    /// What is at fault is written after it.
+    /// The colour of what is wrong.
     pub fault: &'static str,
-    /// What is said of that.
+    /// The style of the words about what is wrong.
     pub strong: &'static str,
-    /// What is no part of the source beside it.
+    /// The colour of what surrounds the source, such as line numbers.
     pub line: &'static str,
-    /// What has no colour.
+    /// The end of a colour or style.
     pub off: &'static str,
 }
 
 impl Colours {
-    /// None.
+    /// Returns empty texts, for output without colours.
     pub fn none() -> Colours
     {
         Colours {
@@ -26,7 +26,7 @@ impl Colours {
         }
     }
 
-    /// Red, bold and blue.
+    /// Returns the sequences for red, bold and blue.
     pub fn terminal() -> Colours
     {
         Colours {

@@ -1,5 +1,5 @@
 // Made from crates/rust_check/src/ends.rt by rust/erase: change that file, not this one.
-//! What is odd at the ends of lines.
+//! What is odd about the line ends of a text.
 
 use crate::rust_check::finding::{Finding, Place};
 use crate::rust_check::options::Form;
@@ -10,26 +10,26 @@ use proved_tokens::shim::io::Write;
 /// How the lines of a text end.
 #[derive(Clone, Copy, Debug, PartialEq, Eq)]
 pub enum Style {
-    /// None has ended.
+    /// No line has ended.
     Unknown,
-    /// By LF alone.
+    /// Each line ends with LF alone.
     Feed,
-    /// By CR and LF.
+    /// Each line ends with CR and LF.
     Return,
-    /// By both.
+    /// Some lines end with LF alone, and others with CR and LF.
     Mixed,
 }
 
-/// What is known of the ends of lines before a character.
+/// What is known about the line ends before a character.
 #[derive(Clone, Copy, Debug, PartialEq, Eq)]
 pub struct LineEnds {
-    /// How they end.
+    /// How the lines end.
     pub style: Style,
-    /// Whether CR stands right before it.
+    /// Whether the character follows a CR.
     pub after_return: bool,
 }
 
-/// Writes a line for each CR that no LF follows, and one for the first line end that is unlike those before it.
+/// Writes a line for each CR that no LF follows, and one for the first line end that differs from those before it.
 pub fn tell_line_ends<W: Write>(
     form: Form,
     path: &str,
@@ -61,7 +61,7 @@ pub fn tell_line_ends<W: Write>(
     Ok(())
 }
 
-/// Writes a line for the character at this place, if it is odd before what follows it.
+/// Writes a line for the character `c` at `place`, if it is odd. `rest` follows the character.
 fn tell_end<W: Write>(
     form: Form,
     path: &str,
@@ -87,7 +87,7 @@ fn tell_end<W: Write>(
     write_line(form, path, &finding, writer)
 }
 
-/// What is odd at this place.
+/// Returns the finding for something odd at this place. It has no line of the source.
 pub fn odd<'a>(name: &'static str, says: &'static str, here: &'a str, place: Place) -> Finding<'a>
 {
     Finding {
@@ -100,7 +100,7 @@ pub fn odd<'a>(name: &'static str, says: &'static str, here: &'a str, place: Pla
     }
 }
 
-/// Whether the text begins with a line feed.
+/// Whether the text begins with LF.
 fn begins_feed(text: &str) -> bool
 {
     match text.chars().next() {
@@ -110,7 +110,7 @@ fn begins_feed(text: &str) -> bool
 }
 
 impl LineEnds {
-    /// What is known after the character.
+    /// Returns what is known after the character.
     fn after(self, c: char) -> LineEnds
     {
         LineEnds {
@@ -119,7 +119,7 @@ impl LineEnds {
         }
     }
 
-    /// How lines end, the one that ends at this line feed too.
+    /// Returns how lines end once LF is read here.
     fn joined(self) -> Style
     {
         match self.style {
@@ -129,7 +129,8 @@ impl LineEnds {
         }
     }
 
-    /// Whether a line feed here ends its line unlike those before it, which are alike.
+    /// Whether a line that ends with LF here ends differently from the lines before it. It is `false` if those already
+    /// differ.
     fn is_other(self) -> bool
     {
         match self.style {

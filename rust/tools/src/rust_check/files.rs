@@ -9,10 +9,10 @@ use crate::rust_check::tally::Tally;
 use crate::messages::{Failure, read_text, say};
 use proved_tokens::shim::io::Write;
 
-/// Checks the files that the options name one after the other, and writes what is found in them. Of a file that can't
-/// be read or isn't UTF-8, and of a text that is too long, `errors` says so, and the others are checked still.
+/// Checks the files that the options name, one after the other, and writes what is found in them. If a file can't be
+/// read, isn't UTF-8 or is too long, a message goes to `errors`, and the other files are still checked.
 ///
-/// Fails where a write fails.
+/// Returns an error if a write to `writer` fails.
 pub fn check_files<W: Write, E: Write>(
     rt: &HostRuntime,
     options: &Options,
@@ -29,7 +29,7 @@ pub fn check_files<W: Write, E: Write>(
     Ok(tally)
 }
 
-/// Checks the file at this path, and answers whether its text has a fault.
+/// Checks the file at this path, and returns whether its text has an error.
 fn check_file<W: Write>(
     rt: &HostRuntime,
     options: &Options,
@@ -47,7 +47,7 @@ fn check_file<W: Write>(
     )
 }
 
-/// The outcome again, where it isn't that a write failed.
+/// Returns the outcome, unless it is that a write failed: this becomes the error.
 fn unless_writing_failed(outcome: Result<bool, Failure>) -> Result<Result<bool, Failure>, Failure>
 {
     match outcome {
@@ -56,7 +56,7 @@ fn unless_writing_failed(outcome: Result<bool, Failure>) -> Result<Result<bool, 
     }
 }
 
-/// Says why the file at this path wasn't read. A message that can't be written changes nothing.
+/// Writes why the file at this path was not read. Nothing else changes if this message cannot be written.
 fn say_unread<E: Write>(
     path: &str,
     outcome: &Result<bool, Failure>,

@@ -1,19 +1,19 @@
 // Made from crates/rust_check/src/finding.rt by rust/erase: change that file, not this one.
-//! What is found in a text.
+//! Findings: what is reported about a text, and where.
 
-/// Where something stands in a text.
+/// A position in a text.
 #[derive(Clone, Copy, Debug, PartialEq, Eq)]
 pub struct Place {
-    /// Its line, from 1.
+    /// The line, counted from 1.
     pub line: usize,
-    /// How many characters stand before it on its line.
+    /// The number of characters before it on its line.
     pub column: usize,
-    /// How many bytes stand before it in the text.
+    /// The number of bytes before it in the text.
     pub begin: usize,
 }
 
 impl Place {
-    /// The front of a text.
+    /// Returns the position at which a text begins.
     pub fn front() -> Place
     {
         Place {
@@ -23,7 +23,7 @@ impl Place {
         }
     }
 
-    /// The place after this character.
+    /// Returns the position after the character `c`, if `c` is at this position. A new line begins after LF.
     pub fn after(self, c: char) -> Place
     {
         let begin = self.begin + c.len_utf8();
@@ -43,19 +43,19 @@ impl Place {
     }
 }
 
-/// What is found at a place of a text.
+/// Something that is reported about a text, and where it is.
 #[derive(Clone, Copy)]
 pub struct Finding<'a> {
-    /// A short name of what it is.
+    /// A short name for the kind of finding.
     pub name: &'static str,
     /// What it is, in a few words.
     pub says: &'static str,
-    /// Where it stands.
+    /// Where it begins.
     pub place: Place,
-    /// What stands before it on its line.
+    /// The text before it on its line.
     pub front: &'a str,
-    /// What stands at the place.
+    /// The text that it is about.
     pub here: &'a str,
-    /// The text from the place on.
+    /// The text from where it begins up to the end.
     pub rest: &'a str,
 }

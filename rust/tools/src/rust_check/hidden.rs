@@ -1,26 +1,26 @@
 // Made from crates/rust_check/src/hidden.rt by rust/erase: change that file, not this one.
-//! The characters that nobody sees, or that change how what stands around them is seen.
+//! Characters that a reader doesn't see, or that change how the text around them looks.
 
 use proved_tokens::shim::ucd_category::GeneralCategory;
 use proved_tokens::shim::ucd_derived::is_default_ignorable_code_point;
 use proved_tokens::shim::ucd_props::{is_bidi_control, is_join_control, is_variation_selector, is_white_space};
 
-/// How a character hides something from who reads the text.
+/// How a character hides something from the reader of a text.
 #[derive(Clone, Copy, Debug, PartialEq, Eq)]
 pub enum Hidden {
-    /// It controls the text's direction.
+    /// It controls the direction of the text.
     Direction,
     /// It joins its neighbours, or keeps them apart.
     Joiner,
-    /// It isn't shown.
+    /// It is not shown.
     Invisible,
     /// It controls a device.
     Control,
-    /// It is white space that looks like a space, or like a line's end.
+    /// It is white space that looks like a space or a line end but is neither.
     White,
 }
 
-/// How the character hides something, if it does: by its properties in Unicode, past ASCII.
+/// Returns how the character hides something, if it does. Past ASCII the properties of Unicode decide.
 pub fn hides_as(c: char) -> Option<Hidden>
 {
     if c.is_ascii() {
@@ -30,7 +30,7 @@ pub fn hides_as(c: char) -> Option<Hidden>
     }
 }
 
-/// The same of a character of ASCII: each control but tab, line feed and CR.
+/// Returns how an ASCII character hides something: each control does, except tab, LF and CR.
 fn ascii_hides_as(c: char) -> Option<Hidden>
 {
     match c {
@@ -40,7 +40,8 @@ fn ascii_hides_as(c: char) -> Option<Hidden>
     }
 }
 
-/// The same of a character past ASCII. What selects a variant of the character before it shows on that.
+/// Returns how a character past ASCII hides something. A variation selector hides nothing, since it shows on the
+/// character before it.
 fn other_hides_as(c: char) -> Option<Hidden>
 {
     if is_bidi_control(c) {
@@ -58,7 +59,7 @@ fn other_hides_as(c: char) -> Option<Hidden>
     }
 }
 
-/// Whether the character can't stand in a line that is shown: it hides something, and isn't white space.
+/// Whether the character must not be shown as it is: it hides something and isn't white space.
 pub fn is_hidden(c: char) -> bool
 {
     match hides_as(c) {

@@ -1,5 +1,5 @@
 // Made from crates/rust_check/src/name_forms.rt by rust/erase: change that file, not this one.
-//! The names of a text, by their forms NFKC.
+//! The names of a text by their normal form NFKC.
 
 use proved_tokens::shim::prelude::GrowText;
 
@@ -7,14 +7,14 @@ use proved_tokens::shim::alloc::AllocError;
 use proved_tokens::shim::collections::HashMap;
 use proved_tokens::shim::unicode_normalization::to_nfkc;
 
-/// The names of a text so far: of each form NFKC the first.
+/// The names that were seen so far. For each NFKC form the first name is kept.
 pub struct NameForms {
-    /// The first name, by its form.
+    /// The first name of each form.
     pub first: HashMap<String, String>,
 }
 
 impl NameForms {
-    /// No name.
+    /// Returns the names before any name is seen.
     pub fn new() -> NameForms
     {
         NameForms {
@@ -22,7 +22,7 @@ impl NameForms {
         }
     }
 
-    /// Takes a name, and answers whether the first one of its form is another.
+    /// Takes one more name, and returns whether another name with the same form was first.
     pub fn take(&mut self, name: &str) -> Result<bool, AllocError>
     {
         let form = to_nfkc(name)?;

@@ -1,18 +1,18 @@
 // Made from crates/rust_check/src/names.rt by rust/erase: change that file, not this one.
-//! What is odd about a name.
+//! Whether a name mixes scripts.
 
 use proved_tokens::shim::ucd_script::Script;
 
-/// The scripts in which a name is written.
+/// The scripts of the characters of a name so far.
 #[derive(Clone, Copy, Debug, PartialEq, Eq)]
 pub enum Writing {
-    /// None so far, but for characters of all scripts.
+    /// No script yet, or only characters that all scripts share.
     Open,
-    /// Han, which Japanese, Korean and Bopomofo go on with.
+    /// Han only. Japanese, Korean and Bopomofo may follow.
     Han,
-    /// Kana, with Han or without.
+    /// Hiragana or Katakana, with or without Han.
     Japanese,
-    /// One script, and Han too where that is written with it.
+    /// One other script, with or without Han if Han is written together with it.
     One(Script),
     /// Scripts that are not written together.
     Mixed,
@@ -35,7 +35,7 @@ impl Writing {
         matches!(self, Writing::Mixed)
     }
 
-    /// With a character more, of this script.
+    /// Returns the scripts with one more character, which is of this script.
     fn with(self, script: Script) -> Writing
     {
         if is_same(script, Script::Common)
@@ -81,13 +81,13 @@ impl Writing {
     }
 }
 
-/// Whether Han is written with it: with Hangul and Bopomofo.
+/// Whether the script is written together with Han: Hangul and Bopomofo are.
 fn is_with_han(script: Script) -> bool
 {
     is_same(script, Script::Hangul) || is_same(script, Script::Bopomofo)
 }
 
-/// Whether the two are one script.
+/// Whether the two scripts are the same.
 fn is_same(a: Script, b: Script) -> bool
 {
     a.number() == b.number()

@@ -1,50 +1,50 @@
 // Made from crates/rust_check/src/options.rt by rust/erase: change that file, not this one.
-//! What the words after the program's name ask for.
+//! The options and paths of the command line.
 
 use proved_tokens::shim::prelude::{Grow, GrowText};
 
 use crate::messages::Failure;
 use proved_tokens::shim::alloc::AllocError;
 
-/// How the program is called.
+/// The usage line.
 pub const USAGE: &str = "rust_check [--short|--json] [--hidden] [--color=always|never] [FILE..]";
 
 /// How a finding is written.
 #[derive(Clone, Copy, Debug, PartialEq, Eq)]
 pub enum Form {
-    /// In one line.
+    /// On one line.
     Short,
-    /// With its line of the source and carets below.
+    /// With its line of the source and carets below that.
     Long,
-    /// The same, in a terminal's colours.
+    /// As in `Long`, but in the colours of a terminal.
     Coloured,
-    /// As an object of JSON on a line.
+    /// As a JSON object on one line.
     Json,
 }
 
 /// How files are checked.
 pub struct Options {
-    /// How a finding is written, but for colours.
+    /// The form of a finding, in which colours are left out.
     pub form: Form,
-    /// Whether colours are wanted.
+    /// Whether `--color=always` is the last option for colours.
     pub coloured: bool,
-    /// Whether hidden text is told too.
+    /// Whether hidden text is reported too.
     pub hidden: bool,
-    /// The paths of the files, `-` for standard input.
+    /// The paths of the files. `-` is standard input.
     pub paths: Vec<String>,
 }
 
-/// What the program is asked for.
+/// What the command line demands.
 pub enum Request {
-    /// To check files.
+    /// The files are checked.
     Check(Options),
-    /// How it is called.
+    /// The help is written.
     Help,
-    /// Its name and version.
+    /// The program's name and version are written.
     Version,
 }
 
-/// What a word says.
+/// What one word of the command line means.
 #[derive(Clone, Copy, Debug, PartialEq, Eq)]
 enum Word {
     Short,
@@ -57,9 +57,10 @@ enum Word {
     Path,
 }
 
-/// What the words ask for: options anywhere, and paths, of which standard input is one where there is no other.
+/// Returns what the words of the command line demand. Options and paths may come in any order, and `-` is the path if
+/// there is no other.
 ///
-/// Fails with `Usage` where a word begins with `-` that is no option, and with `Memory`.
+/// Returns `Usage` if a word begins with `-` and is no option, and `Memory` if memory runs out.
 pub fn request_of(words: &[String]) -> Result<Request, Failure>
 {
     let mut options = Options::new();
@@ -75,7 +76,7 @@ pub fn request_of(words: &[String]) -> Result<Request, Failure>
     Ok(Request::Check(options))
 }
 
-/// What the word says.
+/// Returns what the word means.
 fn word_of(word: &str) -> Word
 {
     match word {
@@ -90,7 +91,7 @@ fn word_of(word: &str) -> Word
     }
 }
 
-/// The same of a word that is no option that is known.
+/// Returns what a word means that is none of the known options.
 fn other_word(word: &str) -> Word
 {
     match word.as_bytes() {
@@ -101,7 +102,7 @@ fn other_word(word: &str) -> Word
 }
 
 impl Options {
-    /// What is asked for before any word.
+    /// Returns the options of an empty command line.
     fn new() -> Options
     {
         Options {
@@ -112,7 +113,7 @@ impl Options {
         }
     }
 
-    /// Takes a word.
+    /// Applies a known word, and takes it as a path if it is one.
     fn take(&mut self, known: Word, word: &str) -> Result<(), AllocError>
     {
         match known {
@@ -126,7 +127,7 @@ impl Options {
         Ok(())
     }
 
-    /// Standard input is read where no file is named.
+    /// Adds standard input as the path if no file is named.
     fn read_input_at_least(&mut self) -> Result<(), AllocError>
     {
         if self.paths.is_empty() {
@@ -142,7 +143,7 @@ impl Options {
         Ok(())
     }
 
-    /// How a finding is written.
+    /// Returns the form of a finding, in which colours count only for `Long`.
     pub fn shown_form(&self) -> Form
     {
         match self.form {

@@ -1,18 +1,18 @@
 // Made from crates/rust_check/src/place.rt by rust/erase: change that file, not this one.
-//! Where a place of a text stands.
+//! Lines of a text, and numbers of its characters and bytes.
 
 use proved_tokens::lexical::parts::before;
 
 /// The line on which a text ends.
 #[derive(Clone, Copy)]
 pub struct LastLine<'a> {
-    /// Its number, from 1.
+    /// The number of the line, counted from 1.
     pub number: usize,
-    /// What stands on it.
+    /// The text of the line.
     pub text: &'a str,
 }
 
-/// The line on which the text ends.
+/// Returns the line on which the text ends. Only LF ends a line here.
 pub fn last_line(text: &str) -> LastLine<'_>
 {
     let mut number = 1;
@@ -30,7 +30,7 @@ pub fn last_line(text: &str) -> LastLine<'_>
     }
 }
 
-/// The first `count` characters of the text, or all where it has fewer, and what follows them.
+/// Splits the text after its first `count` characters, or at its end if it has fewer.
 pub fn split_chars(text: &str, count: u32) -> (&str, &str)
 {
     let mut rest = text.chars();
@@ -41,7 +41,7 @@ pub fn split_chars(text: &str, count: u32) -> (&str, &str)
     (before(text, after), after)
 }
 
-/// What stands on the first line of the text, which ends at a line feed or at CR.
+/// Returns the first line of the text, which ends before the first LF or CR.
 pub fn first_line(text: &str) -> &str
 {
     let mut rest = text.chars();
@@ -55,7 +55,7 @@ pub fn first_line(text: &str) -> &str
     text
 }
 
-/// How many bytes the text has.
+/// Returns the number of bytes in the text.
 pub fn byte_count(text: &str) -> usize
 {
     text.len()

@@ -1,5 +1,5 @@
 // Made from crates/rust_check/src/shown.rt by rust/erase: change that file, not this one.
-//! How a line is shown on a terminal, and in which columns.
+//! How a line is shown on a terminal, and how many columns it takes.
 
 use proved_tokens::shim::prelude::{Grow, GrowText};
 
@@ -7,7 +7,7 @@ use crate::rust_check::hidden::is_hidden;
 use proved_tokens::shim::alloc::AllocError;
 use proved_tokens::shim::unicode_width::UnicodeWidthChar;
 
-/// The two parts of a line as they are shown: tab as four spaces, CR and what is hidden as U+FFFD.
+/// Returns the two parts of a line as they are shown: a tab as four spaces, CR and hidden characters as U+FFFD.
 pub fn shown_line(front: &str, rest: &str) -> Result<String, AllocError>
 {
     let mut out = String::new();
@@ -16,7 +16,8 @@ pub fn shown_line(front: &str, rest: &str) -> Result<String, AllocError>
     Ok(out)
 }
 
-/// Carets below the columns of a part of a line, one at least, after the columns of what stands before it.
+/// Returns carets under the columns of `part`, but at least one, after spaces for the columns of `front`, which
+/// precedes it.
 pub fn underline(front: &str, part: &str) -> Result<String, AllocError>
 {
     let mut out = String::new();
@@ -29,7 +30,7 @@ pub fn underline(front: &str, part: &str) -> Result<String, AllocError>
     Ok(out)
 }
 
-/// So many spaces.
+/// Returns `count` spaces.
 pub fn spaces(count: usize) -> Result<String, AllocError>
 {
     let mut out = String::new();
@@ -57,7 +58,7 @@ fn push_character(out: &mut String, c: char) -> Result<(), AllocError>
     }
 }
 
-/// Appends this for each column of the text.
+/// Appends `fill` once for each column of the text.
 fn push_filled(out: &mut String, fill: &str, text: &str) -> Result<(), AllocError>
 {
     for c in text.chars() {
@@ -66,7 +67,7 @@ fn push_filled(out: &mut String, fill: &str, text: &str) -> Result<(), AllocErro
     Ok(())
 }
 
-/// Appends a text so many times.
+/// Appends the text `count` times.
 fn push_times(out: &mut String, count: usize, text: &str) -> Result<(), AllocError>
 {
     for _ in 0..count {
@@ -75,7 +76,7 @@ fn push_times(out: &mut String, count: usize, text: &str) -> Result<(), AllocErr
     Ok(())
 }
 
-/// The columns that a character takes as it is shown.
+/// Returns how many columns the character takes as it is shown.
 fn columns(c: char) -> usize
 {
     match c {

@@ -1,21 +1,21 @@
 // Made from crates/rust_check/src/tally.rt by rust/erase: change that file, not this one.
-//! How many of the files have a fault or weren't read, and the status of the program.
+//! Counts the files with an error and the files that were not read, for the exit status.
 
 use crate::messages::Failure;
 use proved_tokens::shim::io;
 use proved_tokens::shim::io::Write;
 
-/// How many of the files so far have a fault or weren't read.
+/// How many of the files so far have an error, or were not read.
 #[derive(Clone, Copy, Debug, PartialEq, Eq)]
 pub struct Tally {
-    /// Those whose text has a fault.
+    /// The number of files whose text has an error.
     pub faulty: usize,
-    /// Those that weren't read.
+    /// The number of files that were not read.
     pub unread: usize,
 }
 
 impl Tally {
-    /// None.
+    /// Returns the counts before any file.
     pub fn new() -> Tally
     {
         Tally {
@@ -24,7 +24,7 @@ impl Tally {
         }
     }
 
-    /// With the outcome of one file more: whether its text has a fault, or why it wasn't read.
+    /// Returns the counts with the outcome of one more file: whether its text has an error, or why it was not read.
     pub fn with(self, outcome: &Result<bool, Failure>) -> Tally
     {
         match outcome {
@@ -40,7 +40,7 @@ impl Tally {
         }
     }
 
-    /// The status of the program: 2 where a file wasn't read, else 1 where a text has a fault, and else 0.
+    /// Returns the exit status: 2 if a file was not read, else 1 if a text has an error, else 0.
     pub fn status(self) -> u8
     {
         if self.unread > 0 {
@@ -52,7 +52,7 @@ impl Tally {
         }
     }
 
-    /// Writes how many of so many files have a fault or weren't read.
+    /// Writes how many of the `files` files have an error and how many were not read.
     pub fn write_summary<W: Write>(self, files: usize, writer: &mut W) -> io::Result<()>
     {
         let Tally { faulty, unread } = self;

@@ -1,5 +1,5 @@
 // Made from crates/rust_check/src/told.rt by rust/erase: change that file, not this one.
-//! Tells the hidden text of a source.
+//! Reports the hidden text of a source.
 
 use crate::rust_check::ends::{odd, tell_line_ends};
 use crate::rust_check::finding::{Finding, Place};
@@ -15,8 +15,8 @@ use proved_tokens::shim::io;
 use proved_tokens::shim::io::Write;
 use proved_tokens::shim::unicode_normalization::is_nfc;
 
-/// Writes a line for each place of the text where something is hidden, and answers whether there is one: first the
-/// hidden characters, piece by piece, and then what is odd at the ends of lines.
+/// Writes a line for each position of the text where something is hidden, and returns whether there is one. The hidden
+/// characters come first, piece by piece, and then what is odd about the line ends.
 pub fn tell_hidden<W: Write>(
     form: Form,
     path: &str,
@@ -30,7 +30,8 @@ pub fn tell_hidden<W: Write>(
     Ok(found)
 }
 
-/// Writes a line for each hidden character of the text's pieces, and of what follows them.
+/// Writes a line for each hidden character in the text's pieces and in what follows the last piece, and for each odd
+/// name.
 fn tell_pieces<W: Write>(
     form: Form,
     path: &str,
@@ -60,7 +61,7 @@ fn tell_pieces<W: Write>(
     Ok(())
 }
 
-/// Writes a line for what is odd about the piece, if it is a name, and takes that into account.
+/// Writes a line for each oddity of the piece, if it is a name, and adds the name to `forms`.
 fn tell_name<W: Write>(
     form: Form,
     path: &str,
@@ -100,7 +101,7 @@ fn tell_name<W: Write>(
     tell_if(form, path, is_other, &finding, found, writer)
 }
 
-/// Writes a line for a finding, if it is one.
+/// Writes a line for the finding if `is` is true.
 fn tell_if<W: Write>(
     form: Form,
     path: &str,
@@ -123,7 +124,7 @@ fn is_literal(kind: PieceKind<'_>) -> bool
     matches!(kind, PieceKind::Literal)
 }
 
-/// Writes a line for each hidden character of a piece that begins at this place, and answers the place after it.
+/// Writes a line for each hidden character of a piece that begins at `place`, and returns where the piece ends.
 fn tell_piece<W: Write>(
     form: Form,
     path: &str,
@@ -145,7 +146,7 @@ fn tell_piece<W: Write>(
     Ok(at)
 }
 
-/// Whether the controls of the direction are balanced on the line that goes on after this character.
+/// Whether the controls of direction are balanced on the line on which the text after this character begins.
 fn balanced_after(balanced: bool, c: char, rest: &str) -> Result<bool, AllocError>
 {
     if c == '\n' {
@@ -179,7 +180,7 @@ fn tell_character<W: Write>(
     write_line(form, path, &finding, writer)
 }
 
-/// Whether nothing is said of it: of white space in a literal, and of U+FEFF at the text's front.
+/// Whether a hidden character is not reported: white space in a literal, and U+FEFF at the start of the text.
 fn is_spared(literal: bool, place: Place, c: char, hidden: Hidden) -> bool
 {
     match hidden {
@@ -189,7 +190,7 @@ fn is_spared(literal: bool, place: Place, c: char, hidden: Hidden) -> bool
     }
 }
 
-/// A hidden character, of which `here` is the text.
+/// Returns the finding for a hidden character, whose text is `here`.
 fn finding<'a>(balanced: bool, place: Place, hidden: Hidden, c: char, here: &'a str) -> Finding<'a>
 {
     Finding {
@@ -202,7 +203,7 @@ fn finding<'a>(balanced: bool, place: Place, hidden: Hidden, c: char, here: &'a 
     }
 }
 
-/// The short name of what hides something.
+/// Returns the short name of what hides something.
 fn name_of_hidden(balanced: bool, hidden: Hidden) -> &'static str
 {
     match hidden {
@@ -215,7 +216,7 @@ fn name_of_hidden(balanced: bool, hidden: Hidden) -> &'static str
     }
 }
 
-/// What is said of it.
+/// Returns the words about what hides something.
 fn says_of_hidden(balanced: bool, hidden: Hidden) -> &'static str
 {
     match hidden {

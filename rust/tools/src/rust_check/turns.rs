@@ -1,23 +1,23 @@
 // Made from crates/rust_check/src/turns.rt by rust/erase: change that file, not this one.
-//! Whether the controls of a line's direction are balanced.
+//! Whether the controls of direction on a line are balanced.
 
 use proved_tokens::shim::prelude::Grow;
 
 use proved_tokens::shim::alloc::AllocError;
 
-/// What a control does to a line's direction.
+/// What a control does to the direction of the text.
 #[derive(Clone, Copy, Debug, PartialEq, Eq)]
 pub enum Turn {
-    /// Nothing that lasts.
+    /// It opens and closes nothing.
     Stays,
-    /// What follows has a direction of its own, apart from the text around it (`true`) or within it.
+    /// It opens a part with its own direction: an isolate (`true`), or an embedding or override (`false`).
     Opens(bool),
-    /// That ends, where it was apart (`true`) or not.
+    /// It closes an isolate (`true`), or an embedding or override (`false`).
     Closes(bool),
 }
 
-/// Whether each control of the direction on the text's first line is closed there, in order, and none is closed that
-/// isn't open.
+/// Whether the controls of direction on the text's first line are balanced: each part that is opened there is closed
+/// there, the innermost first, and nothing else is closed. Only LF ends the line.
 pub fn is_balanced(text: &str) -> Result<bool, AllocError>
 {
     let mut opened = Vec::new();
@@ -33,7 +33,8 @@ pub fn is_balanced(text: &str) -> Result<bool, AllocError>
     Ok(opened.as_slice().is_empty())
 }
 
-/// Takes a character, and answers whether it closes nothing that isn't open, the innermost last.
+/// Applies the character to the parts that are open, and returns whether it is in balance. It is not if it closes
+/// another part than the innermost.
 fn take(opened: &mut Vec<bool>, c: char) -> Result<bool, AllocError>
 {
     match turn_of(c) {
@@ -49,13 +50,13 @@ fn take(opened: &mut Vec<bool>, c: char) -> Result<bool, AllocError>
     }
 }
 
-/// Whether both are apart, or neither.
+/// Whether both are isolates, or neither is.
 fn is_same(a: bool, b: bool) -> bool
 {
     if a { b } else { !b }
 }
 
-/// What the character does to its line's direction.
+/// Returns what the character does to the direction of the text.
 fn turn_of(c: char) -> Turn
 {
     match c {

@@ -1,5 +1,5 @@
 // Made from crates/rust_check/src/writing.rt by rust/erase: change that file, not this one.
-//! What is written for a finding.
+//! Writes a finding.
 
 use proved_tokens::shim::prelude::format;
 
@@ -12,7 +12,7 @@ use crate::messages::escaped;
 use proved_tokens::shim::io;
 use proved_tokens::shim::io::Write;
 
-/// Writes what is found in the file at this path, in this form.
+/// Writes a finding in the file at this path, in the given form.
 pub fn write_message<W: Write>(
     form: Form,
     path: &str,
@@ -28,7 +28,7 @@ pub fn write_message<W: Write>(
     }
 }
 
-/// Writes what is found in the file at this path on one line, whichever form it has.
+/// Writes a finding in the file at this path on one line: as JSON if that is the form, else in the short form.
 pub fn write_line<W: Write>(
     form: Form,
     path: &str,
@@ -42,18 +42,17 @@ pub fn write_line<W: Write>(
     }
 }
 
-/// Writes what is found in the file at this path in one line: `FILE:L:C: error: what`, line and column from 1, the
-/// column in characters.
+/// Writes a finding on one line, as `FILE:L:C: error: what`. Line and column count from 1, and columns are characters.
 fn write_short<W: Write>(path: &str, finding: &Finding<'_>, writer: &mut W) -> io::Result<()>
 {
     let line = finding.place.line;
-    // As wide as the sum needs.
+    // The column may be the largest `usize`, so the sum needs more bits.
     let column = finding.place.column as u128 + 1;
     let says = finding.says;
     writeln!(writer, "{path}:{line}:{column}: error: {says}")
 }
 
-/// Writes what is found in the file at this path, with its line of the source and carets below.
+/// Writes a finding with its line of the source and carets below that.
 fn write_long<W: Write>(
     colours: Colours,
     path: &str,
@@ -65,7 +64,7 @@ fn write_long<W: Write>(
     write_excerpt(colours, path, finding, writer)
 }
 
-/// Writes what is wrong.
+/// Writes the line that says what is wrong.
 fn write_headline<W: Write>(
     colours: Colours,
     finding: &Finding<'_>,
@@ -83,7 +82,7 @@ fn write_headline<W: Write>(
     writeln!(writer, "{fault}error[{name}]{off}{strong}: {says}{off}")
 }
 
-/// Writes where it is found in the file at this path, with its line of the source and carets below.
+/// Writes where a finding is, its line of the source, and carets below that.
 pub fn write_excerpt<W: Write>(
     colours: Colours,
     path: &str,
@@ -98,7 +97,7 @@ pub fn write_excerpt<W: Write>(
         ..
     } = colours;
     let number = format!("{}", finding.place.line)?;
-    // As wide as the sum needs.
+    // The column may be the largest `usize`, so the sum needs more bits.
     let column = finding.place.column as u128 + 1;
     let gutter = spaces(number.len())?;
     let source = shown_line(finding.front, first_line(finding.rest))?;
@@ -110,7 +109,7 @@ pub fn write_excerpt<W: Write>(
     )
 }
 
-/// Writes what is found in the file at this path as an object of JSON on a line.
+/// Writes a finding as a JSON object on one line.
 fn write_json<W: Write>(
     path: &str,
     finding: &Finding<'_>,
@@ -121,7 +120,7 @@ fn write_json<W: Write>(
     write_json_where(finding, writer)
 }
 
-/// Writes the front of an object of JSON: the file and what is wrong.
+/// Writes the first part of the JSON object: the file and what is wrong.
 fn write_json_what<W: Write>(
     path: &str,
     finding: &Finding<'_>,
@@ -137,7 +136,7 @@ fn write_json_what<W: Write>(
     )
 }
 
-/// Writes its rest: where it stands.
+/// Writes the second part of the JSON object: where the finding is.
 fn write_json_where<W: Write>(finding: &Finding<'_>, writer: &mut W) -> io::Result<()>
 {
     let Place {
@@ -145,7 +144,7 @@ fn write_json_where<W: Write>(finding: &Finding<'_>, writer: &mut W) -> io::Resu
         column,
         begin,
     } = finding.place;
-    // As wide as the sums need.
+    // The sums may exceed a `usize`.
     let column = column as u128 + 1;
     let end = begin as u128 + byte_count(finding.here) as u128;
     write!(

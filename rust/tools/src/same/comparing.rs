@@ -6,8 +6,9 @@ use crate::same::words::Words;
 use proved_tokens::pm_token::parts::TextBuilder;
 use proved_tokens::shim::alloc::AllocError;
 
-/// Where two texts differ first in their tokens, and in their comments too if `comments` says so: what each has from
-/// there on, or nothing where it ends before. None where they are the same.
+/// Returns where two texts first differ in their tokens and, if `comments` is true, in their comments. The result is
+/// the rest of each text from there on, which is empty if the text has no more words. Returns `None` if the texts are
+/// the same.
 pub fn difference<'a>(
     comments: bool,
     first: &'a str,
@@ -28,7 +29,7 @@ pub fn difference<'a>(
     }
 }
 
-/// Whether the other is the same word.
+/// Whether there is another word and it is the same as the first.
 fn is_same(one: Said<'_>, other: Option<Said<'_>>) -> Result<bool, AllocError>
 {
     match other {
@@ -37,7 +38,7 @@ fn is_same(one: Said<'_>, other: Option<Said<'_>>) -> Result<bool, AllocError>
     }
 }
 
-/// Whether both are the same word.
+/// Whether the two words are the same.
 fn is_alike(one: Said<'_>, other: Said<'_>) -> Result<bool, AllocError>
 {
     Ok(match (one, other) {
@@ -56,7 +57,7 @@ fn is_alike(one: Said<'_>, other: Said<'_>) -> Result<bool, AllocError>
     })
 }
 
-/// Whether the literal is the string literal of the text.
+/// Whether the literal is the one that `Literal::string` writes for the text.
 fn is_string_of(text: &str, literal: &str) -> Result<bool, AllocError>
 {
     let mut string = TextBuilder::with_room(0)?;

@@ -1,9 +1,10 @@
 // Made from crates/same/src/place.rt by rust/erase: change that file, not this one.
-//! Places of a text.
+//! Lines and columns in a text.
 
 use proved_tokens::proc_macro2::LineColumn;
 
-/// The line and the column of what follows so many bytes of the text. Lines count from 1, columns in characters from 0.
+/// Returns the line and column after the first `bytes` bytes of the text. Lines count from 1, and columns count
+/// characters from 0.
 pub fn place_at(text: &str, bytes: usize) -> LineColumn
 {
     let mut line = 1;

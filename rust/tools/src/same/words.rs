@@ -1,16 +1,16 @@
 // Made from crates/same/src/words.rt by rust/erase: change that file, not this one.
-//! What is compared of a text: its tokens, one after another, and perhaps its comments.
+//! The words of a text that are compared: its tokens in order and, if wanted, its comments.
 
 use crate::same::said::{DocStep, Said, after, alone, delimiter};
 use proved_tokens::lexical::parts::begins;
 use proved_tokens::lexical::{PieceKind, PieceWalk, PlacedPiece, pieces};
 use proved_tokens::pm_token::Delimiter;
 
-/// The words of a text that are left.
+/// The words that are left of a text.
 pub struct Words<'a> {
     walk: PieceWalk<'a>,
     comments: bool,
-    // What is left of a doc comment, and what it says.
+    // The next token of a doc comment that is being read, if there is one, and the comment's text.
     step: Option<DocStep>,
     doc: &'a str,
     /// The text from the last word on.
@@ -18,8 +18,8 @@ pub struct Words<'a> {
 }
 
 impl<'a> Words<'a> {
-    /// All words of a text: its tokens, and its comments too if `comments` says so. Then a doc comment is a comment,
-    /// and else the attribute that it stands for.
+    /// Returns all words of a text: its tokens and, if `comments` is true, its comments. Without comments a doc comment
+    /// counts as the attribute that it is read as.
     pub fn new(text: &'a str, comments: bool) -> Words<'a>
     {
         Words {
@@ -30,11 +30,12 @@ impl<'a> Words<'a> {
             here: text,
         }
     }
-    /// The next word, from which `here` is the text then on. None at the end, where `here` is empty.
+    /// Returns the next word, and sets `here` to the text from that word on. Returns `None` at the end, where `here` is
+    /// empty.
     #[cfg_attr(not(debug_assertions), inline(always))]
     pub fn next(&mut self) -> Option<Said<'a>>
     {
-        // In its callers' loops the walk stays in registers, as in `next_piece`.
+        // The inlined body lets the loops of the callers keep the walk in registers, as `next_piece` does.
         if let Some(step) = self.step {
             return Some(self.take_step(step));
         }
@@ -47,7 +48,7 @@ impl<'a> Words<'a> {
         }
     }
 
-    /// The first word of the piece, if it has one.
+    /// Returns the first word of the piece, if it has one.
     fn begin(&mut self, next: PlacedPiece<'a>) -> Option<Said<'a>>
     {
         match next.piece.kind {
@@ -74,7 +75,7 @@ impl<'a> Words<'a> {
         }
     }
 
-    /// The token of this step of the doc comment.
+    /// Returns the token of this step of the doc comment.
     fn take_step(&mut self, step: DocStep) -> Said<'a>
     {
         self.step = after(step);
@@ -89,7 +90,7 @@ impl<'a> Words<'a> {
         }
     }
 
-    /// What the doc comment says.
+    /// Returns the text of the doc comment.
     fn doc_text(&self) -> &'a str
     {
         self.doc

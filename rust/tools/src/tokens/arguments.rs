@@ -1,14 +1,14 @@
 // Made from crates/tokens/src/arguments.rt by rust/erase: change that file, not this one.
-//! The words that the program was given.
+//! The words of the command line.
 
 use proved_tokens::shim::alloc::AllocError;
 use proved_tokens::shim::env::Args;
 use proved_tokens::shim::io;
 
-/// The words after the program's name, which is the first of its arguments.
+/// Returns the words after the program's name, which is the first of its arguments.
 ///
-/// Arguments that are no text are no words, since they ask for nothing. It fails where they weren't
-/// had for any other reason, which is taken as memory that ran out, and where there is none for the list.
+/// There are no words if an argument isn't text. Returns an error if memory runs out for the list, or if the arguments
+/// could not be had for another reason, which counts as running out of memory.
 pub fn words(arguments: io::Result<Args>) -> Result<Vec<String>, AllocError>
 {
     match arguments {
@@ -18,7 +18,7 @@ pub fn words(arguments: io::Result<Args>) -> Result<Vec<String>, AllocError>
     }
 }
 
-/// Whether arguments weren't had since they are no text.
+/// Whether the reason why there are no arguments is that one of them isn't text.
 fn is_no_text(kind: io::ErrorKind) -> bool
 {
     matches!(kind, io::ErrorKind::InvalidData)

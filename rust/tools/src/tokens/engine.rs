@@ -1,5 +1,5 @@
 // Made from crates/tokens/src/engine.rt by rust/erase: change that file, not this one.
-//! A run: from the bytes of a source to the bytes of a sink.
+//! A run, which goes from the bytes of a source to the bytes of a sink.
 
 use proved_tokens::shim::prelude::GrowText;
 
@@ -11,15 +11,15 @@ use crate::tokens::sinks::ByteSink;
 use crate::tokens::sources::ByteSource;
 use proved_tokens::proc_macro2::{ParseError, SourceMap, TokenStream, place_trees, reprint};
 
-/// Reads source text to its end, and writes its tokens as `mode` says.
+/// Reads source text to its end, and writes its tokens in the form that `mode` says.
 ///
-/// What is written is known, and all memory taken, before its first byte is written. `Io` is answered where a
-/// read failed, and nothing is written then, or where a write failed or took nothing, and a beginning of the
-/// output is. Each other refusal writes nothing: `NotUtf8`, `MapFull` and `Lex`, which has the
-/// line and column of the fault, are about the whole input, and `Memory` comes where a growth was refused.
+/// The whole output is computed, and all memory allocated, before the first byte is written. Returns `Io` if a read
+/// failed, after which nothing is written, or if a write failed or took no bytes, after which a prefix of the output is
+/// written. Every other error comes before anything is written. `NotUtf8`, `MapFull` and `Lex`, which has the line and
+/// column of the syntax error, are about the whole input. `Memory` means that memory ran out.
 ///
-/// For `Print`, `a+b` gives `a + b` and a line feed, for `Spans` the lines `1:0-1:1 ident`,
-/// `1:1-1:2 punct` and `1:2-1:3 ident`; `(]` is refused with `Lex` at line 1, column 1.
+/// Example: for `a+b`, `Print` writes `a + b` and a line feed, and `Spans` writes the lines `1:0-1:1 ident`,
+/// `1:1-1:2 punct` and `1:2-1:3 ident`. For `(]` the error is `Lex` at line 1, column 1.
 pub fn run<R: ByteSource, W: ByteSink>(
     mode: OutputMode,
     reader: &mut R,
@@ -31,17 +31,17 @@ pub fn run<R: ByteSource, W: ByteSink>(
     write_output(writer, &output)
 }
 
-/// What is written for the input.
+/// Returns what is to be written for the input.
 fn output_of(mode: OutputMode, input: Vec<u8>) -> Result<RunOutput, RunError>
 
-    // That a growth was refused can't be stated, only which inputs may come so far.
+    // A contract cannot say that an allocation failed, only for which inputs one may be tried.
 {
     let Ok(text) = String::from_utf8(input) else {
         return Err(RunError::NotUtf8);
     };
     match output_of_text(mode, text.as_str()) {
         Ok(output) => Ok(output),
-        // Trees and a map are made only now, for line and column of the fault.
+        // Only an error needs its line and column, so only now is the text parsed into a map.
         Err(ParseError::Lex(_)) => Err(refusal_of(text.as_str())),
         Err(ParseError::MapFull) => Err(RunError::MapFull),
         Err(ParseError::Memory(error)) => Err(RunError::Memory(error)),
@@ -49,7 +49,7 @@ fn output_of(mode: OutputMode, input: Vec<u8>) -> Result<RunOutput, RunError>
 }
 }
 
-/// What is written for the text.
+/// Returns what is to be written for the text.
 fn output_of_text(mode: OutputMode, text: &str) -> Result<RunOutput, ParseError>
 {
     match mode {
@@ -58,8 +58,8 @@ fn output_of_text(mode: OutputMode, text: &str) -> Result<RunOutput, ParseError>
     }
 }
 
-/// Why the run is refused of a text that doesn't parse: for its fault, whose line and column are asked of a map, or
-/// where the text doesn't fit the map, or memory runs out.
+/// Returns the error of a run whose text doesn't parse. To get the line and column of the syntax error, it parses the
+/// text again into a map, for which the text may be too long or memory may run out.
 fn refusal_of(text: &str) -> RunError
 {
     let mut map = SourceMap::new();
@@ -69,7 +69,7 @@ fn refusal_of(text: &str) -> RunError
     }
 }
 
-/// Why a run is refused whose text wasn't parsed into the map.
+/// Returns the error of a run whose text could not be parsed into the map.
 fn refusal(error: ParseError, map: &SourceMap) -> RunError
 {
     match error {
@@ -80,7 +80,7 @@ fn refusal(error: ParseError, map: &SourceMap) -> RunError
 }
 }
 
-/// The printed text and a line feed.
+/// Returns the printed text and a line feed.
 fn printed(text: &str) -> Result<RunOutput, ParseError>
 {
     let mut printed = reprint(text)?;
@@ -88,7 +88,7 @@ fn printed(text: &str) -> Result<RunOutput, ParseError>
     Ok(RunOutput::Text(printed))
 }
 
-/// A line for each tree.
+/// Returns the trees, each of which makes a line of the output.
 fn placed(text: &str) -> Result<RunOutput, ParseError>
 {
     Ok(RunOutput::Trees(place_trees(text)?))

@@ -1,6 +1,6 @@
 // Made from crates/tokens/src/messages.rt by rust/erase: change that file, not this one.
-//! What the program says, a line at a time. No message takes memory, and one that can't be written
-//! is dropped.
+//! The messages of the program, one line each. Writing a message allocates no memory, and a message that cannot be
+//! written is dropped.
 
 use crate::tokens::errors::RunError;
 use crate::tokens::sinks::ByteSink;
@@ -8,14 +8,13 @@ use crate::tokens::writing::write_all;
 use proved_tokens::shim::itoa::Buffer;
 use proved_tokens::proc_macro2::LineColumn;
 
-/// Says how the program is called.
+/// Writes the usage line.
 pub fn say_usage<E: ByteSink>(errors: &mut E)
 {
     let _ = write_all(errors, b"usage: tokens print|spans\n");
 }
 
-/// Says why a run was refused, and nothing of one that wasn't: `fault 2:0` of a fault at the front
-/// of the second line.
+/// Writes why a run failed, and nothing if it did not. For a syntax error at the start of line 2 it writes `fault 2:0`.
 pub fn say<E: ByteSink>(errors: &mut E, answer: &Result<(), RunError>)
 {
     let _ = match answer {
@@ -28,7 +27,7 @@ pub fn say<E: ByteSink>(errors: &mut E, answer: &Result<(), RunError>)
     };
 }
 
-/// Says where a fault stands.
+/// Writes the line and column of a syntax error.
 fn say_fault<E: ByteSink>(errors: &mut E, start: LineColumn) -> Result<(), RunError>
 {
     write_all(errors, b"fault ")?;
@@ -38,7 +37,7 @@ fn say_fault<E: ByteSink>(errors: &mut E, start: LineColumn) -> Result<(), RunEr
     write_all(errors, b"\n")
 }
 
-/// Says a number in decimal digits.
+/// Writes a number in decimal digits.
 fn say_number<E: ByteSink>(errors: &mut E, number: usize) -> Result<(), RunError>
 {
     let mut buffer = Buffer::new();

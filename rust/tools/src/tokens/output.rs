@@ -1,5 +1,5 @@
 // Made from crates/tokens/src/output.rt by rust/erase: change that file, not this one.
-//! What is written for an input, before it is written.
+//! The output for an input, complete before it is written.
 
 use crate::tokens::errors::RunError;
 use crate::tokens::sinks::ByteSink;
@@ -7,17 +7,17 @@ use crate::tokens::spans::write_lines;
 use crate::tokens::writing::write_all;
 use proved_tokens::proc_macro2::PlacedTree;
 
-/// What is written for an input. It stands before its first byte is written.
+/// The whole output for an input, known before its first byte is written.
 pub enum RunOutput {
-    /// A text as it is.
+    /// A text, which is written as it is.
     Text(String),
-    /// A line for each of these trees.
+    /// Trees, each of which is written as a line.
     Trees(Vec<PlacedTree>),
 }
 
-/// Writes the output.
+/// Writes the output to the sink.
 ///
-/// It answers `Io` where a write failed or took nothing. A beginning of the output is written then.
+/// Returns `Io` if a write failed or took no bytes. A prefix of the output is written then.
 pub fn write_output<W: ByteSink>(writer: &mut W, output: &RunOutput) -> Result<(), RunError>
 {
     match output {

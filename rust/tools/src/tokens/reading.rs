@@ -8,13 +8,12 @@ use crate::tokens::sources::ByteSource;
 use proved_tokens::shim::alloc::AllocError;
 use proved_tokens::shim::io;
 
-/// How many bytes a read has room for at least.
+/// The number of bytes for which each read has room at least.
 const BLOCK: usize = 64 * 1024;
 
-/// All the bytes that the source has left.
+/// Reads all the bytes that the source has left.
 ///
-/// It answers `Io` where a read failed, and `Memory` where the memory for the bytes is refused.
-/// Some of them may be read then.
+/// Returns `Io` if a read failed, and `Memory` if memory runs out. Some of the bytes may have been read then.
 pub fn read_to_end<R: ByteSource>(reader: &mut R) -> Result<Vec<u8>, RunError>
 {
     let mut bytes = Vec::new();
@@ -32,8 +31,8 @@ pub fn read_to_end<R: ByteSource>(reader: &mut R) -> Result<Vec<u8>, RunError>
     }
 }
 
-/// Makes room for a block after the bytes that are filled, by zeros. What the list has room for past
-/// the block stays untouched, so that no memory is taken for it.
+/// Makes room for a block of zeros after the bytes that are filled. Capacity past that block stays untouched, so the
+/// system need not provide memory for it.
 fn make_room(bytes: &mut Vec<u8>, filled: usize) -> Result<(), AllocError>
 {
     if bytes.len() - filled < BLOCK {
@@ -43,7 +42,7 @@ fn make_room(bytes: &mut Vec<u8>, filled: usize) -> Result<(), AllocError>
     Ok(())
 }
 
-/// One read, into the part of the buffer after the bytes that are filled.
+/// Reads once, into the part of the buffer after the bytes that are filled.
 fn read_at<R: ByteSource>(reader: &mut R, buffer: &mut [u8], filled: usize) -> io::Result<usize>
 {
     reader.read(&mut buffer[filled..])

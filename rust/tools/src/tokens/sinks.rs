@@ -1,32 +1,31 @@
 // Made from crates/tokens/src/sinks.rt by rust/erase: change that file, not this one.
-//! Where a run's output goes.
+//! Sinks, to which the output of a run goes.
 
 use proved_tokens::shim::prelude::GrowList;
 
 use proved_tokens::shim::io;
 use proved_tokens::shim::io::Write;
 
-/// What bytes are written to.
+/// Something to which bytes can be written.
 ///
-/// It has one call. A sink may tell the bytes that it holds, as one over memory does; one over a
-/// file tells none.
+/// Proofs may know which bytes a sink holds, as they do for one in memory. For a file they don't.
 pub trait ByteSink {
-    // the bytes that the sink holds, where it tells them
+    // the bytes that the sink holds, if proofs may know them
 
-    // whether a call has failed, or taken nothing of a slice that isn't empty, so far
+    // whether a call so far has failed, or has taken no bytes of a slice that isn't empty
 
-    /// Takes a front of `bytes`, and answers how many bytes it took. After an error it took none.
+    /// Takes a prefix of `bytes`, and returns how many bytes that is. It takes none if it returns an error.
     fn write(&mut self, bytes: &[u8]) -> io::Result<usize>;
 }
 
-/// Bytes in memory. A write fails where the memory for its bytes is refused.
+/// Bytes in memory. A write fails if memory runs out.
 pub struct MemorySink {
     bytes: Vec<u8>,
     failed: bool,
 }
 
 impl MemorySink {
-    /// A sink that holds nothing yet.
+    /// Returns a sink that holds nothing yet.
     pub fn new() -> MemorySink
     {
         MemorySink {
@@ -35,7 +34,7 @@ impl MemorySink {
         }
     }
 
-    /// The bytes that it holds.
+    /// Returns the bytes that the sink holds.
     pub fn bytes(&self) -> &[u8]
     {
         self.bytes.as_slice()
@@ -51,17 +50,16 @@ impl ByteSink for MemorySink {
     }
 }
 
-/// A writer of the standard library. It tells its bytes where the writer does.
+/// A sink that writes to a `Write`. Its bytes are known to proofs if those of the writer are.
 ///
-/// It flushes nothing: what the writer holds back is left to its owner. A write that a signal
-/// interrupts is one that failed.
+/// It does not flush, so the owner of the writer must. A write that a signal interrupts counts as failed.
 pub struct WriteSink<W> {
     writer: W,
     failed: bool,
 }
 
 impl<W: Write> WriteSink<W> {
-    /// A sink that hands its bytes to the writer.
+    /// Returns a sink that passes its bytes to the writer.
     pub fn new(writer: W) -> WriteSink<W>
     {
         WriteSink {
@@ -79,7 +77,7 @@ impl<W: Write> ByteSink for WriteSink<W> {
     }
 }
 
-/// Whether a write failed, or took nothing of a slice that isn't empty.
+/// Whether a write failed, or took no bytes of a slice that isn't empty.
 pub(crate) fn is_refusal(answer: &io::Result<usize>, bytes: &[u8]) -> bool
 {
     match answer {

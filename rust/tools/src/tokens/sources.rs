@@ -1,32 +1,31 @@
 // Made from crates/tokens/src/sources.rt by rust/erase: change that file, not this one.
-//! Where a run's input comes from.
+//! Sources, from which the input of a run comes.
 
 use proved_tokens::shim::io;
 use proved_tokens::shim::io::Read;
 
-/// What bytes are read from.
+/// Something from which bytes can be read.
 ///
-/// It has one call. A source may tell the bytes that it has left, as one over memory does; one over
-/// a file tells none.
+/// Proofs may know which bytes a source has left, as they do for one in memory. For a file they don't.
 pub trait ByteSource {
-    // the bytes that reads will give from here on, where the source tells them
+    // the bytes that later reads will give, if proofs may know them
 
     // whether a call has failed so far
 
-    /// Reads into the front of `buffer`, and answers how many bytes it put there.
+    /// Reads bytes into the start of `buffer`, and returns how many bytes it read.
     ///
-    /// 0 bytes in a buffer that isn't empty are the input's end. After an error nothing is read.
+    /// If it returns 0 for a buffer that isn't empty, the input has ended. It reads nothing if it returns an error.
     fn read(&mut self, buffer: &mut [u8]) -> io::Result<usize>;
 }
 
-/// Bytes in memory, of which no read fails.
+/// Bytes in memory. No read of them fails.
 pub struct MemorySource<'a> {
     rest: &'a [u8],
     failed: bool,
 }
 
 impl<'a> MemorySource<'a> {
-    /// A source of these bytes.
+    /// Returns a source of these bytes.
     pub fn new(bytes: &'a [u8]) -> MemorySource<'a>
     {
         MemorySource {
@@ -45,16 +44,16 @@ impl ByteSource for MemorySource<'_> {
     }
 }
 
-/// A reader of the standard library. It tells its bytes where the reader does.
+/// A source that reads from a `Read`. Its bytes are known to proofs if those of the reader are.
 ///
-/// A read that a signal interrupts is one that failed.
+/// A read that a signal interrupts counts as failed.
 pub struct ReadSource<R> {
     reader: R,
     failed: bool,
 }
 
 impl<R: Read> ReadSource<R> {
-    /// A source of the bytes that the reader gives.
+    /// Returns a source of the bytes that the reader gives.
     pub fn new(reader: R) -> ReadSource<R>
     {
         ReadSource {

@@ -1,5 +1,5 @@
 // Made from crates/tokens/src/spans.rt by rust/erase: change that file, not this one.
-//! A line for each tree of a text: where it begins and ends, and its kind.
+//! Writes a line for each tree of a text: where the tree begins and ends, and its kind.
 
 use crate::tokens::errors::RunError;
 use crate::tokens::sinks::ByteSink;
@@ -7,18 +7,19 @@ use crate::tokens::writing::write_all;
 use proved_tokens::shim::itoa::write_digits;
 use proved_tokens::proc_macro2::{Place, PlacedTree, TreeKind};
 
-/// How many lines are written at once, at most.
+/// The largest number of lines in one write.
 const LINES: usize = 512;
 
-/// No line has more bytes: four numbers of at most ten digits, and some twelve more.
+/// The largest number of bytes in a line: four numbers of at most ten digits, and at most twelve other bytes.
 const LONGEST_LINE: usize = 64;
 
 /// Writes a line for each of the trees.
 ///
-/// A line has line and column where the tree begins and ends, lines from 1 on and columns in characters
-/// from 0 on, and its kind. Of `a (b)` they are `1:0-1:1 ident`, `1:2-1:5 group` and
-/// `1:3-1:4 ident`. It takes no memory, and writes many lines at once. It answers `Io` where a write failed
-/// or took nothing, and a beginning of the lines is written then.
+/// A line has the line and column where the tree begins and where it ends, and its kind. Lines count from 1, and
+/// columns count characters from 0. It allocates no memory, and each write has many lines. Returns `Io` if a write
+/// failed or took no bytes. A prefix of the lines is written then.
+///
+/// Example: for `a (b)` the lines are `1:0-1:1 ident`, `1:2-1:5 group` and `1:3-1:4 ident`.
 pub fn write_lines<W: ByteSink>(writer: &mut W, trees: &[PlacedTree]) -> Result<(), RunError>
 {
     let mut buffer = [0; LINES * LONGEST_LINE];
@@ -32,7 +33,7 @@ pub fn write_lines<W: ByteSink>(writer: &mut W, trees: &[PlacedTree]) -> Result<
     Ok(())
 }
 
-/// Puts the lines of the trees at the end of the buffer, the last of them first, and answers where they begin.
+/// Puts the lines of the trees at the end of the buffer, the last line first, and returns where they begin.
 fn put_lines(buffer: &mut [u8], trees: &[PlacedTree]) -> usize
 {
     let mut start = buffer.len();
@@ -44,7 +45,7 @@ fn put_lines(buffer: &mut [u8], trees: &[PlacedTree]) -> usize
     start
 }
 
-/// Puts the line of a tree before `end`, and answers where it begins.
+/// Puts the line of a tree before the byte offset `end`, and returns where it begins.
 fn put_line(buffer: &mut [u8], end: usize, tree: PlacedTree) -> usize
 {
     let end = put(buffer, end, line_end(tree.kind));
@@ -53,7 +54,7 @@ fn put_line(buffer: &mut [u8], end: usize, tree: PlacedTree) -> usize
     put_place(buffer, end, tree.start)
 }
 
-/// Puts a line and a column, as `1:0`, before `end`, and answers where they begin.
+/// Puts a line and a column, as in `1:0`, before the byte offset `end`, and returns where they begin.
 fn put_place(buffer: &mut [u8], end: usize, place: Place) -> usize
 {
     let end = put_number(buffer, end, place.column);
@@ -61,13 +62,13 @@ fn put_place(buffer: &mut [u8], end: usize, place: Place) -> usize
     put_number(buffer, end, place.line)
 }
 
-/// Puts a number in decimal digits before `end`, and answers where it begins.
+/// Puts a number in decimal digits before the byte offset `end`, and returns where it begins.
 fn put_number(buffer: &mut [u8], end: usize, number: u32) -> usize
 {
     write_digits(number as u64, buffer, end)
 }
 
-/// Puts a text before `end`, and answers where it begins.
+/// Puts a text before the byte offset `end`, and returns where it begins.
 fn put(buffer: &mut [u8], end: usize, text: &str) -> usize
 {
     let start = end - text.len();
@@ -75,7 +76,7 @@ fn put(buffer: &mut [u8], end: usize, text: &str) -> usize
     start
 }
 
-/// A space, the word for a kind, and the line's end.
+/// Returns a space, the word for the kind, and a line feed.
 fn line_end(kind: TreeKind) -> &'static str
 {
     match kind {

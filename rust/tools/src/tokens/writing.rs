@@ -4,9 +4,9 @@
 use crate::tokens::errors::RunError;
 use crate::tokens::sinks::ByteSink;
 
-/// Writes all the bytes, in as many calls as the sink wants.
+/// Writes all the bytes, in as many calls as the sink needs.
 ///
-/// It answers `Io` where a write failed or took nothing. A beginning of the bytes is written then.
+/// Returns `Io` if a write failed or took no bytes. A prefix of the bytes is written then.
 pub fn write_all<W: ByteSink>(writer: &mut W, bytes: &[u8]) -> Result<(), RunError>
 {
     let mut rest = bytes;

@@ -3,7 +3,7 @@ use Rattle.std.specs.List.{prefix_len}
 use Rattle.declarations.specs.EntryCheck.{has_name, place_of}
 use Rattle.declarations.proofs.entry_check.place_of.Given as goal
 
--- no name so far is the entry's
+-- none of the names so far is the entry's
 abbrev pub invariant-loop-word : goal.invariant-loop-word
 invariant-loop-word l =
     (l.at ≡ l.word-index)

@@ -3,7 +3,7 @@ use Rattle.std.specs.Fmt.{HasWritten, IsPlainFormatter}
 use Rattle.declarations.specs.EntryCheck.{more_known}
 use Rattle.declarations.proofs.entry_check.write_more.Given as goal
 
--- what is written, and what is left to be written
+-- what is written so far, and what is left to write
 abbrev pub invariant-loop-word : goal.invariant-loop-word
 invariant-loop-word g l =
     IsPlainFormatter l.initial.f

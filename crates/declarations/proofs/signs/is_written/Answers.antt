@@ -9,7 +9,7 @@ use Rattle.pm_token.specs.Spelling.{name_text, spelled, spelling}
 use Rattle.pm_token.proofs.SpellingLemmas.{spelled_is}
 use Rattle.declarations.proofs.signs.is_written.Goals as goal
 
--- no identifier is written as a text that begins with another byte
+-- no identifier has the text of one that begins with another byte
 begins_otherwise : (ident : Name) (text rest : List ℕ) (byte first : ℕ) → IsUtf8 text → text ≡ byte ∷ rest
     → first ≡ get_or (spelling ident) 0 0 → byte ≢ first
     → pointwise nat_eq (name_text ident) (spelled text) ≡ false

@@ -6,7 +6,7 @@ use Rattle.highlight.specs.Page.{marked_pieces}
 use Rattle.highlight.specs.Pieces.{AreAllPieces, shown_from}
 use Rattle.highlight.proofs.marking.marked.Given as goal
 
--- with the pieces that are left, it is all
+-- what is written so far, and what will be written for the pieces that are left, make the whole marked text
 abbrev pub invariant-loop-piece : goal.invariant-loop-piece
 invariant-loop-piece l = record {
   format : l.sheet.format ≡ l.fn.format;

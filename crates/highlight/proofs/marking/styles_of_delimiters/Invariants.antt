@@ -6,7 +6,7 @@ use Rattle.highlight.specs.Nesting.{IsAwaited, waiting_of}
 use Rattle.highlight.specs.Pieces.{AreAllPieces, is_nil}
 use Rattle.highlight.proofs.marking.styles_of_delimiters.Given as goal
 
--- with the pieces that are left, it is all
+-- the styles so far and the pieces that are left give the styles of all delimiters
 abbrev pub invariant-loop-next : goal.invariant-loop-next
 invariant-loop-next l = record {
   awaited : IsAwaited l.nesting.awaited l.nesting.openers.items;

@@ -2,7 +2,7 @@ use Rattle.std.proofs.Common.{◌≡◌, drop}
 use Rattle.std.specs.Str.{chars, IsUtf8}
 use Rattle.highlight.proofs.unread.split_chars.Given as goal
 
--- what is left after so many characters
+-- `rest` is what is left after the characters that were counted
 abbrev pub invariant-loop : goal.invariant-loop
 invariant-loop l = record {
   utf8 : IsUtf8 l.rest.rest.now;

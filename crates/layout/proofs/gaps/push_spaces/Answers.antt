@@ -13,7 +13,7 @@ loop-left-preserved c =
     ∙ (ap (λ s. c.loop-left.text ++ s) (sym (eight_first c.loop-left.left c.loop-left-test.true))
     ∙ c.loop-left.invariant))
 
--- what is appended is the rest
+-- what is appended may be replaced by an equal text
 appended : {E : Type 0} (r : Result (Unit {0}) E) (new one other : List ℕ) → OnOk r (new ≡ one) → one ≡ other
     → OnOk r (new ≡ other)
 appended (Ok v) new one other e f = e ∙ f

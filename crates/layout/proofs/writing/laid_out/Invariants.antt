@@ -4,7 +4,7 @@ use Rattle.layout.proofs.WritingLemmas.{LeadsOn, events_left}
 use Rattle.layout.proofs.WrittenLemmas.{WritesOn}
 use Rattle.layout.proofs.writing.laid_out.Given as goal
 
--- What is written leads to a layout, and with the gaps that the chooser gives for the places that are left to the text.
+-- What is written so far leads to a layout, and to the text that the chooser's gaps for the remaining steps make.
 abbrev pub invariant-loop-steps : goal.invariant-loop-steps
 invariant-loop-steps g l =
     LeadsOn l.fn.stream l.text (before_of l.before) (events_left l.steps)

@@ -19,7 +19,7 @@ comment_kind-requires c =
     let is = passed rule.comment clear_comment _ _ c.in_ok-end.ensures in
     rw (c.before-2.ensures c.in_ok-end.ensures.front is.0) is.1
 
--- what was found, by the kind of its text
+-- what was found is the comment with its kind
 found_so : (at end : Cursor) (h : Passes rule.comment at end) (p : List ℕ) (kind : Option Kind) → p ≡ h.front
     → comment_kind p (chars end.rest.now) ≡ kind
     → comment_found (find rule.comment (chars at.rest.now)) ≡ with_kind (p, chars end.rest.now) kind

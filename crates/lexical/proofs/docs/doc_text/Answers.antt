@@ -15,14 +15,14 @@ sign : chars (42 ∷ 47 ∷ []) ≡ codes "*/"
 unfolding chars
 sign = refl
 
--- what follows the first three characters
+-- the text after the first three bytes is the text after the first three characters
 after_front : (comment said : List ℕ) → IsUtf8 comment → is_doc (chars comment) ≡ true → said ≡ drop 3 comment
     → chars said ≡ drop 3 (chars comment)
 after_front comment said utf8 doc cut =
     let d = doc_front (chars comment) doc in
     ap chars cut ∙ seam_drop comment d.front (drop 3 (chars comment)) 3 utf8 d.whole d.bytes
 
--- is the text and what closes it
+-- this text is the doc text and the end of the comment
 said_is : (comment said r end : List ℕ) → IsUtf8 comment → Where is_doc Comment (chars comment) r
     → said ≡ drop 3 comment
     → closing (chars comment) r ≡ end → chars said ≡ doc_text (chars comment) r ++ end

@@ -8,7 +8,7 @@ use Rattle.lexical.specs.declared.quoted.StringKind.TheVariants as kinds
 use Rattle.lexical.proofs.RuleSteps.{either_reads, one_lacks, past_text, text_lacks, then_reads}
 use Rattle.lexical.proofs.quoted.unit.Goals as goal
 
--- a backslash doesn't stand for itself
+-- a backslash needs an escape in a string of any kind
 no_plain : (kind : StringKind) → is_plain kind 92 ≡ false
 no_plain kinds.Plain = refl
 no_plain kinds.Byte = refl

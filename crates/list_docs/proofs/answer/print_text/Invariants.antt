@@ -6,7 +6,8 @@ use Rattle.list_docs.specs.Answer.{all_lines}
 use Rattle.list_docs.specs.Item.{Nothing, seen}
 use Rattle.list_docs.proofs.answer.print_text.Given as goal
 
--- the trees inside those that are left have their lines and columns, and who writes their lines has written all lines
+-- the lines so far, with those for the trees that are left, are all lines, and each of these trees has a line and
+-- column
 abbrev pub invariant-loop-walk : goal.invariant-loop-walk
 invariant-loop-walk g l =
     let bytes = g.W.Write.contents in

@@ -4,7 +4,7 @@ use Rattle.outline.specs.Answer.{lines_of}
 use Rattle.outline.specs.Outline.{seen}
 use Rattle.outline.proofs.answer.all_lines.Given as goal
 
--- with those of the entries that are left, they are all
+-- the lines so far, with those of the entries that are left, are all lines
 abbrev pub invariant-loop-entry : goal.invariant-loop-entry
 invariant-loop-entry l =
     (text : List ℕ) → l.map ≡ with_file new_map text

@@ -4,7 +4,7 @@ use Rattle.outline.proofs.OnlyLemmas.{Requires}
 use Rattle.outline.proofs.OutlineLemmas.{Completes, items_left, stack}
 use Rattle.outline.proofs.entries.entries.Given as goal
 
--- with what is left of the items of all that is open, the declarations are all; and all others have what is left
+-- the declarations so far and those of the open levels are all. An outline of the file gives outlines of these levels
 abbrev pub invariant-walk : goal.invariant-walk
 invariant-walk l = record {
   all : Completes l.trees (map seen l.entries.items) (stack items_left l.levels.items);

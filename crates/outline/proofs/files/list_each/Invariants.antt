@@ -4,7 +4,7 @@ use Rattle.outline.specs.Files.{AreOf, Outcome, all_lines, worst}
 use Rattle.outline.specs.Tags.{ended}
 use Rattle.outline.proofs.files.list_each.Given as goal
 
--- with the files that are left, it is all
+-- what is written so far, with the lines of the files that are left, is all output. The worst status is found alike
 abbrev pub invariant-loop-path : goal.invariant-loop-path
 invariant-loop-path g l =
     let bytes = g.W.Write.contents in

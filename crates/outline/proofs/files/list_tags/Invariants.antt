@@ -3,7 +3,7 @@ use Rattle.outline.specs.Files.{AreOf, Outcome, all_lines, worst}
 use Rattle.outline.specs.declared.options.Form.TheVariants.{Ctags}
 use Rattle.outline.proofs.files.list_tags.Given as goal
 
--- with the files that are left, it is all
+-- the lines so far, with those of the files that are left, are all lines. The worst status is found alike
 abbrev pub invariant-loop-path : goal.invariant-loop-path
 invariant-loop-path g l =
     (more : List Outcome) → AreOf Ctags (map string_bytes (drop l.path-index l.paths)) more

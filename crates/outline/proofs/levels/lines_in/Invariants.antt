@@ -6,7 +6,7 @@ use Rattle.outline.proofs.OnlyLemmas.{Requires}
 use Rattle.outline.proofs.OutlineLemmas.{stack}
 use Rattle.outline.proofs.levels.lines_in.Given as goal
 
--- with what is left of all that is open, the lines are all; and all others have what is left
+-- the lines so far and those of the open levels are all lines. An outline of the file gives outlines of these levels
 abbrev pub invariant-walk : goal.invariant-walk
 invariant-walk l = record {
   all : (text : List ℕ) → l.map ≡ with_file new_map text → CompletesLines l.form l.path text (trees_left l.file)

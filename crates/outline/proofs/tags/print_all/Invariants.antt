@@ -3,7 +3,7 @@ use Rattle.std.specs.Io.KnownBytes.{Appends}
 use Rattle.outline.specs.Tags.{ended}
 use Rattle.outline.proofs.tags.print_all.Given as goal
 
--- who writes the lines that are left has written all
+-- if the lines that are left are written next, then all lines are written
 abbrev pub invariant-loop-line : goal.invariant-loop-line
 invariant-loop-line g l =
     let bytes = g.W.Write.contents in

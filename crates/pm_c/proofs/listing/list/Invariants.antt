@@ -5,7 +5,7 @@ use Rattle.std.specs.List.{All}
 use Rattle.pm_c.proofs.ListingLemmas.{HasAtMost}
 use Rattle.pm_c.proofs.listing.list.Given as goal
 
--- the trees that are left have the records and the texts that are missing, and not too much inside
+-- the records and texts of the trees that are left are those that are missing, and no tree has too many inside
 abbrev pub invariant-loop-walk : goal.invariant-loop-walk
 invariant-loop-walk l =
     (l.trees.items ++ records_from (length (string_bytes l.text)) l.walk ≡ records_from 0 (in_order l.stream))

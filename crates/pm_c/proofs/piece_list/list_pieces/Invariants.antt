@@ -4,7 +4,7 @@ use Rattle.lexical.specs.Piece.{Piece}
 use Rattle.pm_c.specs.Pieces.{AreAllPieces, piece_records}
 use Rattle.pm_c.proofs.piece_list.list_pieces.Given as goal
 
--- with the records of the pieces that are left, it is all
+-- the records so far and those of the pieces that are left are the records of all pieces
 abbrev pub invariant-loop-next : goal.invariant-loop-next
 invariant-loop-next l = record {
   offset : l.walk.byte_offset + length l.walk.rest.now ≡ length l.text;

@@ -6,7 +6,7 @@ use Rattle.pm_span.proofs.ByteOffsetLemmas.{block_more}
 use Rattle.pm_span.proofs.SeamLemmas.{rest_bytes}
 use Rattle.pm_span.proofs.byte_index.block_ends.Goals as goal
 
--- what is left after a block more
+-- the rest of the text after one more block
 next_left :
     (text before after : List ℕ) (n : ℕ) → chars before ≡ drop (64 * n) (chars text)
     → chars after ≡ drop 64 (chars before) → chars after ≡ drop (64 * (n + 1)) (chars text)

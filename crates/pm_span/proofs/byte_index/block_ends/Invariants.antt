@@ -5,7 +5,7 @@ use Rattle.std.specs.Str.{chars}
 use Rattle.pm_span.specs.ByteIndex.{IsByteOffset}
 use Rattle.pm_span.proofs.byte_index.block_ends.Given as goal
 
--- the ends of so many blocks, and what is left after them
+-- the ends of the blocks so far are right, and the rest is the text after them
 abbrev pub invariant-loop : goal.invariant-loop
 invariant-loop l = record {
   utf8 : shadow (Utf8 l.rest);

@@ -4,14 +4,14 @@ use Rattle.std.proofs.lemmas.List.{get_or_append_left, get_or_push, length_push}
 use Rattle.pm_span.specs.LineIndex.{AreBlocks, AreUpTo}
 use Rattle.pm_span.proofs.line_index.count_by_blocks.Goals as goal
 
--- fewer offsets, and a later one
+-- the bound is also true of fewer offsets and of a larger `char_offset`
 AreUpTo-weaker : {offsets : List ℕ} {n m j k : ℕ} → AreUpTo offsets n j → m ≤ n → j ≤ k → AreUpTo offsets m k
 AreUpTo-weaker up fewer later = record {
   within = omega (arith, up.within);
   before = λ i less. omega (arith, up.before i (omega arith));
 }
 
--- a block more
+-- the counts are right with one more block
 AreBlocks-push :
     (size : ℕ) (starts blocks : List ℕ) (n m start : ℕ) → AreBlocks size starts blocks → AreUpTo starts n start
     → m ≤ n → start ≤ length blocks * size → AreBlocks size starts (blocks ++ m ∷ [])

@@ -2,7 +2,7 @@ use Rattle.std.proofs.Common.{◌≡◌, ◌*◌, ◌<◌, ◌≤◌, ◌^◌, l
 use Rattle.pm_span.specs.LineIndex.{AreBlocks, AreUpTo}
 use Rattle.pm_span.proofs.line_index.count_by_blocks.Given as goal
 
--- the blocks so far, and the lines that begin up to the start of the last one
+-- the counts so far are right, and `lines` is the count for the last block
 abbrev pub invariant-loop : goal.invariant-loop
 invariant-loop l = record {
   blocks : AreBlocks l.block l.starts l.blocks.items;

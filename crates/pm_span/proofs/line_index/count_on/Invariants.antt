@@ -2,7 +2,7 @@ use Rattle.std.proofs.Common.{◌-◌, length}
 use Rattle.pm_span.specs.LineIndex.{AreUpTo}
 use Rattle.pm_span.proofs.line_index.count_on.Given as goal
 
--- the offsets that were passed are at most this one
+-- all offsets so far are at most `char_offset`
 abbrev pub invariant-loop-count : goal.invariant-loop-count
 invariant-loop-count l = AreUpTo l.offsets l.count l.char_offset
 

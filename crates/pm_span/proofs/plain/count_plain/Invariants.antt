@@ -3,7 +3,7 @@ use Rattle.std.specs.List.{prefix_len}
 use Rattle.pm_span.specs.Plain.{is_plain}
 use Rattle.pm_span.proofs.plain.count_plain.Given as goal
 
--- what was counted, and what is left
+-- all bytes so far are plain, and the rest follows them
 abbrev pub invariant-loop-word : goal.invariant-loop-word
 invariant-loop-word l = record {
   size : l.count + length l.rest ≡ length l.bytes;

@@ -9,7 +9,7 @@ use Rattle.pm_span.specs.Line.{is_one_line}
 use Rattle.pm_span.proofs.SplitLemmas.{after_line_feeds_from-line, after_line_feeds_from-split, split_size}
 use Rattle.pm_span.proofs.text_lines.find_lines.Goals as goal
 
--- the first line of what is left, and what follows it
+-- the first line of the rest, and the text after it
 record IsFirst (rest : List ℕ) (x : Bor (List ℕ) × Bor (List ℕ)) (count : ℕ) : Type 0 where
   split : chars rest ≡ chars x.0.now ++ (10 ∷ chars x.1.now)
   one : is_one_line (chars x.0.now) ≡ true
@@ -27,7 +27,7 @@ is_first rest None x count is split utf8 size = absurd (none-some x is)
 is_first rest (Some y) x count is split utf8 size = subst (λ x. IsFirst rest x count) (same_Some y x is)
     (record { split = split.0; one = split.1; after = utf8.1; size = size })
 
--- the last line
+-- the rest is the last line
 is_last :
     (rest : List ℕ) (o : Option (Bor (List ℕ) × Bor (List ℕ))) (count : ℕ) → o ≡ None
     → MatchOption o (is_one_line (chars rest) ≡ true)

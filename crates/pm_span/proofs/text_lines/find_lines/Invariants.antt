@@ -5,7 +5,7 @@ use Rattle.std.specs.Str.{chars}
 use Rattle.pm_span.specs.LineIndex.{after_line_feeds_from, after_line_feeds}
 use Rattle.pm_span.proofs.text_lines.find_lines.Given as goal
 
--- what was counted and found, and what is left
+-- the lines that were found end where the rest of the text begins
 abbrev pub invariant-loop-after : goal.invariant-loop-after
 invariant-loop-after l = record {
   utf8 : shadow (Utf8 l.rest);

@@ -4,7 +4,7 @@ use Rattle.std.specs.Str.Iter.{chars_rest}
 use Rattle.pm_stream.specs.Places.{moved_past}
 use Rattle.pm_stream.proofs.placing.past.Given as goal
 
--- the place after the characters that are left is the place after the text
+-- the line and column after the characters that are left are those after the text
 abbrev pub invariant-loop-c : goal.invariant-loop-c
 invariant-loop-c l = record {
   utf8 : IsUtf8 (chars_rest l.c-iterator);

@@ -1,4 +1,4 @@
-//! What stands between the quotes of a literal.
+//! Finds the content of a literal, which is the text between its quotes.
 ghost use Rattle.std.specs.Prelude.{◌≡◌, codes, IfSome, IsTrue, MatchOption, None, Some};
 ghost use Rattle.std.specs.Str.{IsUtf8, chars};
 ghost use Rattle.lexical.specs.Ascii.{all_ascii};
@@ -6,7 +6,7 @@ ghost use Rattle.pm_token.specs.SingleValue.{single_content as single};
 ghost use Rattle.pm_token.specs.Content.{before, behind, cooked_content as cooked, hashed_content as hashed};
 ghost use Rattle.pm_token.specs.Content.{raw_content as raw};
 
-/// What follows this ASCII front of the text.
+/// Returns the text after this ASCII prefix.
 fn behind_front<'a>(text: &'a str, front: &str) -> Option<&'a str>
     requires { IsTrue (all_ascii front.now) }
     ensures found { MatchOption result (behind front.now (chars text.now) ≡ None)
@@ -16,7 +16,7 @@ fn behind_front<'a>(text: &'a str, front: &str) -> Option<&'a str>
     text.strip_prefix(front)
 }
 
-/// What stands before a quote that ends the text.
+/// Returns the text before a quote at its end.
 fn before_quote(text: &str) -> Option<&str>
     ensures { MatchOption result (before (codes "\"") (chars text.now) ≡ None)
         (λ front. before (codes "\"") (chars text.now) ≡ Some (chars front.now)) }
@@ -24,8 +24,7 @@ fn before_quote(text: &str) -> Option<&str>
     text.strip_suffix('"')
 }
 
-/// What stands after this ASCII front, up to a quote that ends the text, by the rule
-/// `cooked-content`.
+/// Returns the text after this ASCII prefix and before a quote at its end (`cooked-content`).
 pub fn cooked_content<'a>(text: &'a str, front: &str) -> Option<&'a str>
     requires { IsTrue (all_ascii front.now) }
     ensures { MatchOption result (cooked front.now (chars text.now) ≡ None)
@@ -34,7 +33,7 @@ pub fn cooked_content<'a>(text: &'a str, front: &str) -> Option<&'a str>
     before_quote(behind_front(text, front)?)
 }
 
-/// What stands before a single quote that ends the text.
+/// Returns the text before a single quote at its end.
 fn before_single_quote(text: &str) -> Option<&str>
     ensures { MatchOption result (before (codes "'") (chars text.now) ≡ None)
         (λ front. before (codes "'") (chars text.now) ≡ Some (chars front.now)) }
@@ -42,8 +41,7 @@ fn before_single_quote(text: &str) -> Option<&str>
     text.strip_suffix('\'')
 }
 
-/// What stands after this ASCII front, up to a single quote that ends the text, by the rule
-/// `single-content`.
+/// Returns the text after this ASCII prefix and before a single quote at its end (`single-content`).
 pub fn single_content<'a>(text: &'a str, front: &str) -> Option<&'a str>
     requires { IsTrue (all_ascii front.now) }
     ensures { MatchOption result (single front.now (chars text.now) ≡ None)
@@ -52,7 +50,7 @@ pub fn single_content<'a>(text: &'a str, front: &str) -> Option<&'a str>
     before_single_quote(behind_front(text, front)?)
 }
 
-/// The text without the hash sign at its end.
+/// Returns the text before a hash sign at its end.
 fn before_hash(text: &str) -> Option<&str>
     ensures found { MatchOption result (before (codes "#") (chars text.now) ≡ None)
         (λ front. before (codes "#") (chars text.now) ≡ Some (chars front.now)) }
@@ -61,7 +59,7 @@ fn before_hash(text: &str) -> Option<&str>
     text.strip_suffix('#')
 }
 
-/// What stands between hash signs and a quote, and a quote and as many hash signs.
+/// Returns the text between quotes that have equally many hash signs outside of them.
 fn hashed_content(text: &str) -> Option<&str>
     ensures { MatchOption result (hashed (chars text.now) ≡ None)
         (λ content. hashed (chars text.now) ≡ Some (chars content.now)) }
@@ -73,7 +71,7 @@ fn hashed_content(text: &str) -> Option<&str>
     cooked_content(quoted, "\"")
 }
 
-/// What stands after this ASCII front in quotes with hash signs, by the rule `raw-content`.
+/// Returns the text after this ASCII prefix, without its quotes and hash signs (`raw-content`).
 pub fn raw_content<'a>(text: &'a str, front: &str) -> Option<&'a str>
     requires { IsTrue (all_ascii front.now) }
     ensures { MatchOption result (raw front.now (chars text.now) ≡ None)

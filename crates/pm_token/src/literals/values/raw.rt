@@ -1,11 +1,11 @@
-//! The values of raw contents.
+//! The values of contents without escapes.
 ghost use Rattle.std.specs.Prelude.{◌≡◌, [], IfOk, IsOk};
 ghost use Rattle.std.specs.Str.{chars, encode_utf8_all};
 ghost use Rattle.pm_token.specs.Value.{bytes_of, ended, text_of};
 
 use std::alloc::{AllocError, Global};
 
-/// The content of a raw string.
+/// Copies the content of a raw string.
 pub fn raw_string(alloc: Global, content: &str) -> Result<String, AllocError>
     ensures ok { IfOk result (λ value. text_of value ≡ chars content.now) }
     ensures memory { chars content.now ≡ [] → IsOk result }
@@ -15,7 +15,7 @@ pub fn raw_string(alloc: Global, content: &str) -> Result<String, AllocError>
     Ok(value)
 }
 
-/// The bytes of the content of a raw byte string.
+/// Copies the bytes of the content of a raw byte string.
 pub fn raw_bytes(alloc: Global, content: &str) -> Result<Vec<u8>, AllocError>
     ensures ok { IfOk result (λ value. bytes_of value ≡ encode_utf8_all (chars content.now)) }
     ensures memory { encode_utf8_all (chars content.now) ≡ [] → IsOk result }
@@ -25,7 +25,7 @@ pub fn raw_bytes(alloc: Global, content: &str) -> Result<Vec<u8>, AllocError>
     Ok(value)
 }
 
-/// The bytes of the content of a raw C string, and a zero byte.
+/// Copies the bytes of the content of a raw C string, and adds a zero byte.
 pub fn raw_c_string(alloc: Global, content: &str) -> Result<Vec<u8>, AllocError>
     ensures { IfOk result (λ value. bytes_of value ≡ ended (encode_utf8_all (chars content.now))) }
 {

@@ -1,4 +1,4 @@
-//! The values of the texts of characters and bytes.
+//! The values of characters and bytes, from their text.
 ghost use Rattle.std.specs.Prelude.{◌≡◌};
 ghost use Rattle.std.specs.Str.{chars};
 ghost use Rattle.pm_token.specs.SingleValue.{byte_value, char_value};
@@ -7,7 +7,7 @@ use crate::literals::conversion::ConversionErrorKind;
 use crate::literals::values::content::single_content;
 use literal_escaper::{unescape_byte, unescape_char};
 
-/// The unit between the quotes of a character's text, by the rule `character-value`.
+/// Returns the character between the quotes of a character literal (`character-value`).
 pub fn character_of(text: &str) -> Result<char, ConversionErrorKind>
     ensures { result ≡ char_value (chars text.now) }
 {
@@ -17,7 +17,7 @@ pub fn character_of(text: &str) -> Result<char, ConversionErrorKind>
     }
 }
 
-/// The unit between the quotes of a byte's text, by the rule `byte-value`.
+/// Returns the byte between the quotes of a byte literal (`byte-value`).
 pub fn byte_of(text: &str) -> Result<u8, ConversionErrorKind>
     ensures { result ≡ byte_value (chars text.now) }
 {

@@ -9,7 +9,7 @@ use crate::literals::conversion::ConversionErrorKind;
 use literal_escaper::{EscapeError, MixedUnit, unescape_byte_str, unescape_c_str, unescape_str};
 use std::alloc::{AllocError, Global};
 
-/// The fault, if it is one and no warning, or else the one before.
+/// Returns `fault`, or the fault before it if `fault` is only a warning.
 fn last_fault(before: Option<EscapeError>, fault: EscapeError) -> Option<EscapeError>
     ensures { result ≡ (if is_fault fault then Some fault else before) }
 {
@@ -20,14 +20,14 @@ fn last_fault(before: Option<EscapeError>, fault: EscapeError) -> Option<EscapeE
     }
 }
 
-/// Puts a character at the end of the text.
+/// Adds a character at the end of the text.
 fn push_char(text: &mut String, c: char) -> Result<(), AllocError>
     ensures { OnOk result (text_of text.new ≡ text_of text.old ++ c ∷ []) }
 {
     text.push(c)
 }
 
-/// The characters of a string's content, joined.
+/// Returns the characters of a string's content, with its escapes replaced.
 pub fn unescaped_string(alloc: Global, content: &str) -> Result<String, ConversionErrorKind>
     ensures value { Answers text_of (value_from (Some (units string_kind (chars content.now))) None) result }
     ensures memory { units string_kind (chars content.now) ≡ Ok [] → IsOk result }
@@ -46,7 +46,7 @@ pub fn unescaped_string(alloc: Global, content: &str) -> Result<String, Conversi
     }
 }
 
-/// The bytes of a byte string's content, joined.
+/// Returns the bytes of a byte string's content, with its escapes replaced.
 pub fn unescaped_bytes(alloc: Global, content: &str) -> Result<Vec<u8>, ConversionErrorKind>
     ensures value { Answers bytes_of (value_from (Some (units byte_kind (chars content.now))) None) result }
     ensures memory { units byte_kind (chars content.now) ≡ Ok [] → IsOk result }
@@ -65,7 +65,7 @@ pub fn unescaped_bytes(alloc: Global, content: &str) -> Result<Vec<u8>, Conversi
     }
 }
 
-/// Puts the bytes of a unit at the end.
+/// Adds the bytes of a unit at the end.
 fn push_unit(bytes: &mut Vec<u8>, unit: MixedUnit) -> Result<(), AllocError>
     ensures { OnOk result (bytes_of bytes.new ≡ bytes_of bytes.old ++ unit_bytes unit) }
 {
@@ -78,7 +78,7 @@ fn push_unit(bytes: &mut Vec<u8>, unit: MixedUnit) -> Result<(), AllocError>
     }
 }
 
-/// The bytes of a C string's content, joined, and a zero byte.
+/// Returns the bytes of a C string's content, with its escapes replaced, and a zero byte.
 pub fn unescaped_c_string(alloc: Global, content: &str) -> Result<Vec<u8>, ConversionErrorKind>
     ensures { Answers bytes_of (value_from (Some (c_bytes (units c_kind (chars content.now)))) None) result }
 {

@@ -3,7 +3,7 @@ use Rattle.rust_check.specs.Options.{form_of}
 use Rattle.rust_check.specs.Files.{AllTold, Outcome, all_counted, nothing}
 use Rattle.rust_check.proofs.files.check_files.Given as goal
 
--- with the files that are left, it is all
+-- the outcomes so far, with any outcomes of the files that are left, are the outcomes of all files
 abbrev pub invariant-loop-path : goal.invariant-loop-path
 invariant-loop-path g l =
     let bytes = g.W.Write.contents in

@@ -7,7 +7,7 @@ use Rattle.rust_check.specs.Telling.{IsWithin, Tells}
 use Rattle.rust_check.proofs.PieceLemmas.{AreLeft, GoesOn}
 use Rattle.rust_check.proofs.told.tell_pieces.Given as goal
 
--- what was found so far is told, and with the pieces that are left, it is all
+-- what was found so far is written; with what is found in the pieces that are left, it is all that is found in the text
 abbrev pub invariant-loop-next : goal.invariant-loop-next
 invariant-loop-next g l =
     let bytes = g.W.Write.contents in

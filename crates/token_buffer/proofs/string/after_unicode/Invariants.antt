@@ -5,7 +5,7 @@ use denote.Shadow.{shadow}
 use denote.Text.{Utf8}
 use Rattle.token_buffer.proofs.string.after_unicode.Given as goal
 
--- the text begins with the escape where what is left of it begins with what is left of the escape
+-- the text begins with the escape exactly if its rest begins with the rest of the escape
 abbrev pub invariant-loop-unit : goal.invariant-loop-unit
 invariant-loop-unit l = record {
   same : (more : List ℕ)

@@ -5,7 +5,7 @@ use denote.Text.{Utf8}
 use Rattle.pm_token.specs.Escaped.{content, string_text, written_char}
 use Rattle.token_buffer.proofs.string.is_string_of.Given as goal
 
--- the literal is that of the text where what is left of it is what is left to be written
+-- the literal is that of the text exactly if its rest is how the remaining characters are written
 abbrev pub invariant-loop-c : goal.invariant-loop-c
 invariant-loop-c l = record {
   same : (chars l.fn.literal ≡ string_text (chars l.fn.text))

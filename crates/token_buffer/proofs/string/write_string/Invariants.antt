@@ -4,7 +4,7 @@ use Rattle.std.specs.Str.{chars, encode_utf8_all, IsUtf8}
 use Rattle.pm_token.specs.Escaped.{content, string_text, written_char}
 use Rattle.token_buffer.proofs.string.write_string.Given as goal
 
--- what is written, and what is left to be written
+-- the text so far and that of the remaining characters make up the result
 abbrev pub invariant-loop-c : goal.invariant-loop-c
 invariant-loop-c g l = record {
   written :

@@ -4,7 +4,7 @@ use Rattle.std.specs.Fmt.{HasWritten, IsPlainFormatter}
 use Rattle.std.specs.Str.{encode_utf8_all}
 use Rattle.token_buffer.proofs.string.write_unicode.Given as goal
 
--- what is written, and what is left of the escape
+-- the text so far and the rest of the escape make up the result
 abbrev pub invariant-loop-unit : goal.invariant-loop-unit
 invariant-loop-unit g l = record {
   written :

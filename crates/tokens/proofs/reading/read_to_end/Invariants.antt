@@ -1,4 +1,4 @@
--- What is filled so far is what the source gave, and each read that goes on fills some more.
+-- The bytes that are filled so far are those that the source gave, and each further read adds at least one.
 use Rattle.std.proofs.Common.{◌≡◌, ◌-◌, ◌^◌, ◌≤◌, take, vec_len}
 use Rattle.std.specs.Io.KnownBytes.{Consumes}
 use Rattle.tokens.proofs.reading.read_to_end.Given as goal

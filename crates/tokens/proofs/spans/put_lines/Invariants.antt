@@ -1,4 +1,4 @@
--- The lines of the trees after the rest stand at the end of the buffer, and there is room for the others.
+-- The lines of the trees after the rest are at the end of the buffer, and there is room for the others.
 use Rattle.std.proofs.Common.{◌≡◌, ◌*◌, ◌≤◌, ◌++◌, length, drop, flat_map}
 use Rattle.tokens.specs.Spans.{tree_line}
 use Rattle.tokens.proofs.spans.put_lines.Given as goal

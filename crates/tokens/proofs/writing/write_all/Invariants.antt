@@ -1,4 +1,4 @@
--- The sink has taken what stands before the rest, and each write that goes on takes some more.
+-- The sink has taken what precedes the rest, and each further write takes at least one byte.
 use Rattle.std.proofs.Common.{◌≡◌, length, ℕ, List, ◌++◌}
 use Rattle.std.specs.Io.KnownBytes.{Appends}
 use Rattle.tokens.proofs.writing.write_all.Given as goal

@@ -1,17 +1,17 @@
 // Made from crates/lexical/src/quick/numbers.rt by rust/erase: change that file, not this one.
-//! Numbers that a few bytes tell.
+//! Numbers that a few bytes decide.
 
 use crate::lexical::bytes::{Base, Class, count_ascii, holds_ascii};
 use crate::lexical::quick::byte_at;
 
-/// Whether a number of digits alone that the byte follows ends there, and is no front of a float.
+/// Whether a number of digits alone ends before this byte, and does not go on as a float.
 #[cfg_attr(not(debug_assertions), inline(always))]
 fn ends_number(byte: u8) -> bool
 {
     byte.is_ascii() && byte != b'.' && !holds_ascii(Class::IdentifierContinue, byte)
 }
 
-/// How many bytes the number has that stands at the front and is made of digits and `_` alone.
+/// Returns how many bytes the number at the start has, if it consists of digits and `_` only.
 ///
 /// # Contract
 ///
@@ -35,23 +35,24 @@ pub fn number_size(text: &str) -> Option<usize>
     }
 }
 
-/// How many bytes at the front are digits or `_`.
+/// Counts the digits and `_` at the start.
 ///
-/// It stands apart, as compiled into [`long_number_size`] its loop would count for each slice after the digits too.
+/// It is not inlined: in [`long_number_size`] its loop would also update a counter for each slice after the digits.
 #[inline(never)]
 fn count_digits(bytes: &[u8]) -> usize
 {
     count_ascii(bytes, Class::DigitOrUnderscore)
 }
 
-/// Whether a number that the byte follows ends there, and has no suffix.
+/// Whether a number without a suffix ends before this byte.
 #[cfg_attr(not(debug_assertions), inline(always))]
 fn ends_digits(byte: u8) -> bool
 {
     byte.is_ascii() && !holds_ascii(Class::IdentifierContinue, byte)
 }
 
-/// How many bytes the suffix of a number has that stands at the front, before ASCII, and begins with no exponent.
+/// Returns how many bytes the suffix of a number at the start has. ASCII must follow it, and it must not begin like an
+/// exponent.
 #[cfg_attr(not(debug_assertions), inline(always))]
 fn suffix_size(bytes: &[u8]) -> Option<usize>
 {
@@ -70,7 +71,7 @@ fn suffix_size(bytes: &[u8]) -> Option<usize>
     }
 }
 
-/// How many bytes the digits of an exponent have at the front, before ASCII, with no `_` before them.
+/// Returns how many bytes the digits of an exponent at the start have, if no `_` precedes them and ASCII follows.
 #[cfg_attr(not(debug_assertions), inline(always))]
 fn exponent_digits_size(bytes: &[u8]) -> Option<usize>
 {
@@ -85,7 +86,7 @@ fn exponent_digits_size(bytes: &[u8]) -> Option<usize>
     }
 }
 
-/// How many bytes the exponent has at the front, with no `_` before its digits.
+/// Returns how many bytes the exponent at the start has, if no `_` precedes its digits.
 #[cfg_attr(not(debug_assertions), inline(always))]
 fn exponent_size(bytes: &[u8]) -> Option<usize>
 {
@@ -99,7 +100,7 @@ fn exponent_size(bytes: &[u8]) -> Option<usize>
     Some(exponent_digits_size(after)? + 1)
 }
 
-/// How many bytes an exponent and a suffix have at the front.
+/// Returns how many bytes an exponent and a suffix at the start have.
 #[cfg_attr(not(debug_assertions), inline(always))]
 fn exponent_end_size(bytes: &[u8]) -> Option<usize>
 {
@@ -108,7 +109,7 @@ fn exponent_end_size(bytes: &[u8]) -> Option<usize>
     Some(exponent + suffix)
 }
 
-/// How many bytes the float has that stands at the front, with an exponent right after its `digits` first bytes.
+/// Returns how many bytes the float at the start has, if an exponent follows its first `digits` bytes.
 #[cfg_attr(not(debug_assertions), inline(always))]
 fn dotless_size(bytes: &[u8], digits: usize) -> Option<usize>
 {
@@ -119,7 +120,8 @@ fn dotless_size(bytes: &[u8], digits: usize) -> Option<usize>
     Some(digits + end)
 }
 
-/// How many bytes may end a float at the front, after its dot and the digits there: an exponent, if any, and a suffix.
+/// Returns how many bytes the end of a float has, after its dot and the digits there: an exponent, if any, and a
+/// suffix.
 #[cfg_attr(not(debug_assertions), inline(always))]
 fn fraction_end_size(bytes: &[u8]) -> Option<usize>
 {
@@ -129,7 +131,7 @@ fn fraction_end_size(bytes: &[u8]) -> Option<usize>
     }
 }
 
-/// How many bytes the float has that stands at the front, with a dot right after its `digits` first bytes.
+/// Returns how many bytes the float at the start has, if a dot follows its first `digits` bytes.
 #[cfg_attr(not(debug_assertions), inline(always))]
 fn float_size(bytes: &[u8], digits: usize) -> Option<usize>
 {
@@ -146,8 +148,8 @@ fn float_size(bytes: &[u8], digits: usize) -> Option<usize>
     Some(digits + 1 + fraction + end)
 }
 
-/// How many bytes the number has that stands at the front, with `0` and the letter for its prefix, before a digit of
-/// the base.
+/// Returns how many bytes the number at the start has, if its prefix is `0` and this letter, and a digit of the base
+/// follows.
 #[cfg_attr(not(debug_assertions), inline(always))]
 fn based_size(bytes: &[u8], letter: u8, base: Base) -> Option<usize>
 {
@@ -159,19 +161,19 @@ fn based_size(bytes: &[u8], letter: u8, base: Base) -> Option<usize>
         return None;
     }
     let digits = count_ascii(after, Class::DigitOrUnderscoreOf(base));
-    // No suffix begins with a digit that is too large for the base.
+    // No suffix begins with a digit, so one that is too large for the base ends with `None`.
     let suffix = suffix_size(&after[digits..])?;
     Some(2 + digits + suffix)
 }
 
-/// Whether the byte begins a suffix of an integer, and neither a base nor an exponent.
+/// Whether the byte begins the suffix of an integer, and neither a base nor an exponent.
 #[cfg_attr(not(debug_assertions), inline(always))]
 fn begins_suffix(byte: u8) -> bool
 {
     byte == b'u' || byte == b'i' || byte == b'f'
 }
 
-/// How many bytes the integer has that stands at the front, with a suffix right after its `digits` first bytes.
+/// Returns how many bytes the integer at the start has, if a suffix follows its first `digits` bytes.
 #[cfg_attr(not(debug_assertions), inline(always))]
 fn suffixed_size(bytes: &[u8], digits: usize) -> Option<usize>
 {
@@ -182,8 +184,8 @@ fn suffixed_size(bytes: &[u8], digits: usize) -> Option<usize>
     Some(digits + suffix)
 }
 
-/// How many bytes the number has that stands at the front, before or with a dot, or with an exponent, a suffix or the
-/// prefix of a base.
+/// Returns how many bytes the number at the start has. It is an integer before a dot, or it has a dot, an exponent, a
+/// suffix or the prefix of a base.
 ///
 /// # Contract
 ///
@@ -199,11 +201,11 @@ pub fn long_number_size(text: &str) -> Option<usize>
     if !holds_ascii(Class::Digit, byte_at(bytes, 0)) {
         return None;
     }
-    // The byte after the digits tells which of these may stand here.
+    // The byte after the digits decides which form is possible.
     let digits = count_digits(bytes);
     let next = byte_at(bytes, digits);
     if next == b'.' {
-        // A dot before a range, a call or a field is no part of the number.
+        // A dot that begins a range, a call or a field does not belong to the number.
         let after = &bytes[digits + 1..];
         if holds_ascii(Class::BarsDot, byte_at(after, 0)) {
             return Some(digits);

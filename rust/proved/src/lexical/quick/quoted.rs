@@ -1,5 +1,5 @@
 // Made from crates/lexical/src/quick/quoted.rt by rust/erase: change that file, not this one.
-//! Literals between quotes that a few bytes tell.
+//! Literals between quotes that a few bytes decide.
 
 use crate::lexical::bytes::{Base, Class, count_ascii, holds_ascii};
 use crate::lexical::escapes::{is_letter, writes_character};
@@ -9,15 +9,15 @@ use crate::lexical::single_quotes::stands_bare;
 use crate::lexical::text::{split_first, strip};
 use crate::shim::memchr::memchr3;
 
-/// Whether a literal between quotes that the byte follows ends there, with no suffix.
+/// Whether a literal between quotes ends before this byte and has no suffix.
 #[cfg_attr(not(debug_assertions), inline(always))]
 fn ends_literal(byte: u8) -> bool
 {
     byte.is_ascii() && !holds_ascii(Class::IdentifierStart, byte)
 }
 
-/// Whether the byte may be the first of the two digits after `x`. In a C string no byte may: two zeros are forbidden
-/// there, which is left to the slower way.
+/// Whether the byte may be the first of the two digits after `\x`. It returns false for C strings, where two zeros are
+/// forbidden: the slower functions read those.
 #[cfg_attr(not(debug_assertions), inline(always))]
 fn begins_pair(byte: u8, kind: StringKind) -> bool
 {
@@ -28,7 +28,7 @@ fn begins_pair(byte: u8, kind: StringKind) -> bool
     }
 }
 
-/// How many bytes `x` and its two digits have at the front, by the rule `hex-escape`.
+/// Returns how many bytes `x` and its two digits at the start have, by the rule `hex-escape`.
 #[cfg_attr(not(debug_assertions), inline(always))]
 fn hex_size(bytes: &[u8], kind: StringKind) -> Option<usize>
 {
@@ -42,7 +42,7 @@ fn hex_size(bytes: &[u8], kind: StringKind) -> Option<usize>
     }
 }
 
-/// How many bytes `u{`, a character's code and `}` have at the front, by the rule `unicode-escape`.
+/// Returns how many bytes `u{`, the code of a character and `}` at the start have, by the rule `unicode-escape`.
 #[inline(never)]
 fn unicode_size(bytes: &[u8], kind: StringKind) -> Option<usize>
 {
@@ -60,7 +60,7 @@ fn unicode_size(bytes: &[u8], kind: StringKind) -> Option<usize>
     Some(digits + 3)
 }
 
-/// How many bytes the escape of one letter has at the front, after its backslash.
+/// Returns how many bytes the escape of one letter has, without its backslash.
 #[cfg_attr(not(debug_assertions), inline(always))]
 fn letter_size(bytes: &[u8], kind: StringKind) -> Option<usize>
 {
@@ -71,8 +71,7 @@ fn letter_size(bytes: &[u8], kind: StringKind) -> Option<usize>
     None
 }
 
-/// How many bytes the escape has at the front, after its backslash: a letter, `x` and two digits, or the code of a
-/// character.
+/// Returns how many bytes the escape at the start has, without its backslash.
 #[cfg_attr(not(debug_assertions), inline(always))]
 fn escape_size(bytes: &[u8], kind: StringKind) -> Option<usize>
 {
@@ -85,8 +84,8 @@ fn escape_size(bytes: &[u8], kind: StringKind) -> Option<usize>
     }
 }
 
-/// How many bytes the literal between single quotes has that stands at the front, after its first quote: one of ASCII
-/// that stands for itself, and the other quote.
+/// Returns how many bytes a literal between single quotes has after its first quote, if it holds one ASCII character
+/// that is no escape.
 #[cfg_attr(not(debug_assertions), inline(always))]
 fn bare_size(inside: &[u8], kind: StringKind) -> Option<usize>
 {
@@ -101,8 +100,8 @@ fn bare_size(inside: &[u8], kind: StringKind) -> Option<usize>
     None
 }
 
-/// How many bytes the literal between single quotes has that stands at the front, after its first quote: a backslash
-/// with a letter, and the other quote.
+/// Returns how many bytes a literal between single quotes has after its first quote, if it holds a backslash and a
+/// letter.
 #[cfg_attr(not(debug_assertions), inline(always))]
 fn backslash_size(inside: &[u8], kind: StringKind) -> Option<usize>
 {
@@ -116,8 +115,8 @@ fn backslash_size(inside: &[u8], kind: StringKind) -> Option<usize>
     None
 }
 
-/// How many bytes the literal between single quotes has that stands at the front, after its first quote: one of ASCII
-/// or an escape, and the other quote.
+/// Returns how many bytes a literal between single quotes has after its first quote, if it holds one ASCII character or
+/// an escape.
 #[cfg_attr(not(debug_assertions), inline(always))]
 fn single_size(inside: &[u8], kind: StringKind) -> Option<usize>
 {
@@ -131,7 +130,7 @@ fn single_size(inside: &[u8], kind: StringKind) -> Option<usize>
     None
 }
 
-/// How many bytes the character has that stands at the front, between its quotes one of ASCII or an escape.
+/// Returns how many bytes the character literal at the start has, if it holds one ASCII character or an escape.
 ///
 /// # Contract
 ///
@@ -150,7 +149,7 @@ pub fn character_size(text: &str) -> Option<usize>
     Some(single_size(&bytes[1..], StringKind::Plain)? + 1)
 }
 
-/// The extent of the character at the front, between its quotes one of ASCII that stands for itself.
+/// Returns the extent of the character literal at the start, if it holds one ASCII character that is no escape.
 ///
 /// # Contract
 ///
@@ -170,7 +169,7 @@ pub fn bare_character(text: &str) -> Option<Extent>
     Some(ascii_extent(size + 1))
 }
 
-/// The extent of the character at the front, between its quotes a backslash with a letter.
+/// Returns the extent of the character literal at the start, if it holds a backslash and a letter.
 ///
 /// # Contract
 ///
@@ -190,7 +189,7 @@ pub fn letter_character(text: &str) -> Option<Extent>
     Some(ascii_extent(size + 1))
 }
 
-/// The extent of the character at the front, between its quotes one of ASCII or an escape.
+/// Returns the extent of the character literal at the start, if it holds one ASCII character or an escape.
 ///
 /// # Contract
 ///
@@ -205,7 +204,7 @@ pub fn character(text: &str) -> Option<Extent>
     Some(ascii_extent(character_size(text)?))
 }
 
-/// How many bytes the byte literal has that stands at the front.
+/// Returns how many bytes the byte literal at the start has.
 ///
 /// # Contract
 ///
@@ -224,7 +223,8 @@ pub fn byte_size(text: &str) -> Option<usize>
     Some(single_size(&bytes[2..], StringKind::Byte)? + 2)
 }
 
-/// The extent of the character that stands at the front, between its quotes one that stands for itself, past ASCII too.
+/// Returns the extent of the character literal at the start, if it holds one character that is no escape, past ASCII
+/// too.
 ///
 /// # Contract
 ///
@@ -249,7 +249,7 @@ pub fn wide_character(text: &str) -> Option<Extent>
     Some(Extent { bytes, chars: 3 })
 }
 
-/// How many bytes may stand after a backslash in a string, at the front: a LF, or an escape.
+/// Returns how many bytes follow a backslash in a string: a LF or an escape.
 #[cfg_attr(not(debug_assertions), inline(always))]
 fn escaped_size(bytes: &[u8], kind: StringKind) -> Option<usize>
 {
@@ -259,8 +259,8 @@ fn escaped_size(bytes: &[u8], kind: StringKind) -> Option<usize>
     escape_size(bytes, kind)
 }
 
-/// Whether a string of the kind may have each character of the stretch. In a C string none may: zeros are forbidden
-/// there, which is left to the slower way.
+/// Whether a string of the kind may contain each character of the bytes. It returns false for C strings, where zeros
+/// are forbidden: the slower functions read those.
 #[cfg_attr(not(debug_assertions), inline(always))]
 fn may_hold(stretch: &[u8], kind: StringKind) -> bool
 {
@@ -271,7 +271,7 @@ fn may_hold(stretch: &[u8], kind: StringKind) -> bool
     }
 }
 
-/// How many bytes stand before the first quote, backslash or CR, if there is one.
+/// Returns how many bytes come before the first quote, backslash or CR, or `None` if there is none.
 #[cfg_attr(not(debug_assertions), inline(always))]
 fn plain_size(bytes: &[u8]) -> Option<usize>
 {
@@ -283,7 +283,7 @@ fn plain_size(bytes: &[u8]) -> Option<usize>
     memchr3(b'"', b'\\', b'\r', bytes)
 }
 
-/// The same, if a string of the kind may have all that stands before it.
+/// Returns how many bytes come before the first quote, backslash or CR, if a string of the kind may contain them all.
 #[cfg_attr(not(debug_assertions), inline(always))]
 fn stretch_size(bytes: &[u8], kind: StringKind) -> Option<usize>
 {
@@ -295,11 +295,11 @@ fn stretch_size(bytes: &[u8], kind: StringKind) -> Option<usize>
     }
 }
 
-/// How many bytes the string has that stands at the front, after its first quote, with no CR: units up to a quote. The
-/// first stretch of them that stand for themselves has so many bytes.
+/// Returns how many bytes a string has after its first quote, if it has no CR. `inside` is the text after that quote,
+/// and `stretch` is the number of bytes in it before the first quote, backslash or CR.
 ///
-/// Quotes, backslashes and CR are searched for among its bytes: what stands between them, past ASCII too, stands for
-/// itself. The search goes on after each escape: the string is searched once.
+/// Quotes, backslashes and CR are searched for among the bytes. The search goes on after each escape, so it passes the
+/// string once.
 #[cfg_attr(not(debug_assertions), inline(always))]
 fn body_size(inside: &str, stretch: usize, kind: StringKind) -> Option<usize>
 {
@@ -316,8 +316,8 @@ fn body_size(inside: &str, stretch: usize, kind: StringKind) -> Option<usize>
     None
 }
 
-/// The extent of the string after whose first quote `inside` stands: so many bytes of ASCII that stand for themselves,
-/// and the other quote.
+/// Returns the extent of a string of `stretch` ASCII bytes that are no escapes. `inside` is the text after its first
+/// quote.
 ///
 /// # Contract
 ///
@@ -344,8 +344,8 @@ pub fn plain_string(inside: &str, stretch: usize) -> Option<Extent>
     None
 }
 
-/// The extent of the string that `text` begins with, after whose first quote `inside` stands: so many bytes of ASCII
-/// that stand for themselves, and then an escape.
+/// Returns the extent of the string at the start of `text`, which has `stretch` ASCII bytes before its first escape.
+/// `inside` is the text after its first quote.
 ///
 /// # Contract
 ///
@@ -371,7 +371,7 @@ pub fn escaped_string(text: &str, inside: &str, stretch: usize) -> Option<Extent
     Some(counted(text, size + 1))
 }
 
-/// The extent of the string that stands at the front, with no CR.
+/// Returns the extent of the string at the start, if it has no CR.
 ///
 /// # Contract
 ///
@@ -389,7 +389,7 @@ pub fn string(text: &str) -> Option<Extent>
     Some(counted(text, size + 1))
 }
 
-/// How many bytes the string has that stands at the front, with no CR.
+/// Returns how many bytes the string at the start has, if it has no CR.
 ///
 /// # Contract
 ///
@@ -407,7 +407,7 @@ pub fn string_size(text: &str) -> Option<usize>
     Some(body_size(inside, stretch, StringKind::Plain)? + 1)
 }
 
-/// How many bytes the byte string has that stands at the front, with no CR.
+/// Returns how many bytes the byte string at the start has, if it has no CR.
 ///
 /// # Contract
 ///

@@ -1,5 +1,5 @@
 // Made from crates/pm_stream/src/build/collects.rt by rust/erase: change that file, not this one.
-//! What std collects and extends by.
+//! The traits `FromIterator` and `Extend` for streams.
 
 use crate::shim::prelude::{TryExtend, TryFromIterator};
 
@@ -7,7 +7,7 @@ use crate::pm_stream::stream::{Group, TokenStream, TokenTree};
 use crate::pm_token::{Ident, Literal, Punct};
 use crate::shim::alloc::AllocError;
 
-/// As [`TokenStream::from_trees`].
+/// Collects trees into a stream, as [`TokenStream::from_trees`] does.
 impl TryFromIterator<TokenTree> for TokenStream {
     fn try_from_iter<I: IntoIterator<Item = TokenTree>>(
         trees: I,
@@ -18,7 +18,7 @@ impl TryFromIterator<TokenTree> for TokenStream {
 
 crate::shim::gathered!(TokenStream, TokenTree);
 
-/// As [`TokenStream::from_streams`].
+/// Collects the trees of streams into one stream, as [`TokenStream::from_streams`] does.
 impl TryFromIterator<TokenStream> for TokenStream {
     fn try_from_iter<I: IntoIterator<Item = TokenStream>>(
         streams: I,
@@ -29,7 +29,7 @@ impl TryFromIterator<TokenStream> for TokenStream {
 
 crate::shim::gathered!(TokenStream, TokenStream);
 
-/// As [`TokenStream::extend_trees`].
+/// Appends trees, as [`TokenStream::extend_trees`] does.
 impl TryExtend<TokenTree> for TokenStream {
     fn try_extend<I: IntoIterator<Item = TokenTree>>(&mut self, trees: I) -> Result<(), AllocError> {
         self.extend_trees(trees)
@@ -38,7 +38,7 @@ impl TryExtend<TokenTree> for TokenStream {
 
 crate::shim::extended!(TokenStream, TokenTree);
 
-/// As [`TokenStream::extend_streams`].
+/// Appends the trees of streams, as [`TokenStream::extend_streams`] does.
 impl TryExtend<TokenStream> for TokenStream {
     fn try_extend<I: IntoIterator<Item = TokenStream>>(
         &mut self,
@@ -50,7 +50,7 @@ impl TryExtend<TokenStream> for TokenStream {
 
 crate::shim::extended!(TokenStream, TokenStream);
 
-/// As [`TokenStream::extend_groups`].
+/// Appends groups, as [`TokenStream::extend_groups`] does.
 impl TryExtend<Group> for TokenStream {
     fn try_extend<I: IntoIterator<Item = Group>>(&mut self, groups: I) -> Result<(), AllocError> {
         self.extend_groups(groups)
@@ -59,7 +59,7 @@ impl TryExtend<Group> for TokenStream {
 
 crate::shim::extended!(TokenStream, Group);
 
-/// As [`TokenStream::extend_idents`].
+/// Appends identifiers, as [`TokenStream::extend_idents`] does.
 impl TryExtend<Ident> for TokenStream {
     fn try_extend<I: IntoIterator<Item = Ident>>(&mut self, idents: I) -> Result<(), AllocError> {
         self.extend_idents(idents)
@@ -68,7 +68,7 @@ impl TryExtend<Ident> for TokenStream {
 
 crate::shim::extended!(TokenStream, Ident);
 
-/// As [`TokenStream::extend_puncts`].
+/// Appends marks, as [`TokenStream::extend_puncts`] does.
 impl TryExtend<Punct> for TokenStream {
     fn try_extend<I: IntoIterator<Item = Punct>>(&mut self, puncts: I) -> Result<(), AllocError> {
         self.extend_puncts(puncts)
@@ -77,7 +77,7 @@ impl TryExtend<Punct> for TokenStream {
 
 crate::shim::extended!(TokenStream, Punct);
 
-/// As [`TokenStream::extend_literals`].
+/// Appends literals, as [`TokenStream::extend_literals`] does.
 impl TryExtend<Literal> for TokenStream {
     fn try_extend<I: IntoIterator<Item = Literal>>(&mut self, literals: I) -> Result<(), AllocError> {
         self.extend_literals(literals)

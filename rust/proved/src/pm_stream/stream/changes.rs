@@ -1,5 +1,5 @@
 // Made from crates/pm_stream/src/stream/changes.rt by rust/erase: change that file, not this one.
-//! How the list of a stream is changed, which other streams may share.
+//! Calls that change the list of a stream, which other streams may share.
 
 use crate::shim::prelude::{Grow, GrowList};
 
@@ -13,10 +13,10 @@ use crate::shim::rc::Rc;
 /// How many trees the first list of a stream has room for.
 const FIRST_ROOM: usize = 4;
 
-// Each kind of tree is put in by a function of its own, down to its place in the list: a tree of any kind would
-// first be put together on the stack.
+// Each kind of tree has functions of its own, down to the position in the list. A function for all kinds would first
+// build the tree on the stack.
 impl TokenStream {
-    /// Puts the tree after the others (`split`). Where memory runs out the stream stays as it was.
+    /// Appends the tree by the rule `split`. If memory runs out, the stream does not change.
     #[cfg_attr(not(debug_assertions), inline(always))]
     pub(crate) fn put(&mut self, tree: TokenTree) -> Result<(), AllocError>
     {
@@ -28,39 +28,38 @@ impl TokenStream {
         }
     }
 
-    /// Puts the group after the trees. Where memory runs out the stream stays as it was.
+    /// Appends the group. If memory runs out, the stream does not change.
     #[cfg_attr(not(debug_assertions), inline(always))]
     pub(crate) fn put_group(&mut self, group: Group) -> Result<(), AllocError>
     {
-        // It computes nothing: proofs learn what is true of every group.
+        // This call computes nothing: its contract tells proofs what is true of every group.
         group.span();
         push(&mut self.trees, TokenTree::Group(group))
     }
 
-    /// Puts the identifier after the trees. Where memory runs out the stream stays as it was.
+    /// Appends the identifier. If memory runs out, the stream does not change.
     #[cfg_attr(not(debug_assertions), inline(always))]
     pub(crate) fn put_ident(&mut self, ident: Ident) -> Result<(), AllocError>
     {
-        // It computes nothing: proofs learn what is true of every identifier.
+        // This call computes nothing: its contract tells proofs what is true of every identifier.
         ident.span();
         push(&mut self.trees, TokenTree::Ident(ident))
     }
 
-    /// Puts the mark after the trees. Where memory runs out the stream stays as it was.
+    /// Appends the mark. If memory runs out, the stream does not change.
     #[cfg_attr(not(debug_assertions), inline(always))]
     pub(crate) fn put_punct(&mut self, punct: Punct) -> Result<(), AllocError>
     {
-        // It computes nothing: proofs learn what is true of every mark.
+        // This call computes nothing: its contract tells proofs what is true of every mark.
         punct.span();
         push(&mut self.trees, TokenTree::Punct(punct))
     }
 
-    /// Puts the literal after the trees, a negative one as its `-` and the rest. Where memory runs out the stream
-    /// stays as it was.
+    /// Appends the literal; a negative one gives its `-` and the rest. If memory runs out, the stream does not change.
     #[cfg_attr(not(debug_assertions), inline(always))]
     pub(crate) fn put_literal(&mut self, literal: Literal) -> Result<(), AllocError>
     {
-        // It computes nothing: proofs learn what is true of every literal.
+        // This call computes nothing: its contract tells proofs what is true of every literal.
         literal.span();
         let (minus, literal) = split_minus(literal);
         match minus {
@@ -69,7 +68,7 @@ impl TokenStream {
         }
     }
 
-    /// Puts the trees of the other stream after its own, all of them or, where memory runs out, none.
+    /// Appends all trees of the other stream, or none if memory runs out.
     pub(crate) fn append(&mut self, more: TokenStream) -> Result<(), AllocError>
     {
         let trees = { let mut whole = more; whole.trees.take() };
@@ -80,7 +79,7 @@ impl TokenStream {
     }
 }
 
-/// Puts the tree after those of a list, which is copied first where it is shared.
+/// Appends the tree to a list. A shared list is copied first.
 #[cfg_attr(not(debug_assertions), inline(always))]
 fn push(
     trees: &mut Option<Rc<Vec<TokenTree>>>,
@@ -94,7 +93,7 @@ fn push(
     }
 }
 
-/// Puts both trees of a negative literal after those of a list, or none.
+/// Appends both trees of a negative literal to a list, or neither if memory runs out.
 #[inline(never)]
 fn push_negative(
     trees: &mut Option<Rc<Vec<TokenTree>>>,
@@ -109,7 +108,7 @@ fn push_negative(
     }
 }
 
-/// Makes a list with no trees, where there is no list.
+/// Creates an empty list if there is no list.
 #[cfg_attr(not(debug_assertions), inline(always))]
 fn make_list(trees: &mut Option<Rc<Vec<TokenTree>>>) -> Result<(), AllocError>
 {
@@ -119,14 +118,14 @@ fn make_list(trees: &mut Option<Rc<Vec<TokenTree>>>) -> Result<(), AllocError>
     Ok(())
 }
 
-/// A list with no trees.
+/// Returns an empty list.
 #[inline(never)]
 fn first_list() -> Result<Rc<Vec<TokenTree>>, AllocError>
 {
     Ok(Rc::new(Vec::with_capacity_fallibly(FIRST_ROOM)?)?)
 }
 
-/// Puts the tree after the others.
+/// Appends the tree to a list of one owner.
 #[cfg_attr(not(debug_assertions), inline(always))]
 fn push_onto(trees: &mut Vec<TokenTree>, tree: TokenTree) -> Result<(), AllocError>
 {
@@ -134,7 +133,7 @@ fn push_onto(trees: &mut Vec<TokenTree>, tree: TokenTree) -> Result<(), AllocErr
     Ok(())
 }
 
-/// Puts both trees after the others, or none: room for both is there before the first is put in.
+/// Appends both trees, or neither: room for both is reserved before the first is appended.
 fn push_two(trees: &mut Vec<TokenTree>, minus: Punct, literal: Literal) -> Result<(), AllocError>
 {
     trees.reserve_fallibly(2)?;
@@ -143,7 +142,7 @@ fn push_two(trees: &mut Vec<TokenTree>, minus: Punct, literal: Literal) -> Resul
     Ok(())
 }
 
-/// Puts the trees of one list after those of the other. They are moved where no stream shares them.
+/// Appends the trees of `more` to the list. They are moved if no stream shares them, and copied otherwise.
 fn append_shared(
     trees: &mut Option<Rc<Vec<TokenTree>>>,
     more: Rc<Vec<TokenTree>>,
@@ -157,7 +156,7 @@ fn append_shared(
     Ok(())
 }
 
-/// Puts these trees after the others, all of them or none.
+/// Appends all trees of `more`, or none if memory runs out.
 fn push_all(trees: &mut Vec<TokenTree>, mut more: Vec<TokenTree>) -> Result<(), AllocError>
 {
     trees.append_fallibly(&mut more)?;

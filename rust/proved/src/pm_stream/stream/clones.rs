@@ -6,9 +6,9 @@ use crate::shim::prelude::TryClone;
 use super::{Group, TokenStream, TokenTree};
 use crate::shim::alloc::AllocError;
 
-/// The same trees. They are shared until one of the two streams is changed, so that this takes no
-/// memory, however many they are. It fails only where they have more owners than can be counted, and
-/// never without trees.
+/// Returns a stream of the same trees. They are shared until one of the two streams is changed, so this allocates
+/// nothing, however many trees there are. It fails only if the trees have more owners than can be counted, and never
+/// for an empty stream.
 impl TryClone for TokenStream {
     fn try_clone(&self) -> Result<TokenStream, AllocError> {
         if self.is_empty() {
@@ -26,7 +26,7 @@ impl TryClone for TokenStream {
 
 crate::shim::copied!(TokenStream);
 
-/// The same tree, with the same spans. Fails where memory for its text runs out.
+/// Returns the same tree, with the same spans. Fails if memory for its text runs out.
 impl TryClone for TokenTree {
     #[cfg_attr(not(debug_assertions), inline(always))]
     fn try_clone(&self) -> Result<TokenTree, AllocError> {
@@ -41,7 +41,7 @@ impl TryClone for TokenTree {
 
 crate::shim::copied!(TokenTree);
 
-/// The same group, whose trees are shared as those of a stream are.
+/// Returns the same group. The trees inside are shared, as those of a cloned stream are.
 impl TryClone for Group {
     fn try_clone(&self) -> Result<Group, AllocError> {
         Ok(Group {

@@ -1,13 +1,13 @@
 // Made from crates/pm_stream/src/stream/owned.rt by rust/erase: change that file, not this one.
-//! The trees of a stream as a list of one owner.
+//! The trees of a stream as a list with one owner.
 
 use super::{TokenStream, TokenTree};
 use crate::shim::alloc::AllocError;
 use crate::shim::rc::Rc;
 
 impl TokenStream {
-    /// Its trees, in order. A list that no other stream shares is taken over. Another is copied, which
-    /// fails where memory runs out.
+    /// Returns the stream's trees, in order. A list that no other stream shares is moved. A shared list is copied,
+    /// which fails if memory runs out.
     pub(crate) fn into_list(self) -> Result<Vec<TokenTree>, AllocError>
     {
         let trees = { let mut whole = self; whole.trees.take() };
@@ -15,7 +15,7 @@ impl TokenStream {
     }
 }
 
-/// The trees that a stream holds: the list itself where this was its last owner, and else a copy.
+/// Returns the trees that a stream holds: the list itself if this was its last owner, and otherwise a copy.
 fn owned(trees: Option<Rc<Vec<TokenTree>>>) -> Result<Vec<TokenTree>, AllocError>
 {
     match trees {
@@ -24,7 +24,7 @@ fn owned(trees: Option<Rc<Vec<TokenTree>>>) -> Result<Vec<TokenTree>, AllocError
     }
 }
 
-/// The list itself where this was its last owner, and else a copy.
+/// Returns the list itself if this was its last owner, and otherwise a copy.
 pub(super) fn unshared(shared: Rc<Vec<TokenTree>>) -> Result<Vec<TokenTree>, AllocError>
 {
     Rc::unwrap_or_clone(shared)

@@ -1,11 +1,11 @@
 // Made from crates/pm_token/src/escapes/bytes.rt by rust/erase: change that file, not this one.
-//! How bytes are written between quotes.
+//! Writes bytes for literals that have quotes.
 
 use crate::pm_token::escapes::TextBuilder;
 use crate::shim::alloc::AllocError;
 
 impl TextBuilder {
-    /// Writes the bytes between these quotes, each by the rules `escaped` and `written-byte`.
+    /// Writes the bytes for a literal in these quotes (`escaped`, `written-byte`).
     pub(crate) fn push_bytes(&mut self, quote: u8, bytes: &[u8]) -> Result<(), AllocError>
     {
         let mut left = bytes;
@@ -16,7 +16,7 @@ impl TextBuilder {
         Ok(())
     }
 
-    /// Writes the byte between these quotes, where the rest of the content follows.
+    /// Writes the byte for a literal in these quotes, whose content goes on with `rest`.
     pub(crate) fn push_byte(&mut self, quote: u8, byte: u8, rest: &[u8]) -> Result<(), AllocError>
     {
         match byte {
@@ -41,7 +41,7 @@ impl TextBuilder {
         }
     }
 
-    /// Writes the byte by its number, as `\xFF`.
+    /// Writes the byte as its number, such as `\xFF`.
     pub(crate) fn push_hex(&mut self, byte: u8) -> Result<(), AllocError>
     {
         self.push_short('x')?;
@@ -50,7 +50,7 @@ impl TextBuilder {
     }
 }
 
-/// Whether the bytes begin with one of the digits 0 to 7.
+/// Returns whether the bytes begin with one of the digits 0 to 7.
 fn begins_octal(bytes: &[u8]) -> bool
 {
     match bytes.first() {
@@ -59,13 +59,13 @@ fn begins_octal(bytes: &[u8]) -> bool
     }
 }
 
-/// Whether the byte prints in ASCII.
+/// Returns whether the byte is a printable ASCII character.
 fn is_bare(byte: u8) -> bool
 {
     byte >= b' ' && byte < 0x7F
 }
 
-/// The hex digit of this value, in upper case.
+/// Returns the hex digit of this value, in upper case.
 fn hex_digit(value: u8) -> char
 {
     if value < 10 {

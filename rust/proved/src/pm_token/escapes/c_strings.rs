@@ -1,11 +1,11 @@
 // Made from crates/pm_token/src/escapes/c_strings.rt by rust/erase: change that file, not this one.
-//! How the bytes of a C string are written.
+//! Writes the bytes of a C string.
 
 use crate::pm_token::escapes::TextBuilder;
 use crate::shim::alloc::AllocError;
 
 impl TextBuilder {
-    /// Writes the bytes, none of which is zero, by the rule `c-string-parts`.
+    /// Writes the bytes, none of which is zero (`c-string-parts`).
     pub(crate) fn push_c_string(&mut self, bytes: &[u8]) -> Result<(), AllocError>
     {
         let mut left = bytes;
@@ -15,8 +15,8 @@ impl TextBuilder {
         Ok(())
     }
 
-    /// Writes the text at the front of the bytes, and the byte after it that begins no character.
-    /// Answers the bytes after these.
+    /// Writes the text that the bytes begin with, and the byte after it, which begins no character. It returns
+    /// the bytes after that byte.
     fn push_front<'a>(&mut self, bytes: &'a [u8]) -> Result<&'a [u8], AllocError>
     {
         let Some(chunk) = bytes.utf8_chunks().next() else {

@@ -1,12 +1,12 @@
 // Made from crates/pm_token/src/escapes/words.rt by rust/erase: change that file, not this one.
-//! The front of a string's text that stands for itself, by words of 8 bytes.
+//! Counts the first bytes of a text that need no escape in a string, in words of 8 bytes.
 
 use crate::pm_token::escapes::count_by_bytes;
 
-/// How many of the 8 bytes stand for themselves between double quotes, from the first of them on: `None` says all.
+/// Returns how many of the first bytes need no escape between double quotes, or `None` if no byte needs one.
 ///
-/// They are looked at in one word. Without its highest bit, a byte sets that bit of each sum unless it is a control
-/// character, DEL, a backslash or a quote.
+/// All 8 are tested in one word, without their highest bits. Each addition sets that bit again unless the byte
+/// is one that it looks for: a control character, DEL, a backslash or a quote.
 #[cfg_attr(not(debug_assertions), inline(always))]
 fn count_in_word(bytes: &[u8; 8]) -> Option<usize>
 {
@@ -23,7 +23,7 @@ fn count_in_word(bytes: &[u8; 8]) -> Option<usize>
     Some((stops.trailing_zeros() / 8) as usize)
 }
 
-/// How many bytes at the front are ASCII characters that stand for themselves between double quotes.
+/// Returns how many of the first bytes are ASCII characters that need no escape between double quotes.
 pub(crate) fn count_in_string(bytes: &[u8]) -> usize
 {
     let mut count = 0;

@@ -1,13 +1,13 @@
 // Made from crates/pm_token/src/identifiers/comparisons.rt by rust/erase: change that file, not this one.
-//! Identifiers are compared, ordered and hashed by the bytes that they are written with.
+//! Equality, order and hash of identifiers. All three use the bytes of an identifier as it is written.
 
 use super::Ident;
 use crate::shim::cmp::Ordering;
 use crate::shim::hash::{Hash, Hasher};
 
 impl PartialEq for Ident {
-    /// Whether both have the same name, and both are raw or both plain, by the rule
-    /// `identifier-equality`. Their spans don't count.
+    /// Returns whether both have the same name, and are both raw or both plain (`identifier-equality`). Spans
+    /// are ignored.
     #[cfg_attr(not(debug_assertions), inline(always))]
     fn eq(&self, other: &Ident) -> bool
     {
@@ -25,8 +25,8 @@ impl PartialOrd for Ident {
 }
 
 impl Ord for Ident {
-    /// The order of the bytes that the identifiers are written with, by the rule
-    /// `identifier-order`: `r`, then raw `a`, then `ra`.
+    /// Compares the bytes of both identifiers as they are written (`identifier-order`): `r`, then raw `a`, then
+    /// `ra`.
     fn cmp(&self, other: &Ident) -> Ordering
     {
         let name = self.name.as_str();
@@ -35,7 +35,7 @@ impl Ord for Ident {
         if raw == other.name.is_raw() {
             return name.cmp(other_name);
         }
-        // A plain name has no `#`, so that its first two characters decide.
+        // A plain name has no `#`, so its first two characters decide.
         if raw {
             "r#".cmp(other_name)
         } else {
@@ -45,8 +45,8 @@ impl Ord for Ident {
 }
 
 impl Hash for Ident {
-    /// Feeds the hasher what the text of the identifier does, but `r#` in a write of its own, by the
-    /// rule `identifier-hash`.
+    /// Feeds the hasher what the text of the identifier would, but `r#` in a separate write
+    /// (`identifier-hash`).
     fn hash<H: Hasher>(&self, state: &mut H)
     {
         let name = self.name.as_str();

@@ -1,18 +1,18 @@
 // Made from crates/pm_token/src/literals/conversion.rt by rust/erase: change that file, not this one.
-//! Why a literal has no value.
+//! The errors of a literal that has no value.
 
 use crate::literal_escaper::EscapeError;
 use crate::shim::alloc::{AllocError, AllocFailed};
 use crate::shim::fmt;
 
-/// Why the value of a literal was not answered.
+/// The reason why a literal's value was not returned.
 #[derive(Debug, PartialEq, Eq)]
 #[non_exhaustive]
 pub enum ConversionErrorKind {
-    /// The last fault of the content, where a warning is none: `BareCarriageReturn` for `"a` CR LF
-    /// `b"`.
+    /// The content has a syntax error; this is the last one, and warnings don't count. `"a` CR LF `b"` gives
+    /// `BareCarriageReturn`.
     FailedToUnescape(EscapeError),
-    /// It isn't a literal of the kind that was asked for, or it has a suffix: `1`, or `"a"s`.
+    /// The literal is of another kind than the call reads, or it has a suffix: `1`, or `"a"s`.
     InvalidLiteralKind,
     /// Memory ran out.
     Memory(AllocError),

@@ -1,5 +1,5 @@
 // Made from crates/pm_token/src/literals/integers.rt by rust/erase: change that file, not this one.
-//! The literals of integers.
+//! Makes the literals of integers.
 
 use crate::pm_token::literals::Literal;
 use crate::pm_token::symbols::Symbol;
@@ -7,7 +7,7 @@ use crate::shim::itoa::Buffer;
 use crate::pm_span::Span;
 use crate::shim::alloc::AllocError;
 
-/// What stands after the digits of a number: nothing, or the name of a type.
+/// The text after the digits of a number: nothing, or the name of a type.
 #[derive(Clone, Copy)]
 enum Suffix {
     /// Nothing.
@@ -39,7 +39,7 @@ enum Suffix {
 }
 
 impl Suffix {
-    /// The suffix as it is written.
+    /// Returns the suffix as it is written.
     #[cfg_attr(not(debug_assertions), inline(always))]
     fn name(self) -> &'static str
     {
@@ -61,7 +61,7 @@ impl Suffix {
     }
 }
 
-/// The text of a number of 64 bits and its suffix. Fails where memory runs out.
+/// Returns the text of a number of 64 bits with its suffix. Out of memory is the only error.
 #[cfg_attr(not(debug_assertions), inline(always))]
 fn narrow_unsigned(value: u64, suffix: Suffix) -> Result<Symbol, AllocError>
 {
@@ -71,7 +71,7 @@ fn narrow_unsigned(value: u64, suffix: Suffix) -> Result<Symbol, AllocError>
     }
 }
 
-/// The same of a number with a sign.
+/// Returns the text of a signed number of 64 bits with its suffix. Out of memory is the only error.
 #[cfg_attr(not(debug_assertions), inline(always))]
 fn narrow_signed(value: i64, suffix: Suffix) -> Result<Symbol, AllocError>
 {
@@ -81,7 +81,7 @@ fn narrow_signed(value: i64, suffix: Suffix) -> Result<Symbol, AllocError>
     }
 }
 
-/// The text of any number and its suffix. Fails where memory runs out.
+/// Returns the text of any number with its suffix. Out of memory is the only error.
 fn wide_unsigned(value: u128, suffix: Suffix) -> Result<Symbol, AllocError>
 {
     let mut buffer = Buffer::new();
@@ -89,7 +89,7 @@ fn wide_unsigned(value: u128, suffix: Suffix) -> Result<Symbol, AllocError>
     Ok(text)
 }
 
-/// The same of a number with a sign.
+/// Returns the text of any signed number with its suffix. Out of memory is the only error.
 fn wide_signed(value: i128, suffix: Suffix) -> Result<Symbol, AllocError>
 {
     let mut buffer = Buffer::new();
@@ -97,7 +97,7 @@ fn wide_signed(value: i128, suffix: Suffix) -> Result<Symbol, AllocError>
     Ok(text)
 }
 
-/// The text of a number and its suffix. Fails where memory runs out.
+/// Returns the text of a number with its suffix, in a faster way for 64 bits. Out of memory is the only error.
 #[cfg_attr(not(debug_assertions), inline(always))]
 fn unsigned_text(value: u128, suffix: Suffix) -> Result<Symbol, AllocError>
 {
@@ -107,7 +107,7 @@ fn unsigned_text(value: u128, suffix: Suffix) -> Result<Symbol, AllocError>
     wide_unsigned(value, suffix)
 }
 
-/// The same of a number with a sign.
+/// Returns the text of a signed number with its suffix, as `unsigned_text` does. Out of memory is the only error.
 #[cfg_attr(not(debug_assertions), inline(always))]
 fn signed_text(value: i128, suffix: Suffix) -> Result<Symbol, AllocError>
 {
@@ -117,7 +117,7 @@ fn signed_text(value: i128, suffix: Suffix) -> Result<Symbol, AllocError>
     wide_signed(value, suffix)
 }
 
-/// The literal of a number without a sign.
+/// Makes the literal of a number without a sign.
 #[cfg_attr(not(debug_assertions), inline(always))]
 fn unsigned(value: u128, suffix: Suffix) -> Result<Literal, AllocError>
 {
@@ -127,7 +127,7 @@ fn unsigned(value: u128, suffix: Suffix) -> Result<Literal, AllocError>
     })
 }
 
-/// The literal of a number, with `-` before it where it is negative.
+/// Makes the literal of a number, with `-` before it if it is negative.
 #[cfg_attr(not(debug_assertions), inline(always))]
 fn signed(value: i128, suffix: Suffix) -> Result<Literal, AllocError>
 {
@@ -137,13 +137,13 @@ fn signed(value: i128, suffix: Suffix) -> Result<Literal, AllocError>
     })
 }
 
-/// The literals of integers.
+/// Literals of integers.
 ///
-/// Without a suffix the literal is the decimal text of the number, by the rule `integer-text`, which
-/// is the same for a number of a wider type; with one the type's name follows it.
+/// A literal without a suffix is the decimal text of the number (`integer-text`), which is the same for
+/// a wider type. A literal with a suffix has the type's name after the digits.
 impl Literal {
-    /// The literal of the number, without its type, with the span 0..0. For 255 it is `255`.
-    /// Fails where memory runs out.
+    /// Makes the literal of the number without a suffix, with the span 0..0. For 255 it is `255`.
+    /// Out of memory is the only error.
     ///
     /// # Contract
     ///
@@ -159,8 +159,8 @@ impl Literal {
         Literal::u16_unsuffixed(u16::from(value))
     }
 
-    /// The literal of the number, without its type, with the span 0..0. For 65535 it is `65535`.
-    /// Fails where memory runs out.
+    /// Makes the literal of the number without a suffix, with the span 0..0. For 65535 it is `65535`.
+    /// Out of memory is the only error.
     ///
     /// # Contract
     ///
@@ -176,8 +176,8 @@ impl Literal {
         Literal::u32_unsuffixed(u32::from(value))
     }
 
-    /// The literal of the number, without its type, with the span 0..0. For 3 it is `3`.
-    /// Fails where memory runs out.
+    /// Makes the literal of the number without a suffix, with the span 0..0. For 3 it is `3`.
+    /// Out of memory is the only error.
     ///
     /// # Contract
     ///
@@ -193,8 +193,8 @@ impl Literal {
         Literal::u64_unsuffixed(u64::from(value))
     }
 
-    /// The literal of the number, without its type, with the span 0..0. For 10 it is `10`.
-    /// Fails where memory runs out.
+    /// Makes the literal of the number without a suffix, with the span 0..0. For 10 it is `10`.
+    /// Out of memory is the only error.
     ///
     /// # Contract
     ///
@@ -210,8 +210,8 @@ impl Literal {
         Literal::u128_unsuffixed(u128::from(value))
     }
 
-    /// The literal of the number, without its type, with the span 0..0. For 7 it is `7`.
-    /// Fails where memory runs out.
+    /// Makes the literal of the number without a suffix, with the span 0..0. For 7 it is `7`.
+    /// Out of memory is the only error.
     ///
     /// # Contract
     ///
@@ -227,8 +227,8 @@ impl Literal {
         unsigned(value, Suffix::Nothing)
     }
 
-    /// The literal of the number, without its type, with the span 0..0. For 0 it is `0`.
-    /// Fails where memory runs out.
+    /// Makes the literal of the number without a suffix, with the span 0..0. For 0 it is `0`.
+    /// Out of memory is the only error.
     ///
     /// # Contract
     ///
@@ -244,8 +244,8 @@ impl Literal {
         unsigned(value as u128, Suffix::Nothing)
     }
 
-    /// The literal of the number and `u8`, with the span 0..0. For 255 it is `255u8`.
-    /// Fails where memory runs out.
+    /// Makes the literal of the number followed by `u8`, with the span 0..0. For 255 it is `255u8`.
+    /// Out of memory is the only error.
     ///
     /// # Contract
     ///
@@ -262,8 +262,8 @@ impl Literal {
         unsigned(u128::from(value), Suffix::U8)
     }
 
-    /// The literal of the number and `u16`, with the span 0..0. For 65535 it is `65535u16`.
-    /// Fails where memory runs out.
+    /// Makes the literal of the number followed by `u16`, with the span 0..0. For 65535 it is `65535u16`.
+    /// Out of memory is the only error.
     ///
     /// # Contract
     ///
@@ -280,8 +280,8 @@ impl Literal {
         unsigned(u128::from(value), Suffix::U16)
     }
 
-    /// The literal of the number and `u32`, with the span 0..0. For 3 it is `3u32`.
-    /// Fails where memory runs out.
+    /// Makes the literal of the number followed by `u32`, with the span 0..0. For 3 it is `3u32`.
+    /// Out of memory is the only error.
     ///
     /// # Contract
     ///
@@ -298,8 +298,8 @@ impl Literal {
         unsigned(u128::from(value), Suffix::U32)
     }
 
-    /// The literal of the number and `u64`, with the span 0..0. For 10 it is `10u64`.
-    /// Fails where memory runs out.
+    /// Makes the literal of the number followed by `u64`, with the span 0..0. For 10 it is `10u64`.
+    /// Out of memory is the only error.
     ///
     /// # Contract
     ///
@@ -316,8 +316,8 @@ impl Literal {
         unsigned(u128::from(value), Suffix::U64)
     }
 
-    /// The literal of the number and `u128`, with the span 0..0. For 7 it is `7u128`.
-    /// Fails where memory runs out.
+    /// Makes the literal of the number followed by `u128`, with the span 0..0. For 7 it is `7u128`.
+    /// Out of memory is the only error.
     ///
     /// # Contract
     ///
@@ -334,8 +334,8 @@ impl Literal {
         unsigned(value, Suffix::U128)
     }
 
-    /// The literal of the number and `usize`, with the span 0..0. For 0 it is `0usize`.
-    /// Fails where memory runs out.
+    /// Makes the literal of the number followed by `usize`, with the span 0..0. For 0 it is `0usize`.
+    /// Out of memory is the only error.
     ///
     /// # Contract
     ///
@@ -352,8 +352,8 @@ impl Literal {
         unsigned(value as u128, Suffix::Usize)
     }
 
-    /// The literal of the number, without its type, with the span 0..0. For -128 it is `-128`.
-    /// Fails where memory runs out.
+    /// Makes the literal of the number without a suffix, with the span 0..0. For -128 it is `-128`.
+    /// Out of memory is the only error.
     ///
     /// # Contract
     ///
@@ -369,8 +369,8 @@ impl Literal {
         Literal::i16_unsuffixed(i16::from(value))
     }
 
-    /// The literal of the number, without its type, with the span 0..0. For -3 it is `-3`.
-    /// Fails where memory runs out.
+    /// Makes the literal of the number without a suffix, with the span 0..0. For -3 it is `-3`.
+    /// Out of memory is the only error.
     ///
     /// # Contract
     ///
@@ -386,8 +386,8 @@ impl Literal {
         Literal::i32_unsuffixed(i32::from(value))
     }
 
-    /// The literal of the number, without its type, with the span 0..0. For -3 it is `-3`.
-    /// Fails where memory runs out.
+    /// Makes the literal of the number without a suffix, with the span 0..0. For -3 it is `-3`.
+    /// Out of memory is the only error.
     ///
     /// # Contract
     ///
@@ -403,8 +403,8 @@ impl Literal {
         Literal::i64_unsuffixed(i64::from(value))
     }
 
-    /// The literal of the number, without its type, with the span 0..0. For 12 it is `12`.
-    /// Fails where memory runs out.
+    /// Makes the literal of the number without a suffix, with the span 0..0. For 12 it is `12`.
+    /// Out of memory is the only error.
     ///
     /// # Contract
     ///
@@ -420,8 +420,8 @@ impl Literal {
         Literal::i128_unsuffixed(i128::from(value))
     }
 
-    /// The literal of the number, without its type, with the span 0..0. For -1 it is `-1`.
-    /// Fails where memory runs out.
+    /// Makes the literal of the number without a suffix, with the span 0..0. For -1 it is `-1`.
+    /// Out of memory is the only error.
     ///
     /// # Contract
     ///
@@ -437,8 +437,8 @@ impl Literal {
         signed(value, Suffix::Nothing)
     }
 
-    /// The literal of the number, without its type, with the span 0..0. For 0 it is `0`.
-    /// Fails where memory runs out.
+    /// Makes the literal of the number without a suffix, with the span 0..0. For 0 it is `0`.
+    /// Out of memory is the only error.
     ///
     /// # Contract
     ///
@@ -454,8 +454,8 @@ impl Literal {
         signed(value as i128, Suffix::Nothing)
     }
 
-    /// The literal of the number and `i8`, with the span 0..0. For -128 it is `-128i8`.
-    /// Fails where memory runs out.
+    /// Makes the literal of the number followed by `i8`, with the span 0..0. For -128 it is `-128i8`.
+    /// Out of memory is the only error.
     ///
     /// # Contract
     ///
@@ -472,8 +472,8 @@ impl Literal {
         signed(i128::from(value), Suffix::I8)
     }
 
-    /// The literal of the number and `i16`, with the span 0..0. For -3 it is `-3i16`.
-    /// Fails where memory runs out.
+    /// Makes the literal of the number followed by `i16`, with the span 0..0. For -3 it is `-3i16`.
+    /// Out of memory is the only error.
     ///
     /// # Contract
     ///
@@ -490,8 +490,8 @@ impl Literal {
         signed(i128::from(value), Suffix::I16)
     }
 
-    /// The literal of the number and `i32`, with the span 0..0. For -3 it is `-3i32`.
-    /// Fails where memory runs out.
+    /// Makes the literal of the number followed by `i32`, with the span 0..0. For -3 it is `-3i32`.
+    /// Out of memory is the only error.
     ///
     /// # Contract
     ///
@@ -508,8 +508,8 @@ impl Literal {
         signed(i128::from(value), Suffix::I32)
     }
 
-    /// The literal of the number and `i64`, with the span 0..0. For 12 it is `12i64`.
-    /// Fails where memory runs out.
+    /// Makes the literal of the number followed by `i64`, with the span 0..0. For 12 it is `12i64`.
+    /// Out of memory is the only error.
     ///
     /// # Contract
     ///
@@ -526,8 +526,8 @@ impl Literal {
         signed(i128::from(value), Suffix::I64)
     }
 
-    /// The literal of the number and `i128`, with the span 0..0. For -1 it is `-1i128`.
-    /// Fails where memory runs out.
+    /// Makes the literal of the number followed by `i128`, with the span 0..0. For -1 it is `-1i128`.
+    /// Out of memory is the only error.
     ///
     /// # Contract
     ///
@@ -544,8 +544,8 @@ impl Literal {
         signed(value, Suffix::I128)
     }
 
-    /// The literal of the number and `isize`, with the span 0..0. For 0 it is `0isize`.
-    /// Fails where memory runs out.
+    /// Makes the literal of the number followed by `isize`, with the span 0..0. For 0 it is `0isize`.
+    /// Out of memory is the only error.
     ///
     /// # Contract
     ///

@@ -1,11 +1,11 @@
 // Made from crates/pm_token/src/literals/negative.rt by rust/erase: change that file, not this one.
-//! Negative literals in two parts.
+//! Splits a negative literal into its `-` and its number.
 
 use crate::pm_token::literals::Literal;
 use crate::pm_token::marks::{Punct, Spacing};
 
 impl Literal {
-    /// The `-` of a negative literal, and the rest.
+    /// Splits a negative literal into its `-` and its number. Any other literal is returned whole.
     pub(crate) fn split_minus(self) -> (Option<Punct>, Literal)
     {
         let Literal { mut text, span } = self;

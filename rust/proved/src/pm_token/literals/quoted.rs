@@ -1,5 +1,5 @@
 // Made from crates/pm_token/src/literals/quoted.rt by rust/erase: change that file, not this one.
-//! The literals of texts, characters and bytes.
+//! Makes literals of texts, characters and bytes.
 
 use crate::pm_token::escapes::{TextBuilder, stands_for_itself};
 use crate::pm_token::literals::Literal;
@@ -8,7 +8,7 @@ use crate::pm_span::Span;
 use crate::shim::alloc::AllocError;
 use crate::shim::str;
 
-/// The text of the character between quotes, if it is ASCII and stands for itself. It takes no memory.
+/// Returns the character literal's text if the character is ASCII and needs no escape. This allocates nothing.
 fn plain_character(c: char) -> Option<Symbol>
 {
     if !c.is_ascii() || !stands_for_itself(c as u8, '\'') {
@@ -22,7 +22,7 @@ fn plain_character(c: char) -> Option<Symbol>
     Some(text)
 }
 
-/// The text of the character between quotes. Fails where memory runs out.
+/// Returns the text of the character's literal. Out of memory is the only error.
 fn between_quotes(c: char) -> Result<Symbol, AllocError>
 {
     if let Some(text) = plain_character(c) {
@@ -36,10 +36,10 @@ fn between_quotes(c: char) -> Result<Symbol, AllocError>
     Ok(text)
 }
 
-/// The literals of texts, characters and bytes.
+/// Literals of texts, characters and bytes.
 impl Literal {
-    /// The string literal of the text, by the rule `string-text`, with the span 0..0. For CR, a quote
-    /// and U+0301 it is `"\r\"\u{301}"`. Fails where memory runs out.
+    /// Makes the string literal of the text (`string-text`), with the span 0..0. For CR, a quote and U+0301 it
+    /// is `"\r\"\u{301}"`. Out of memory is the only error.
     ///
     /// # Contract
     ///
@@ -55,10 +55,10 @@ impl Literal {
         Literal::string_at(text, Span::call_site())
     }
 
-    /// The string literal of the text, where it stands. Fails where memory runs out.
+    /// Makes the string literal of the text, with this span. Out of memory is the only error.
     pub(crate) fn string_at(text: &str, span: Span) -> Result<Literal, AllocError>
     {
-        // Most texts have nothing to escape. One that has grows.
+        // Most texts have nothing to escape. Otherwise the builder grows.
         let mut builder = TextBuilder::with_room(text.len() + 2)?;
         builder.push('"')?;
         builder.push_content('"', text)?;
@@ -69,8 +69,8 @@ impl Literal {
         })
     }
 
-    /// The literal of the character, by the rule `character-text`, with the span 0..0. For `'` it is
-    /// `'\''`, for `"` it is `'"'`. Fails where memory runs out.
+    /// Makes the literal of the character (`character-text`), with the span 0..0. For `'` it is `'\''`, and for
+    /// `"` it is `'"'`. Out of memory is the only error.
     ///
     /// # Contract
     ///
@@ -88,8 +88,8 @@ impl Literal {
         })
     }
 
-    /// The literal of the byte, by the rule `byte-text`, with the span 0..0. For 0x1F it is
-    /// `b'\x1F'`. Fails where memory runs out.
+    /// Makes the literal of the byte (`byte-text`), with the span 0..0. For 0x1F it is `b'\x1F'`. Out of memory
+    /// is the only error.
     ///
     /// # Contract
     ///
@@ -112,8 +112,8 @@ impl Literal {
         })
     }
 
-    /// The byte string literal of the bytes, by the rule `byte-string-text`, with the span 0..0. For
-    /// `"`, 0 and `7` it is `b"\"\x007"`. Fails where memory runs out.
+    /// Makes the byte string literal of the bytes (`byte-string-text`), with the span 0..0. For `"`, 0 and `7`
+    /// it is `b"\"\x007"`. Out of memory is the only error.
     ///
     /// # Contract
     ///
@@ -136,9 +136,9 @@ impl Literal {
         })
     }
 
-    /// The C string literal of the bytes, none of which is zero, by the rule `c-string-text`: the
-    /// zero that ends a C string is no part of its literal, whose span is 0..0. For 0x7F, 0xFF and
-    /// the bytes of U+0333 it is `c"\u{7f}\xFF\u{333}"`. Fails where memory runs out.
+    /// Makes the C string literal of the bytes (`c-string-text`), with the span 0..0. No byte may be zero: the
+    /// zero that ends a C string is not written in its literal. For 0x7F, 0xFF and the bytes of U+0333 it is
+    /// `c"\u{7f}\xFF\u{333}"`. Out of memory is the only error.
     ///
     /// # Contract
     ///

@@ -1,5 +1,5 @@
 // Made from crates/pm_token/src/literals/subspan.rt by rust/erase: change that file, not this one.
-//! The spans of parts of literals.
+//! Spans of parts of literals.
 
 use crate::pm_token::literals::Literal;
 use crate::pm_span::Span;
@@ -7,18 +7,19 @@ use crate::pm_span::parts::{bounds, span_of};
 use crate::shim::ops::Bound;
 
 impl Literal {
-    /// The span of a part of the literal, between two bounds (`subspan`). It takes no memory.
+    /// Returns the span of a part of the literal, between two bounds, or `None` if there is no such part
+    /// (`subspan`). This allocates nothing.
     ///
-    /// The bounds count characters, not bytes, from the position where the literal's span begins.
-    /// An included start is the first character of the part, and an included end is its last one.
-    /// An excluded start is the character before the part, and an excluded end is the one after
-    /// it. An unbounded start or end is that of the literal's span.
+    /// The bounds count characters, not bytes, from the start of the literal's span. An included start is the
+    /// first character of the part, and an included end is its last one. An excluded start is the character
+    /// before the part, and an excluded end is the one after it. An unbounded start or end is that of the
+    /// literal's span.
     ///
-    /// The answer is `None` exactly where the part would end before it begins, or past the end of
-    /// the literal's span. So a bound may be any number, and no part passes the last position.
+    /// The result is `None` exactly if the part would end before it begins, or past the end of the literal's
+    /// span. So a bound may be any number.
     ///
-    /// Where `0.1` stands at 1..4, `Included(1)` to `Excluded(2)` is 2..3, which is the `.`, and
-    /// `Included(1)` to `Excluded(4)` is `None`.
+    /// If `0.1` is at 1..4, `Included(1)` to `Excluded(2)` gives 2..3, which is the `.`; `Included(1)` to
+    /// `Excluded(4)` gives `None`.
     ///
     /// # Contract
     ///

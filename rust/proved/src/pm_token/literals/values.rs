@@ -14,14 +14,17 @@ use crate::pm_token::literals::values::single::{byte_of, character_of};
 use crate::pm_token::literals::values::unescaped::{unescaped_bytes, unescaped_c_string, unescaped_string};
 
 impl Literal {
-    /// The value of a string literal without a suffix (`string-value`): of `".."` the characters that
-    /// its items give, joined; of `r".."`, whatever hash signs it has, the content as it stands.
+    /// Returns the value of a string literal without a suffix (`string-value`).
     ///
-    /// `FailedToUnescape` says the last fault among the items of a `".."`; a warning is none.
-    /// `InvalidLiteralKind` is answered exactly of every other literal. `Memory` is answered where a
-    /// growth was refused, which is never so of an empty value.
+    /// The value of `".."` is the characters of its items, in order. The value of `r".."`, with any number of
+    /// `#`, is its content unchanged.
     ///
-    /// Of `"a\tb"` it is `a`, a tab and `b`; of `r#"\"#` a backslash. `"a"s` and `b"a"` are refused.
+    /// `FailedToUnescape` has the last error among the items of a `".."`; warnings don't count.
+    /// `InvalidLiteralKind` comes for all other literals, and only for these. `Memory` comes if memory runs
+    /// out, but never if the value is empty.
+    ///
+    /// The value of `"a\tb"` is `a`, a tab and `b`, and that of `r#"\"#` is a backslash. `"a"s` and `b"a"` are
+    /// rejected.
     ///
     /// # Contract
     ///
@@ -45,10 +48,13 @@ impl Literal {
         }
     }
 
-    /// The value of a byte string literal without a suffix (`byte-string-value`), as `str_value` gives
-    /// that of a string: of `b".."` the bytes that its items give; of `br".."` the bytes of its content.
+    /// Returns the value of a byte string literal without a suffix (`byte-string-value`).
     ///
-    /// Of `b"\xFF"` it is the byte 0xFF; of `br"\x"` the bytes 0x5C and 0x78. `"a"` is refused.
+    /// The value of `b".."` is the bytes of its items, and that of `br".."` is the bytes of its content. The
+    /// errors are those of `str_value`.
+    ///
+    /// The value of `b"\xFF"` is the byte 0xFF, and that of `br"\x"` is the bytes 0x5C and 0x78. `"a"` is
+    /// rejected.
     ///
     /// # Contract
     ///
@@ -72,11 +78,14 @@ impl Literal {
         }
     }
 
-    /// The value of a C string literal without a suffix (`c-string-value`), as `str_value` gives that of
-    /// a string, with a zero byte after it: of `c".."` the bytes of its items, those of a character
-    /// being in UTF-8; of `cr".."` the bytes of its content.
+    /// Returns the value of a C string literal without a suffix, with a zero byte at its end
+    /// (`c-string-value`).
     ///
-    /// Of `c"a\x80"` it is the bytes 0x61, 0x80 and 0. `"a"` is refused.
+    /// The value of `c".."` is the bytes of its items; those of a character are its UTF-8. The value of
+    /// `cr".."` is the bytes of its content. The errors are those of `str_value`, but `Memory` may come for any
+    /// value.
+    ///
+    /// The value of `c"a\x80"` is the bytes 0x61, 0x80 and 0. `"a"` is rejected.
     ///
     /// # Contract
     ///
@@ -97,13 +106,12 @@ impl Literal {
         }
     }
 
-    /// The value of a character literal without a suffix (`character-value`): the character that stands
-    /// between its quotes, or that its escape means.
+    /// Returns the value of a character literal without a suffix (`character-value`).
     ///
-    /// `InvalidLiteralKind` is answered exactly of every other literal, and no other error: each such
-    /// character has a value, and no memory is taken.
+    /// The value is the character between the quotes, or the character of the escape there. This allocates
+    /// nothing. All other literals are rejected with `InvalidLiteralKind`, and there is no other error.
     ///
-    /// Of `'\''` it is `'`, and of `' '` the space. `'a'u8`, `"a"` and `b'a'` are refused.
+    /// The value of `'\''` is `'`, and that of `' '` is the space. `'a'u8`, `"a"` and `b'a'` are rejected.
     ///
     /// # Contract
     ///
@@ -118,15 +126,15 @@ impl Literal {
     /// [IfErr]: crate::contracts#std.IfErr
     pub fn char_value(&self) -> Result<char, ConversionErrorKind>
     {
-        // It computes nothing: proofs learn that the text is a literal's.
+        // This computes nothing. It shows to the proof that the text is that of a literal.
         let _ = &self.text;
         character_of(self.text())
     }
 
-    /// The value of a byte literal without a suffix (`byte-value`), as `char_value` gives that of a
-    /// character.
+    /// Returns the value of a byte literal without a suffix (`byte-value`).
     ///
-    /// Of `b'\xFF'` it is 255. `b'a'u8` and `'a'` are refused.
+    /// All other literals are rejected with `InvalidLiteralKind`, and there is no other error. This allocates
+    /// nothing. The value of `b'\xFF'` is 255. `b'a'u8` and `'a'` are rejected.
     ///
     /// # Contract
     ///

@@ -1,5 +1,5 @@
 // Made from crates/pm_token/src/literals/whole.rt by rust/erase: change that file, not this one.
-//! Literals from their text.
+//! Parses a literal from its text.
 
 use crate::pm_token::errors::{LexError, ParseError};
 use crate::pm_token::literals::Literal;
@@ -9,16 +9,16 @@ use crate::pm_span::{SourceMap, Span};
 use crate::shim::alloc::AllocError;
 
 impl Literal {
-    /// The literal that the whole text is, or `-` and one that begins with a digit
-    /// (`whole-literal`). The text becomes the next file of the map, and the literal's span is all
-    /// of it.
+    /// Parses a text that is one literal, or `-` and a literal that begins with a digit (`whole-literal`).
     ///
-    /// Nothing may stand before or after the literal, not even white space. Any other text is
-    /// refused as `Lex` with the span 0..0, and is a file of the map then too. `MapFull` is answered
-    /// exactly where the text would end past the map's limit (`fits`), and `Memory` where a growth
-    /// was refused; both leave the map as it was.
+    /// The text becomes the next file of the map, and the literal's span is all of it. Nothing may be before or
+    /// after the literal, not even white space.
     ///
-    /// In a new map `-1u12` gives the literal of this text at 1..6. `- 1` and `-""` are refused.
+    /// A text that is anything else is rejected with `Lex` and the span 0..0, and becomes a file of the map
+    /// too. `MapFull` comes exactly if the text would end past the map's limit (`fits`), and `Memory` if memory
+    /// runs out. Both leave the map as it was.
+    ///
+    /// In a new map `-1u12` gives the literal of this text at 1..6. `- 1` and `-""` are rejected.
     ///
     /// # Contract
     ///
@@ -64,7 +64,7 @@ impl Literal {
         literal
     }
 
-    /// The literal that the whole text is, which stands at this span. Any other text is a fault.
+    /// Parses a text that is one literal, and gives the literal this span. Any other text is a syntax error.
     fn whole_at(text: &str, span: Span) -> Result<Literal, ParseError>
     {
         if !Literal::is_whole(text) {
@@ -73,8 +73,8 @@ impl Literal {
         Ok(Literal::from_parts(text, span)?)
     }
 
-    /// The literal of this text, which is a whole one (`is_whole`), with the span 0..0. Fails where
-    /// memory runs out. For `1.5` it is `1.5`.
+    /// Makes the literal of this text, with the span 0..0. The text must be a literal (`is_whole`). Out of
+    /// memory is the only error. For `1.5` it is `1.5`.
     ///
     /// # Contract
     ///
@@ -91,9 +91,8 @@ impl Literal {
         Literal::from_parts(text, Span::call_site())
     }
 
-    /// Whether the text is a literal, or `-` and one that begins with a digit (`whole-literal`):
-    /// the texts that `from_str` accepts. It is so of `1u8`, `-0.1` and `"a"`, and not of `- 1`,
-    /// `1 ` or `-""`.
+    /// Returns whether the text is a literal, or `-` and a literal that begins with a digit (`whole-literal`).
+    /// These are the texts that `from_str` accepts: `1u8`, `-0.1` and `"a"`, but not `- 1`, `1 ` or `-""`.
     ///
     /// # Contract
     ///
@@ -111,13 +110,13 @@ impl Literal {
     }
 }
 
-/// What follows the `-` that the text begins with.
+/// Returns the text after its first character if that is `-`.
 fn behind_minus(text: &str) -> Option<&str>
 {
     text.strip_prefix('-')
 }
 
-/// Whether an ASCII digit stands at the front of the text.
+/// Returns whether the text begins with an ASCII digit.
 fn begins_with_digit(text: &str) -> bool
 {
     match text.chars().next() {
@@ -126,7 +125,7 @@ fn begins_with_digit(text: &str) -> bool
     }
 }
 
-/// Whether the whole text is a literal of the grammar.
+/// Returns whether the whole text is a literal of the grammar.
 fn is_literal(text: &str) -> bool
 {
     literal_at(text) == Some(text.len())

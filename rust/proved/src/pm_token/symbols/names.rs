@@ -1,5 +1,5 @@
 // Made from crates/pm_token/src/symbols/names.rt by rust/erase: change that file, not this one.
-//! Names, raw and plain.
+//! The names of identifiers, raw and plain.
 
 use crate::shim::prelude::TryClone;
 
@@ -8,7 +8,7 @@ use super::short::{ROOM, Short};
 use crate::shim::alloc::AllocError;
 use crate::shim::fmt;
 
-/// A plain or a raw name, short or long. One enum tells all four apart, so a name is as long as a text. Copies of a
+/// A plain or raw name, short or long. With one enum for all four, a name is no larger than a text. Copies of a
 /// long name share it.
 enum NameText {
     Short(Short),
@@ -18,7 +18,7 @@ enum NameText {
 }
 
 impl NameText {
-    /// A copy of a short text as a name.
+    /// Makes a name with a copy of a short text.
     #[cfg_attr(not(debug_assertions), inline(always))]
     fn short(text: &str, raw: bool) -> NameText
     {
@@ -29,7 +29,7 @@ impl NameText {
         }
     }
 
-    /// The text as a name.
+    /// Makes a name of a long text.
     fn long(text: Shared, raw: bool) -> NameText
     {
         if raw {
@@ -40,13 +40,13 @@ impl NameText {
     }
 }
 
-/// The name of an identifier, in characters and without `r#`, and whether it is raw.
+/// The name of an identifier without `r#`, and whether it is raw. Contracts speak of its characters.
 pub struct Name {
     text: NameText,
 }
 
 impl Name {
-    /// Keeps a copy of the name. Fails where memory runs out.
+    /// Copies the name. Out of memory is the only error.
     ///
     /// # Contract
     ///
@@ -65,7 +65,7 @@ impl Name {
         Ok(Name { text })
     }
 
-    /// Drops the name, part by part, so that a short one need not be in memory.
+    /// Drops the name field by field, so that a short one need not be written to memory first.
     #[cfg_attr(not(debug_assertions), inline(always))]
     pub(crate) fn discard(self) {
         match self.text {
@@ -74,7 +74,7 @@ impl Name {
         }
     }
 
-    /// The name, without `r#`.
+    /// Returns the name, without `r#`.
     ///
     /// # Contract
     ///
@@ -90,7 +90,7 @@ impl Name {
         }
     }
 
-    /// The bytes of the name, without `r#`. Names are compared by them.
+    /// Returns the bytes of the name, without `r#`. Names are compared by them.
     ///
     /// # Contract
     ///
@@ -108,7 +108,7 @@ impl Name {
         }
     }
 
-    /// The bytes of a short plain name, and `None` of another.
+    /// Returns the bytes of a short plain name, or `None` for any other name.
     ///
     /// # Contract
     ///
@@ -128,7 +128,7 @@ impl Name {
         }
     }
 
-    /// Whether both are the same name, and both are raw or both plain.
+    /// Returns whether both names are the same, and both raw or both plain.
     ///
     /// # Contract
     ///
@@ -144,14 +144,14 @@ impl Name {
         }
     }
 
-    /// The same, of any names.
+    /// Does what `same` does, for any names.
     #[inline(never)]
     fn has_same_bytes(&self, other: &Name) -> bool
     {
         self.is_raw() == other.is_raw() && self.as_bytes() == other.as_bytes()
     }
 
-    /// Whether it is raw.
+    /// Returns whether the name is raw.
     ///
     /// # Contract
     ///
@@ -166,7 +166,7 @@ impl Name {
     }
 }
 
-/// The same name, which a long one shares. It fails where that has more owners than can be counted.
+/// Copies the name; a long one is shared. The copy fails if a long name has more owners than can be counted.
 impl TryClone for Name {
     #[cfg_attr(not(debug_assertions), inline(always))]
     fn try_clone(&self) -> Result<Name, AllocError> {

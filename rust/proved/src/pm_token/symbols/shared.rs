@@ -1,18 +1,18 @@
 // Made from crates/pm_token/src/symbols/shared.rt by rust/erase: change that file, not this one.
-//! Long texts, which their copies share.
+//! Long texts, which are shared by their copies.
 
 use crate::shim::prelude::TryClone;
 
 use crate::shim::alloc::AllocError;
 use crate::shim::rc::RcStr;
 
-/// A text of more than 22 bytes. Its copies share it.
+/// A text of more than 22 bytes, which its copies share.
 pub(crate) struct Shared {
     text: RcStr,
 }
 
 impl Shared {
-    /// A copy of the text. Fails where memory runs out.
+    /// Copies the text. Out of memory is the only error.
     pub(crate) fn new(text: &str) -> Result<Shared, AllocError>
     {
         Ok(Shared {
@@ -20,7 +20,7 @@ impl Shared {
         })
     }
 
-    /// The text itself. Fails where memory runs out.
+    /// Takes the text without a copy. Out of memory is the only error.
     pub(crate) fn from_string(text: String) -> Result<Shared, AllocError>
     {
         Ok(Shared {
@@ -28,18 +28,18 @@ impl Shared {
         })
     }
 
-    /// The text.
+    /// Returns the text.
     #[cfg_attr(not(debug_assertions), inline(always))]
     pub(crate) fn as_str(&self) -> &str
     {
         self.text.as_str()
     }
 
-    /// The same text. It takes no memory, and fails where the text has more owners than can be counted.
+    /// Shares the text. This allocates nothing, and fails if the text has more owners than can be counted.
     #[cfg_attr(not(debug_assertions), inline(always))]
     pub(crate) fn share(&self) -> Result<Shared, AllocError>
     {
-        // It computes nothing: proofs learn that the bytes are UTF-8.
+        // This computes nothing. It shows to the proof that the bytes are UTF-8.
         self.text.as_str();
         Ok(Shared {
             text: self.text.try_clone()?,
@@ -53,20 +53,20 @@ pub(crate) struct Unsigned {
 }
 
 impl Unsigned {
-    /// The text, which is long.
+    /// Makes an unsigned text of a long one, which must not begin with `-`.
     pub(crate) fn new(text: Shared) -> Unsigned
     {
         Unsigned { text }
     }
 
-    /// The text.
+    /// Returns the text.
     #[cfg_attr(not(debug_assertions), inline(always))]
     pub(crate) fn as_str(&self) -> &str
     {
         self.text.as_str()
     }
 
-    /// The same text. It takes no memory, and fails where the text has more owners than can be counted.
+    /// Shares the text. This allocates nothing, and fails if the text has more owners than can be counted.
     #[cfg_attr(not(debug_assertions), inline(always))]
     pub(crate) fn share(&self) -> Result<Unsigned, AllocError>
     {

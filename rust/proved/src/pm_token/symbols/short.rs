@@ -1,22 +1,23 @@
 // Made from crates/pm_token/src/symbols/short.rt by rust/erase: change that file, not this one.
-//! Short texts, which stand in place.
+//! Short texts, which are kept in place.
 
 #![allow(unsafe_code)]
 
 use crate::shim::itoa::write_digits;
 use crate::shim::str;
 
-/// How many bytes a short text has at most. With its length and the tag of an enum it is as long as three pointers.
+/// The largest number of bytes in a short text. With its length and the tag of an enum it is as long as three
+/// pointers.
 pub(crate) const ROOM: usize = 22;
 
-/// A text of at most 22 bytes. Those past it are zero, so that texts can be compared in whole words.
+/// A text of at most 22 bytes. The bytes after it are zero, so that texts can be compared as whole words.
 pub(crate) struct Short {
     len: u8,
     bytes: [u8; ROOM],
 }
 
 impl Short {
-    /// A copy of the text.
+    /// Copies the text.
     #[cfg_attr(not(debug_assertions), inline(always))]
     pub(crate) fn new(text: &str) -> Short
     {
@@ -28,7 +29,7 @@ impl Short {
         }
     }
 
-    /// A copy of both texts, one after the other.
+    /// Copies both texts, one after the other.
     #[cfg_attr(not(debug_assertions), inline(always))]
     pub(crate) fn joined(front: &str, back: &str) -> Short
     {
@@ -42,7 +43,8 @@ impl Short {
         }
     }
 
-    /// The number in decimal digits, behind a `-` where it is negative, and what follows it, if that is short.
+    /// Returns a number in decimal digits, after a `-` if it is negative, joined with `suffix`; `None` if this
+    /// is too long.
     #[cfg_attr(not(debug_assertions), inline(always))]
     pub(crate) fn number(negative: bool, value: u64, suffix: &str) -> Option<Short>
     {
@@ -53,7 +55,7 @@ impl Short {
         }
         let end = digits_end + suffix.len();
         let mut bytes = [0; ROOM];
-        // Where the number has no `-`, its first digit takes that place.
+        // If the number has no `-`, its first digit overwrites this byte.
         bytes[0] = b'-';
         write_digits(value, &mut bytes, digits_end);
         bytes[digits_end..end].copy_from_slice(suffix.as_bytes());
@@ -63,29 +65,29 @@ impl Short {
         })
     }
 
-    /// Whether both are the same text.
+    /// Returns whether both texts are the same.
     #[cfg_attr(not(debug_assertions), inline(always))]
     pub(crate) fn same(&self, other: &Short) -> bool
     {
         self.len == other.len && self.bytes == other.bytes
     }
 
-    /// The bytes of the text.
+    /// Returns the bytes of the text.
     #[cfg_attr(not(debug_assertions), inline(always))]
     pub(crate) fn as_bytes(&self) -> &[u8]
     {
         &self.bytes[..self.len as usize]
     }
 
-    /// The text.
+    /// Returns the text.
     #[cfg_attr(not(debug_assertions), inline(always))]
     pub(crate) fn as_str(&self) -> &str
     {
-        // The invariant says that the bytes are UTF-8, so they aren't looked at again.
+        // By the invariant the bytes are UTF-8, so this need not be tested again.
         unsafe { str::from_utf8_unchecked(&self.bytes[..self.len as usize]) }
     }
 
-    /// Takes away the `-` that the text begins with, and answers whether there was one.
+    /// Removes the `-` that the text begins with, and returns whether there was one.
     pub(crate) fn strip_minus(&mut self) -> bool
     {
         let Some(rest) = past_minus(self.as_str()) else {
@@ -95,7 +97,7 @@ impl Short {
         true
     }
 
-    /// The same text.
+    /// Copies the text.
     #[cfg_attr(not(debug_assertions), inline(always))]
     pub(crate) fn copy(&self) -> Short
     {
@@ -106,7 +108,7 @@ impl Short {
     }
 }
 
-/// How many decimal digits the number has.
+/// Returns how many decimal digits the number has.
 #[cfg_attr(not(debug_assertions), inline(always))]
 fn count_digits(value: u64) -> usize
 {
@@ -116,7 +118,7 @@ fn count_digits(value: u64) -> usize
     value.ilog10() as usize + 1
 }
 
-/// The text after the `-` that it begins with, if there is one.
+/// Returns the text after the `-` that it begins with, or `None` if it begins otherwise.
 fn past_minus(text: &str) -> Option<&str>
 {
     let mut rest = text.chars();

@@ -7,24 +7,25 @@ use proved_tokens::shim::alloc::AllocError;
 
 /// A recorded answer.
 ///
-/// On a line three columns stand with a tab between them, text and answer escaped. Two more name a
-/// difference from the Rust crate: the kind of the answer that is wanted here, and that answer.
+/// A line has three columns, separated by tabs: the question, the text and the answer. The text and the answer are
+/// escaped. Two more columns name a difference from the Rust crate: the kind of the answer that is right here, and that
+/// answer.
 pub struct Recorded<'a> {
-    /// What was asked, or that the text was refused.
+    /// The question, or `refused`.
     pub asked: &'a str,
     /// The text.
     pub text: String,
-    /// The kind of the answer that is wanted: what was asked, or that of a named difference.
+    /// The kind of the answer that is right here: the question, or the kind of a named difference.
     pub kind: &'a str,
-    /// The answer that is wanted: the crate's, or that of a named difference.
+    /// The answer that is right here: the crate's, or that of a named difference.
     pub answer: String,
 }
 
-/// The recorded answer of a line; `None` where it has neither three columns nor five, where one has
-/// a wrong escape, and where a named difference is none.
+/// Returns the recorded answer of a line. Returns `None` if the line has neither three nor five columns, if a column
+/// has a wrong escape, or if a named difference is equal to the crate's answer.
 ///
-/// `fault`, a tab, `(]`, a tab and `1:1` are the fault of `(]`. `print`, a tab, `'''`, a tab, `'''`, a
-/// tab, `fault`, a tab and `1:0` are what the crate prints of `'''`, and the fault that is wanted.
+/// The columns `fault`, `(]` and `1:1` are the fault of `(]`. The columns `print`, `'''`, `'''`, `fault` and `1:0` are
+/// what the crate prints for `'''`, and the fault that is right here.
 pub fn read_line<'a>(line: &'a str) -> Result<Option<Recorded<'a>>, AllocError> {
     let mut columns = line.split('\t');
     let (Some(asked), Some(text), Some(answer)) = (columns.next(), columns.next(), columns.next())
@@ -50,7 +51,7 @@ pub fn read_line<'a>(line: &'a str) -> Result<Option<Recorded<'a>>, AllocError> 
     }))
 }
 
-/// How far an escape is read.
+/// How much of an escape was read.
 #[derive(Clone, Copy)]
 enum State {
     /// No escape is open.
@@ -63,8 +64,8 @@ enum State {
     Number(u32),
 }
 
-/// The text of a column; `None` where an escape is none of `\n`, `\r`, `\t`, `\\` and `\u{..}`, or
-/// isn't closed. `a\tb\u{e9}` is `a`, a tab, `b` and U+00E9.
+/// Returns the text of a column, or `None` if an escape is none of `\n`, `\r`, `\t`, `\\` and `\u{..}`, or isn't
+/// closed. `a\tb\u{e9}` is `a`, a tab, `b` and U+00E9.
 fn unescaped(column: &str) -> Result<Option<String>, AllocError> {
     let mut text = String::new();
     let mut state = State::Plain;
@@ -83,7 +84,7 @@ fn unescaped(column: &str) -> Result<Option<String>, AllocError> {
     })
 }
 
-/// The state after a character, and the character that is read with it; `None` at a wrong escape.
+/// Returns the state after a character, and the character that is complete with it. Returns `None` at a wrong escape.
 fn step(state: State, c: char) -> Option<(State, Option<char>)> {
     match (state, c) {
         (State::Plain, '\\') => Some((State::Backslash, None)),

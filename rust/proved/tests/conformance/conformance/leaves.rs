@@ -1,12 +1,12 @@
 // Made from crates/conformance/src/leaves.rt by rust/erase: change that file, not this one.
-//! The trees that are no groups, as a line of a list of trees notes them.
+//! Reads the trees that are no groups from the lines of a list of trees.
 
 use proved_tokens::proc_macro2::{
     Ident, IdentError, Literal, ParseError, Punct, SourceMap, Spacing, Span, TokenTree,
 };
 use proved_tokens::shim::alloc::AllocError;
 
-/// The tree that the line notes; `None` where it notes none.
+/// Returns the tree that the line describes, or `None` if it describes none.
 ///
 /// `raw fn` is the identifier `r#fn`, and `integer -3i32` the literal `-3i32`.
 pub fn leaf(line: &str) -> Result<Option<TokenTree>, ParseError> {
@@ -24,7 +24,7 @@ pub fn leaf(line: &str) -> Result<Option<TokenTree>, ParseError> {
     })
 }
 
-/// The identifier, unless the name has a fault.
+/// Returns the identifier, or `None` if the name is wrong.
 fn identifier(ident: Result<Ident, IdentError>) -> Result<Option<TokenTree>, AllocError> {
     match ident {
         Ok(ident) => Ok(Some(TokenTree::Ident(ident))),
@@ -33,7 +33,7 @@ fn identifier(ident: Result<Ident, IdentError>) -> Result<Option<TokenTree>, All
     }
 }
 
-/// The mark that is the only character of the text.
+/// Returns the mark that is the only character of the text.
 fn mark(text: &str, spacing: Spacing) -> Option<TokenTree> {
     let mut chars = text.chars();
     let (Some(mark), None) = (chars.next(), chars.next()) else {
@@ -45,7 +45,7 @@ fn mark(text: &str, spacing: Spacing) -> Option<TokenTree> {
     Some(TokenTree::Punct(Punct::new(mark, spacing)))
 }
 
-/// The literal that the text is.
+/// Returns the literal that the text is.
 fn literal(text: &str) -> Result<Option<TokenTree>, ParseError> {
     match Literal::from_str(text, &mut SourceMap::new()) {
         Ok(literal) => Ok(Some(TokenTree::Literal(literal))),
@@ -54,7 +54,7 @@ fn literal(text: &str) -> Result<Option<TokenTree>, ParseError> {
     }
 }
 
-/// What the constructor of the suffix makes of the number before it.
+/// Returns the literal that the constructor of the suffix makes of the number before it.
 fn integer(text: &str) -> Result<Option<TokenTree>, AllocError> {
     let (number, suffix) = match text.find('i') {
         Some(at) => text.split_at(at),

@@ -1,5 +1,5 @@
 // Made from crates/conformance/src/lines.rt by rust/erase: change that file, not this one.
-//! Compares the library with recorded answers, a line at a time.
+//! Compares the library with recorded answers, line by line.
 
 use proved_tokens::shim::prelude::format;
 
@@ -13,20 +13,19 @@ use proved_tokens::shim::io::{BufRead, Write};
 /// How many answers were compared, and how many of them differ.
 #[derive(Clone, Copy, Debug, PartialEq, Eq)]
 pub struct Tally {
-    /// The lines that were read.
+    /// The number of lines that were read.
     pub answers: u64,
-    /// Those whose answer isn't the one that is wanted, or that are no recorded answer.
+    /// The number of lines that have another answer than the library, or that are no recorded answer.
     pub differences: u64,
 }
 
 /// Compares the library's answers with those on the reader's lines, and writes what differs.
 ///
-/// Both numbers count lines, up to `u64::MAX`. An error is one of reading, as at a line that is no
-/// UTF-8, one of writing, or out of memory; after it the beginning of what differs is written.
+/// Both numbers count lines, up to `u64::MAX`. Fails if reading fails, also at a line that is not UTF-8, if writing
+/// fails, or if memory runs out. The beginning of what differs is written then.
 ///
-/// Of the one line `fault`, a tab, `(]`, a tab and `1:1` it gives one answer and no difference, and
-/// nothing is written. A line that names a difference from the Rust crate is compared with what it
-/// wants here.
+/// For the one line `fault`, a tab, `(]`, a tab and `1:1` it returns one answer and no difference, and writes nothing.
+/// For a line that names a difference from the Rust crate, the answer that is right here is compared.
 pub fn compare_lines<R: BufRead, W: Write>(
     reader: R,
     writer: &mut W,
@@ -47,8 +46,8 @@ pub fn compare_lines<R: BufRead, W: Write>(
     Ok(tally)
 }
 
-/// What is reported of a line that wants another answer than the library's, or that is no recorded
-/// answer; `None` where the two answers are the same.
+/// Returns the report on a line that has another answer than the library, or that is no recorded answer. Returns `None`
+/// if the two answers are the same.
 fn difference(line: &str) -> Result<Option<String>, AllocError>
 {
     let Some(recorded) = read_line(line)? else {

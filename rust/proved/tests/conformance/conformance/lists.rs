@@ -1,8 +1,8 @@
 // Made from crates/conformance/src/lists.rt by rust/erase: change that file, not this one.
-//! What the library makes of a list of trees.
+//! The library's answer for a list of trees.
 //!
-//! A tree of a list stands on a line of its own, as a word, a space and its text. A group stands on
-//! several: its opener, the trees inside, and its closer.
+//! Each tree of a list is on a line of its own, as a word, a space and its text. A group is on several lines: its
+//! opener, the trees inside, and its closer.
 //!
 //! | Line | Tree |
 //! |---|---|
@@ -18,12 +18,12 @@ use crate::conformance::answer::Answer;
 use crate::conformance::leaves::leaf;
 use proved_tokens::proc_macro2::{Delimiter, Group, ParseError, SourceMap, TokenStream, TokenTree};
 
-/// What is printed for the trees of the list, and after a tab what that text parses to in a new map:
-/// the `same` trees up to spans, `other` ones, or a `fault`. `None` where the text notes no list.
+/// Returns the printed text of the trees in the list, and after a tab what that text parses to in a new map: the `same`
+/// trees up to spans, `other` ones, or a `fault`. Returns `None` if the text is no list.
 ///
-/// Where `is_well_spaced` disagrees with that, that is noted after another tab.
+/// If `is_well_spaced` disagrees with this result, that is added after another tab.
 ///
-/// Of `joint +` and `ident a` it is `+a`, a tab and `other`.
+/// For `joint +` and `ident a` it returns `+a`, a tab and `other`.
 pub fn list_answer<'a>(
     asked: &'a str,
     text: &str,
@@ -53,16 +53,16 @@ pub fn list_answer<'a>(
     Ok(Some(Answer { kind: asked, said }))
 }
 
-/// A group whose closer is yet to come.
+/// A group whose closer was not read yet.
 struct Open {
-    /// What it stands between.
+    /// Its delimiter.
     delimiter: Delimiter,
     /// The trees before it in its list.
     before: Vec<TokenTree>,
 }
 
-/// The trees that the lines of the text note; `None` where a line notes none, or where groups aren't
-/// closed in the order in which they were opened.
+/// Returns the trees that the lines of the text describe, or `None` if a line describes none, or if groups aren't
+/// closed in the right order.
 fn noted_trees(text: &str) -> Result<Option<Vec<TokenTree>>, ParseError> {
     let mut open_groups = Vec::new();
     let mut trees = Vec::new();
@@ -97,7 +97,7 @@ fn noted_trees(text: &str) -> Result<Option<Vec<TokenTree>>, ParseError> {
     })
 }
 
-/// What the group stands between that the line opens.
+/// Returns the delimiter of the group that the line opens.
 fn opened(line: &str) -> Option<Delimiter> {
     match line {
         "(" => Some(Delimiter::Parenthesis),
@@ -108,7 +108,7 @@ fn opened(line: &str) -> Option<Delimiter> {
     }
 }
 
-/// What the group stands between that the line closes.
+/// Returns the delimiter of the group that the line closes.
 fn closed(line: &str) -> Option<Delimiter> {
     match line {
         ")" => Some(Delimiter::Parenthesis),

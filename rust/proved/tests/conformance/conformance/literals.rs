@@ -1,5 +1,5 @@
 // Made from crates/conformance/src/literals.rt by rust/erase: change that file, not this one.
-//! What the library answers to the text of a literal.
+//! The library's answer for the text of a literal.
 
 use proved_tokens::shim::prelude::format;
 
@@ -7,10 +7,10 @@ use crate::conformance::answer::Answer;
 use proved_tokens::proc_macro2::{ConversionErrorKind, Literal, ParseError, SourceMap};
 use proved_tokens::shim::alloc::AllocError;
 
-/// The literal that the text is, printed, or its value where that was asked; a text that is none is
-/// refused.
+/// Returns the printed literal that the text is, or its value if the question is about the value. For a text that is no
+/// literal the answer is `refused`.
 ///
-/// For `str_value`, `"ab"` gives `6162`, `1` gives `InvalidLiteralKind`, and `- 1` is refused.
+/// For `str_value`, `"ab"` gives `6162`, `1` gives `InvalidLiteralKind`, and the answer for `- 1` is `refused`.
 pub fn literal_answer<'a>(
     asked: &'a str,
     text: &str,
@@ -33,7 +33,7 @@ pub fn literal_answer<'a>(
     Ok(Answer { kind, said })
 }
 
-/// The bytes of a value in hex, or the name of the error, unless memory ran out.
+/// Returns the bytes of a value in hex, or the name of the error. Fails if memory runs out.
 fn hex(value: Result<Vec<u8>, ConversionErrorKind>) -> Result<String, AllocError> {
     match value {
         Ok(bytes) => proved_tokens::shim::hex::encode(bytes.as_slice()),

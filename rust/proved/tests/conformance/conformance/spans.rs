@@ -1,15 +1,15 @@
 // Made from crates/conformance/src/spans.rt by rust/erase: change that file, not this one.
-//! Where the trees of a stream stand.
+//! The spans of the trees of a stream.
 
 use proved_tokens::shim::prelude::GrowText;
 
 use proved_tokens::proc_macro2::{SourceMap, TokenStream, TokenTree};
 use proved_tokens::shim::alloc::AllocError;
 
-/// A line for each tree of the stream, each group before those inside it: where it begins and ends,
+/// Returns a line for each tree of the stream, each group before the trees inside it: where the tree begins and ends,
 /// and its kind.
 ///
-/// Of `a (b)` the lines are `1:0-1:1 ident`, `1:2-1:5 group` and `1:3-1:4 ident`.
+/// For `a (b)` the lines are `1:0-1:1 ident`, `1:2-1:5 group` and `1:3-1:4 ident`.
 pub fn span_lines(
     stream: &TokenStream,
     map: &SourceMap,

@@ -1,5 +1,5 @@
 // Made from crates/conformance/src/streams.rt by rust/erase: change that file, not this one.
-//! What the library answers to the text of a stream.
+//! The library's answer for the text of a stream.
 
 use proved_tokens::shim::prelude::format;
 
@@ -7,9 +7,8 @@ use crate::conformance::answer::Answer;
 use crate::conformance::spans::span_lines;
 use proved_tokens::proc_macro2::{ParseError, SourceMap, TokenStream};
 
-/// The stream that the text parses to in a new map: as Debug shows it where `tree` was asked, where
-/// its trees stand for `spans`, and as it is printed else; or the line and column of the text's
-/// fault.
+/// Returns the stream that the text parses to in a new map: as Debug shows it for `tree`, the spans of its trees for
+/// `spans`, and otherwise as it is printed. For a text with a fault, returns the fault's line and column.
 ///
 /// For `print`, `a+b` gives `a + b`, and `(]` gives the fault `1:1`.
 pub fn stream_answer<'a>(

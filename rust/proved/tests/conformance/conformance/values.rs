@@ -1,5 +1,5 @@
 // Made from crates/conformance/src/values.rt by rust/erase: change that file, not this one.
-//! What the library writes for a value.
+//! The library's answer for a value.
 
 use proved_tokens::shim::prelude::format;
 
@@ -7,8 +7,7 @@ use crate::conformance::answer::Answer;
 use proved_tokens::proc_macro2::Literal;
 use proved_tokens::shim::alloc::AllocError;
 
-/// The text of the literal that this call makes of the value; a value that it makes none of is
-/// refused.
+/// Returns the text of the literal that this call makes of the value. If it makes none, the answer is `refused`.
 ///
 /// For `c_string`, `a` and a quote give `c"a\""`.
 pub fn value_answer<'a>(
@@ -24,8 +23,8 @@ pub fn value_answer<'a>(
     }
 }
 
-/// The literal that this call makes of the text, of its first character, of its first byte, or of
-/// its bytes; `None` where the text has no such character or byte, and for a C string with NUL.
+/// Returns the literal that this call makes of the text, of its first character, of its first byte, or of its bytes.
+/// Returns `None` if the text has no such character or byte, and for a C string with NUL.
 fn literal_of(call: &str, value: &str) -> Result<Option<Literal>, AllocError> {
     let bytes = value.as_bytes();
     Ok(match call {

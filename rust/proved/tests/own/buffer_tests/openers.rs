@@ -1,5 +1,5 @@
 // Made from crates/buffer_tests/src/openers.rt by rust/erase: change that file, not this one.
-//! Where the openers stand that `explain` tells.
+//! Tests of the openers that `explain` returns.
 
 use crate::shim::prelude::{AllocGlobal, GrowText, HostRuntime, format};
 
@@ -14,7 +14,7 @@ fn check(rt: &(impl Abort + AllocGlobal), text: &str, want: &str) {
     assert_eq!(found.as_str(), want, "of {text:?}");
 }
 
-/// The bytes of the openers of the text.
+/// The bytes of the openers that no closer matches before the text's error.
 fn openers(text: &str) -> Result<String, ExplainError> {
     match explain(text)? {
         Some(explained) => Ok(shown(&explained)?),
@@ -22,7 +22,7 @@ fn openers(text: &str) -> Result<String, ExplainError> {
     }
 }
 
-/// The bytes of the openers that are told, the innermost last.
+/// The bytes of the openers in the explanation, the innermost last.
 fn shown(explained: &Explained) -> Result<String, AllocError> {
     let mut shown = String::from_str_fallibly("")?;
     for opener in explained.outer.iter() {

@@ -2,7 +2,7 @@
 
 use crate::shim::prelude::{AllocGlobal, HostRuntime};
 
-// Texts, and the items at their front.
+// The item that each text begins with.
 use proved_tokens::declarations::{ItemKind, split_any_item};
 use proved_tokens::proc_macro2::{Ident, SourceMap, TokenStream};
 use crate::shim::process::Abort;
@@ -15,7 +15,8 @@ fn is_named(name: Option<&Ident>, wanted: &str) -> bool {
     }
 }
 
-/// How many trees the item at the front has, its kind, and its name if it has one.
+/// Checks the number of trees, the kind and the name of the item that each text begins with. No name is written as
+/// `""`.
 fn check(
     rt: &(impl Abort + AllocGlobal),
     rows: &[(&str, usize, ItemKind, &str)],

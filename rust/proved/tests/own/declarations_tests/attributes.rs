@@ -2,13 +2,13 @@
 
 use crate::shim::prelude::{AllocGlobal, HostRuntime};
 
-// Attributes, and what stands in their brackets.
+// Attributes, and the trees in their brackets.
 use proved_tokens::declarations::{AttributeArgs, Attributes};
 use proved_tokens::proc_macro2::{SourceMap, TokenStream};
 use crate::shim::process::Abort;
 use crate::shim::test::Fail;
 
-/// What follows a path, by how many trees stand in it.
+/// What comes after a path, with its number of trees.
 #[derive(Clone, Copy, Debug, PartialEq, Eq)]
 enum Args {
     Nothing,
@@ -26,7 +26,8 @@ fn shown(args: AttributeArgs<'_>) -> Args {
     }
 }
 
-/// The attributes of each text: how many trees the path has, what follows it, whether it is inner and a doc comment.
+/// Checks the attributes of the text: the trees of the path, what comes after it, and whether it is inner or a doc
+/// comment. `left` is the number of trees after them.
 fn check(
     rt: &(impl Abort + AllocGlobal),
     text: &str,

@@ -2,13 +2,14 @@
 
 use crate::shim::prelude::{AllocGlobal, HostRuntime};
 
-// Texts, and their items.
+// The items of each text.
 use proved_tokens::declarations::{ItemKind, Items, parse_file, parse_item};
 use proved_tokens::proc_macro2::{SourceMap, TokenStream, TokenTree};
 use crate::shim::process::Abort;
 use crate::shim::test::Fail;
 
-/// How many inner attributes' trees a file has, and of each item its kind, and of the items in its braces how many.
+/// Checks a file: the number of trees in its inner attributes, and for each item its kind and the number of trees of
+/// the items in its braces.
 fn check_file(
     rt: &(impl Abort + AllocGlobal),
     text: &str,
@@ -56,7 +57,7 @@ fn fault_at(file: bool, trees: &[TokenTree]) -> Option<(usize, bool)> {
     }
 }
 
-/// Where the fault of a file or an item stands, and whether a tree stands there; none where there is no fault.
+/// Checks where the error of a file or an item is, and whether a tree is there. `None` means that there is no error.
 fn check_fault(
     rt: &(impl Abort + AllocGlobal),
     file: bool,
@@ -113,7 +114,7 @@ fn an_item_is_all_of_the_trees() -> Result<(), Fail> {
     check_fault(&rt, false, "", Some((0, false)))
 }
 
-/// How many items come, and where the last fault stands; both are those of the whole list.
+/// The number of items that come, and the position of the last error.
 fn items_given(items: Items<'_>) -> (usize, Option<usize>) {
     let mut count = 0_usize;
     let mut at = None;

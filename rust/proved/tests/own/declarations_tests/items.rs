@@ -2,7 +2,7 @@
 
 use crate::shim::prelude::{AllocGlobal, HostRuntime};
 
-// Items, fields, variants and their parts, by how many trees each has.
+// Items, fields, variants and their parts, with the number of trees in each part.
 use proved_tokens::declarations::{
     Body, Fault, Field, Fields, TypeItem, Variant, is_keyword, parse_field, parse_tuple_field,
     parse_type_item, parse_variant,
@@ -21,18 +21,18 @@ enum Shape {
     Union,
 }
 
-/// How many trees the parts have.
+/// The number of trees in each part.
 #[derive(Clone, Copy, Debug, PartialEq, Eq)]
 enum Parts {
-    /// Attributes, visibility, generic parameters, where clause, and what stands after the body.
+    /// Attributes, visibility, generic parameters, where clause, and what comes after the body.
     Item(Shape, usize, usize, usize, usize, usize),
     /// Attributes, visibility, name and type.
     Field(usize, usize, usize, usize),
     /// Attributes, visibility and discriminant.
     Variant(Shape, usize, usize, usize),
-    /// So many stand before a sign that doesn't fit.
+    /// An error at a sign that does not fit, after so many trees.
     FaultAt(usize),
-    /// More are missing after so many.
+    /// An error at the end: trees are missing after so many.
     EndsAt(usize),
 }
 

@@ -2,13 +2,13 @@
 
 use crate::shim::prelude::{AllocGlobal, HostRuntime};
 
-// Lists of fields and variants: how many come, and where the fault stands.
+// Lists of fields and variants: how many elements come, and where the error is.
 use proved_tokens::declarations::{Body, FieldList, VariantList, parse_type_item};
 use proved_tokens::proc_macro2::{SourceMap, TokenStream};
 use crate::shim::process::Abort;
 use crate::shim::test::Fail;
 
-/// How many parts come before the end, and the fault if there is one, by how many trees stand before it.
+/// The number of parts before the end, and the number of trees before the error, if there is one.
 #[derive(Clone, Copy, Debug, PartialEq, Eq)]
 struct Given {
     parts: usize,

@@ -2,24 +2,24 @@
 
 use crate::shim::prelude::{AllocGlobal, HostRuntime};
 
-// The parameters of functions. What each text has, syn 2 reads too, but where a row says otherwise.
+// The parameters of functions. The crate syn 2 reads each text in the same way, unless a row says otherwise.
 use proved_tokens::declarations::{ParameterKind, Parameters, parse_parameter, split_pattern};
 use proved_tokens::proc_macro2::{SourceMap, TokenStream};
 use crate::shim::process::Abort;
 use crate::shim::test::Fail;
 
-/// A parameter: how many trees its attributes, its pattern or receiver, and its type have.
+/// A parameter: the number of trees in its attributes, in its pattern or receiver, and in its type.
 #[derive(Clone, Copy, Debug, PartialEq, Eq)]
 enum Parts {
     Receiver(usize, usize),
     TypedReceiver(usize, usize, usize),
     Typed(usize, usize, usize),
     Variadic(usize, usize),
-    /// No more parameters: a fault, after so many of the trees that are left.
+    /// An error after so many of the remaining trees. No parameter comes after it.
     Fault(usize),
 }
 
-/// The parameters of each text, in parentheses.
+/// Checks the parameters of each text. A text is what is in the parentheses of a function.
 fn check(rt: &(impl Abort + AllocGlobal), rows: &[(&str, &[Parts])]) -> Result<(), Fail> {
     for (text, wanted) in rows {
         let stream = TokenStream::from_str(text, &mut SourceMap::new())?;
@@ -142,7 +142,7 @@ fn types_end_at_their_commas() -> Result<(), Fail> {
                 "f: for<'a> fn(&'a A) -> &'a B, d: D",
                 &[Parts::Typed(0, 1, 13), Parts::Typed(0, 1, 1)],
             ),
-            // A trait without `dyn`, which syn doesn't read before `->`.
+            // A trait without `dyn`. The crate syn does not read it before `->`.
             (
                 "f: Fn(A, B) -> C, d: D",
                 &[Parts::Typed(0, 1, 5), Parts::Typed(0, 1, 1)],
@@ -189,7 +189,7 @@ fn a_fault_ends_the_parameters() -> Result<(), Fail> {
             ("#[a]", &[Parts::Fault(2)]),
             ("..", &[Parts::Fault(2)]),
             ("fn x: u8", &[Parts::Fault(0)]),
-            // Which syn reads as `self` with `...`.
+            // The crate syn reads this as `self` with `...`.
             ("self: ...", &[Parts::Fault(2)]),
         ],
     )

@@ -2,7 +2,7 @@
 
 use crate::shim::prelude::{AllocGlobal, HostRuntime};
 
-// Texts, and the trees of the part at their front.
+// The part that each text begins with.
 use proved_tokens::declarations::{
     Fault, split_any_item, split_attributes, split_bounds, split_expression, split_field,
     split_fields, split_generics, split_inner_attributes, split_item, split_tuple_field,
@@ -32,7 +32,7 @@ enum Part {
     AnyItem,
 }
 
-/// How many trees the part has, or how many stand before the fault.
+/// The number of trees in the part, or before the error.
 #[derive(Clone, Copy, Debug, PartialEq, Eq)]
 enum Answer {
     Reads(usize),
@@ -81,7 +81,7 @@ fn check(rt: &(impl Abort + AllocGlobal), part: Part, rows: &[(&str, Answer)]) -
     Ok(())
 }
 
-/// The same where the first text is in a group without delimiters, before the second.
+/// Checks the part in trees that begin with a group without delimiters. The group holds the first text.
 fn check_unseen(
     rt: &(impl Abort + AllocGlobal),
     part: Part,

@@ -2,7 +2,7 @@
 
 use crate::shim::prelude::{Collect, Grow, HostRuntime, TryClone, TryExtend, vec};
 
-// Streams that are built of trees, of other streams and of tokens.
+// Tests of streams that are built from trees, other streams and tokens.
 use crate::stream_tests::checks::{displays, parsed, shows};
 use proved_tokens::pm_span::parts::span_of;
 use proved_tokens::pm_stream::parts::group;
@@ -14,7 +14,7 @@ use crate::shim::alloc::AllocError;
 use crate::shim::process::Abort;
 use crate::shim::test::Fail;
 
-/// The identifier `x`, which stands in no file.
+/// The identifier `x`, which is in no file.
 fn x() -> Result<Ident, IdentError> {
     Ident::new("x", Span::call_site())
 }
@@ -24,7 +24,7 @@ fn only_x() -> Result<TokenStream, IdentError> {
     Ok(TokenStream::from_tree(TokenTree::Ident(x()?))?)
 }
 
-/// The group of this stream, which stands in no file.
+/// The group of this stream, which is in no file.
 fn grouped(delimiter: Delimiter, stream: TokenStream) -> Group {
     group(delimiter, stream, Span::call_site())
 }
@@ -119,7 +119,7 @@ fn tokens_of_each_kind_are_put_in() -> Result<(), Fail> {
     Ok(())
 }
 
-/// The stream of nothing, of what another has, and of `-3i32`.
+/// The stream of an empty stream, of the other stream, and of `-3i32`.
 fn three_streams(other: &TokenStream) -> Result<TokenStream, Fail> {
     let again = other.try_clone()?;
     let minus = TokenStream::from_tree(TokenTree::Literal(minus_three()?))?;
@@ -127,7 +127,7 @@ fn three_streams(other: &TokenStream) -> Result<TokenStream, Fail> {
     Ok(TokenStream::from_streams([nothing, again, minus])?)
 }
 
-/// Adds what another stream has twice.
+/// Appends the trees of the other stream twice.
 fn add_twice(stream: &mut TokenStream, other: &TokenStream) -> Result<(), Fail> {
     stream.extend_streams([other.try_clone()?, other.try_clone()?])?;
     Ok(())
@@ -185,7 +185,7 @@ fn two_trees() -> Result<Vec<TokenTree>, Fail> {
     Ok(trees)
 }
 
-/// The stream of these trees twice, as std collects it.
+/// The stream of the trees `x` and `-3i32` twice, as std collects it.
 fn collected() -> Result<TokenStream, Fail> {
     let stream: TokenStream = two_trees()?.into_iter().collected()?;
     let streams = vec![stream.try_clone()?, stream]?;

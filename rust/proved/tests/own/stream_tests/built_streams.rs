@@ -2,7 +2,7 @@
 
 use crate::shim::prelude::{HostRuntime, format, vec};
 
-// Streams that no text gives: groups without delimiters, trees that stand in no file.
+// Tests of streams that no text parses to: with groups without delimiters, or trees that are in no file.
 
 use crate::stream_tests::checks::{prints, shows};
 use proved_tokens::pm_span::Span;
@@ -24,7 +24,7 @@ fn plus(spacing: Spacing) -> TokenTree
     TokenTree::Punct(punct('+', spacing, Span::call_site()))
 }
 
-/// The group of this stream, which stands at the span.
+/// The group of this stream, with this span.
 pub fn grouped(delimiter: Delimiter, stream: TokenStream, span: Span) -> TokenTree
 {
     TokenTree::Group(group(delimiter, stream, span))
@@ -49,7 +49,7 @@ fn three(
     stream(vec![first, second, third]?)
 }
 
-/// The group of no tree, which stands in no file.
+/// The group without trees, which is in no file.
 pub fn empty_group(delimiter: Delimiter) -> TokenTree
 {
     grouped(delimiter, TokenStream::new(), Span::call_site())
@@ -106,7 +106,7 @@ fn a_mark_with_no_span_is_shown_on_lines() -> Result<(), AllocError> {
     Ok(())
 }
 
-/// So many brackets inside one another, each level with marks before and after it.
+/// Bracket groups inside one another, `levels` deep, with marks before and after each.
 fn deep(levels: u32) -> Result<TokenStream, AllocError> {
     let mut stream = TokenStream::new();
     for _ in 0..levels {

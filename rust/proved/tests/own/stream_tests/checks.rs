@@ -1,7 +1,7 @@
 // Made from crates/stream_tests/src/checks.rt by rust/erase: change that file, not this one.
-//! Assertions that the rows of the tests share, each about one text that is parsed.
+//! Assertions that the tests share, each about one text that is parsed.
 //!
-//! They stand in functions of their own, since a long function is dear to prove.
+//! They are functions of their own, because a long function takes long to prove.
 
 use crate::shim::prelude::{AllocGlobal, GrowText, Repeat, format};
 
@@ -11,12 +11,12 @@ use crate::shim::alloc::AllocError;
 use crate::shim::fmt::{Debug, Display};
 use crate::shim::process::Abort;
 
-/// The stream of the text, as the first of a map.
+/// The stream of the text, which is the first file of a new map.
 pub fn parsed(text: &str) -> Result<TokenStream, ParseError> {
     TokenStream::from_str(text, &mut SourceMap::new())
 }
 
-/// The parts one after the other, each so many times.
+/// The parts one after the other, each the given number of times.
 pub fn repeated(parts: &[(&str, u32)]) -> Result<String, AllocError> {
     let mut text = String::new();
     for (part, count) in parts {
@@ -43,13 +43,13 @@ pub fn check_same(rt: &(impl Abort + AllocGlobal), text: &str, other: &str, same
     assert_eq!(found, same, "of {text:?} and {other:?}");
 }
 
-/// Asserts that the stream of `text`, as the next text of the map, is shown as `want`.
+/// Asserts that Debug shows `want` for the stream of `text`, which becomes the next text of the map.
 pub fn check_shown(rt: &(impl Abort + AllocGlobal), map: &mut SourceMap, text: &str, want: &str) {
     let found = shown(map, text).expect(text);
     assert_eq!(found.as_str(), want, "of {text:?}");
 }
 
-/// The text that the stream of `text`, parsed in a new map, is printed as.
+/// The printed text of the stream of `text`, which is parsed in a new map.
 pub fn printed(text: &str) -> Result<String, ParseError> {
     let stream = parsed(text)?;
     Ok(format!("{stream}")?)
@@ -60,14 +60,14 @@ pub fn parses_well_spaced(text: &str) -> Result<bool, ParseError> {
     Ok(parsed(text)?.is_well_spaced())
 }
 
-/// Whether the two texts, each parsed in a new map, give the same tokens, asked from both sides.
+/// Whether the two texts, each parsed in a new map, give the same tokens, compared in both directions.
 fn are_same(text: &str, other: &str) -> Result<bool, ParseError> {
     let stream = parsed(text)?;
     let other = parsed(other)?;
     Ok(stream.same_tokens(&other) && other.same_tokens(&stream))
 }
 
-/// The text that the stream of `text` is shown as.
+/// What Debug shows for the stream of `text`.
 fn shown(map: &mut SourceMap, text: &str) -> Result<String, ParseError> {
     let stream = TokenStream::from_str(text, map)?;
     Ok(format!("{stream:?}")?)
@@ -92,7 +92,7 @@ pub fn displays<T: Display>(
     Ok(())
 }
 
-/// Asserts that the value, which is given away, is displayed as this text.
+/// Asserts that the value is displayed as this text, and drops the value.
 pub fn prints<T: Display>(
     rt: &impl Abort,
     value: T,
@@ -101,7 +101,7 @@ pub fn prints<T: Display>(
     displays(rt, &value, want)
 }
 
-/// Asserts that the value shows its parts as this text.
+/// Asserts that Debug shows the value as this text.
 pub fn shows<T: Debug>(
     rt: &impl Abort,
     value: &T,
@@ -112,7 +112,7 @@ pub fn shows<T: Debug>(
     Ok(())
 }
 
-/// Asserts that the value is displayed as this text, whatever width or precision is asked for.
+/// Asserts that the value is displayed as this text, whatever width or precision the format has.
 pub fn has_no_width<T: Display>(
     rt: &impl Abort,
     value: &T,

@@ -2,15 +2,15 @@
 
 use crate::shim::prelude::HostRuntime;
 
-// What callers prove of streams by public items alone: by what the readers promise, and by the laws. None of
-// these functions has a proof file.
+// Facts about streams that callers can prove with public items alone: with the contracts of the readers, and with the
+// laws. None of these functions has a proof file.
 
 use proved_tokens::proc_macro2::{
     Group, Ident, Literal, ParseError, Punct, SourceMap, TokenStream, TokenTree, laws,
 };
 use crate::shim::test::Fail;
 
-/// The stream of a text. It comes back from its printed text.
+/// Parses a text. The stream comes back from its printed text.
 fn read(text: &str, map: &mut SourceMap) -> Result<TokenStream, ParseError>
 {
     let stream = TokenStream::from_str(text, map)?;
@@ -18,21 +18,21 @@ fn read(text: &str, map: &mut SourceMap) -> Result<TokenStream, ParseError>
     Ok(stream)
 }
 
-/// Whoever made the stream, it comes back where it is well spaced, and prints a text.
+/// However the stream was made, it comes back from its printed text if it is well spaced, and what it prints is a text.
 fn comes_back(stream: &TokenStream)
 {
     let _ = stream.trees();
     laws::printed_comes_back();
 }
 
-/// So does the stream of a group.
+/// The stream of a group comes back from its printed text if it is well spaced.
 fn inside_comes_back(group: &Group)
 {
     let _ = group.stream_ref();
     laws::printed_comes_back();
 }
 
-/// Whether the stream comes back from its printed text: it is asked by one call.
+/// Whether the stream comes back from its printed text. One call decides this.
 fn prints_faithfully(stream: &TokenStream) -> bool
 {
     laws::printed_comes_back();
@@ -62,25 +62,25 @@ fn each_is_built(stream: &TokenStream) {
     }
 }
 
-/// What an identifier is.
+/// An identifier is a token of the grammar, and its span doesn't end before it begins.
 fn ident_is_built(ident: &Ident)
 {
     let _ = ident.span();
 }
 
-/// What a mark is.
+/// A mark is a token of the grammar, and its span doesn't end before it begins.
 fn punct_is_built(punct: &Punct)
 {
     let _ = punct.span();
 }
 
-/// What a literal is.
+/// A literal has the text of a literal, and its span doesn't end before it begins.
 fn literal_is_built(literal: &Literal)
 {
     let _ = literal.span();
 }
 
-/// What the tree is, by its kind.
+/// Shows what is true of the tree, by its kind.
 fn kind_is_built(tree: &TokenTree) {
     match tree {
         TokenTree::Group(group) => inside_comes_back(group),

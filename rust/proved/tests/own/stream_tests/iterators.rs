@@ -2,7 +2,7 @@
 
 use crate::shim::prelude::{GrowText, HostRuntime, Repeat, TryClone, format};
 
-// The iterator over the trees of a stream, which gives them away.
+// Tests of the iterator that takes a stream apart.
 use crate::stream_tests::built_streams::one;
 use crate::stream_tests::checks::{displays, parsed, repeated, shows};
 use proved_tokens::proc_macro2::{TokenStream, TokenTree, token_stream};
@@ -10,7 +10,7 @@ use crate::shim::alloc::AllocError;
 use crate::shim::process::Abort;
 use crate::shim::test::Fail;
 
-/// Each tree that the iterator gives as it is printed, in brackets.
+/// The printed text of each tree that the iterator gives, in brackets.
 fn given(trees: token_stream::IntoIter) -> Result<String, AllocError> {
     let mut all = String::new();
     for tree in trees {
@@ -20,7 +20,7 @@ fn given(trees: token_stream::IntoIter) -> Result<String, AllocError> {
     Ok(all)
 }
 
-/// Asserts what the iterator gives.
+/// Asserts which trees the iterator gives.
 fn gives(
     rt: &impl Abort,
     trees: token_stream::IntoIter,
@@ -57,8 +57,8 @@ fn a_copy_of_a_half_used_iterator_gives_the_rest() -> Result<(), Fail> {
     Ok(())
 }
 
-/// Each tree of the stream in brackets, as a stream of that tree alone prints it. A tree that was given
-/// may be put into a stream again, which needs no proof here.
+/// The printed text of each tree of the stream, as a stream of that tree alone, in brackets. Each tree from the
+/// iterator may be put into a stream again, which needs no proof here.
 fn each_alone(stream: TokenStream) -> Result<String, AllocError> {
     let mut all = String::new();
     for tree in stream.try_into_iter()? {
@@ -128,14 +128,14 @@ fn an_iterator_over_deep_groups_is_dropped_in_little_stack() -> Result<(), Fail>
     Ok(())
 }
 
-/// What an iterator says of how many items it gives, beside that they are 0 at least.
+/// The upper bound in an iterator's `size_hint`: none, or the greatest number. The lower bound is 0.
 #[derive(Clone, Copy)]
 enum Most {
     Unknown,
     Greatest,
 }
 
-/// The trees of another iterator, of whose number it says little.
+/// An iterator over the trees of another one, with a `size_hint` that says little.
 struct Hinting {
     trees: token_stream::IntoIter,
     most: Most,
@@ -157,7 +157,7 @@ impl Iterator for Hinting {
     }
 }
 
-/// Asserts what `x` is extended to by an iterator over the trees of the text that hints at this many.
+/// Asserts what `x` is extended to by the trees of the text, from an iterator with this upper bound.
 fn extends(rt: &impl Abort, text: &str, most: Most, want: &str) -> Result<(), Fail> {
     let mut stream = parsed("x")?;
     let trees = parsed(text)?.try_into_iter()?;

@@ -2,7 +2,7 @@
 
 use crate::shim::prelude::HostRuntime;
 
-// Groups and trees that are made by hand.
+// Tests of groups and trees that are made by hand.
 use crate::stream_tests::checks::{displays, parsed, prints, shows};
 use proved_tokens::proc_macro2::{Delimiter, Group, Ident, Literal, Punct, Spacing, Span, TokenStream, TokenTree};
 use crate::shim::test::Fail;

@@ -10,8 +10,8 @@ use proved_tokens::pm_token::ParseError;
 use crate::shim::alloc::AllocError;
 use crate::shim::process::Abort;
 
-/// Whether the text parses in a map of the limit, whether the map then holds its four characters,
-/// whether it refuses the empty text, since it is full, and whether it holds one more position.
+/// Whether the text parses in a map with this limit, whether the map then holds its four characters, whether the map is
+/// full and rejects the empty text, and whether it holds one more position.
 fn at_limit(text: &str, limit: u32) -> [bool; 4] {
     let mut map = SourceMap::with_limit(limit);
     let parses = TokenStream::from_str(text, &mut map).is_ok();
@@ -23,8 +23,8 @@ fn at_limit(text: &str, limit: u32) -> [bool; 4] {
     [parses, holds, full, map.holds(span_of(6, 6))]
 }
 
-/// Asserts that the text, which parses or not, stands in a map of the limit `limit`, and that the
-/// map is then full, or else holds one more position.
+/// Asserts that a map with the limit `limit` holds the text, which parses or not, and that the map is then full, or
+/// otherwise holds one more position.
 fn check_limit(rt: &(impl Abort + AllocGlobal), text: &str, parses: bool, limit: u32, full: bool) {
     let found = at_limit(text, limit);
     assert_eq!(found,
@@ -52,7 +52,7 @@ fn both_shown(text: &str) -> Result<[String; 2], AllocError> {
     ])
 }
 
-/// Asserts that the text is parsed without a map as it is in a new one, spans and faults too.
+/// Asserts that parsing the text without a map gives the same result as with a new map, including spans and faults.
 fn check_unmapped(rt: &(impl Abort + AllocGlobal), text: &str) {
     let [mapped, unmapped] = both_shown(text).expect(text);
     assert_eq!(unmapped.as_str(), mapped.as_str(), "of {text:?}");
@@ -67,7 +67,7 @@ fn a_text_is_parsed_without_a_map_as_in_a_new_one() {
     check_unmapped(&rt, "a ( [ b");
 }
 
-/// How Debug shows the printed text of what the text parses to, by its trees and with none made.
+/// How Debug shows the printed text of the text's stream, printed from trees and without trees.
 fn both_printed(text: &str) -> Result<[String; 2], AllocError> {
     let by_trees = match TokenStream::parse_unmapped(text) {
         Ok(stream) => Ok(format!("{stream}")?),
@@ -80,7 +80,7 @@ fn both_printed(text: &str) -> Result<[String; 2], AllocError> {
     ])
 }
 
-/// Asserts that the text is printed with no trees made as its stream is, or has the same fault.
+/// Asserts that printing the text without trees gives the printed text of its stream, or the same fault.
 fn check_reprinted(rt: &(impl Abort + AllocGlobal), text: &str) {
     let [by_trees, reprinted] = both_printed(text).expect(text);
     assert_eq!(reprinted.as_str(), by_trees.as_str(), "of {text:?}");

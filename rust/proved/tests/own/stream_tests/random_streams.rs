@@ -2,9 +2,9 @@
 
 use crate::shim::prelude::{AllocGlobal, Grow, HostRuntime, format};
 
-// Streams of random trees: each comes back from its printed text exactly where it is well spaced.
+// Tests of streams of random trees: each comes back from its printed text exactly if it is well spaced.
 //
-// `bench/twin/random_lists.rs` makes the same lists of the same seed, in the same steps, for the Rust crate.
+// `bench/twin/random_lists.rs` makes the same lists from the same seed, in the same steps, for the Rust crate.
 
 use proved_tokens::proc_macro2::{
     Delimiter, Group, Ident, Literal, ParseError, Punct, SourceMap, Spacing, Span, TokenStream,
@@ -14,12 +14,12 @@ use crate::shim::alloc::AllocError;
 use crate::shim::process::Abort;
 use crate::shim::test::Fail;
 
-/// How many streams are made, and how many of them come back. The Rust crate counts the same.
+/// How many streams are made, and how many of them come back. The Rust crate gives the same numbers.
 const STREAMS: u32 = 20000;
 
 const COME_BACK: u32 = 11419;
 
-/// Names that may be plain: also those that begin literals, keywords, and one past ASCII.
+/// Names that may be plain, including prefixes of literals, keywords, and a name that isn't ASCII.
 const NAMES: &[&str] = &[
     "a", "b", "c", "r", "br", "cr", "_", "x1", "e5", "u8", "f64", "fn", "self", "_a", "E", "\u{e9}",
 ];
@@ -33,7 +33,7 @@ const MARKS: &[char] = &[
     '^', '|', '~',
 ];
 
-/// What groups stand between.
+/// The delimiters of groups.
 const DELIMITERS: &[Delimiter] = &[
     Delimiter::Parenthesis,
     Delimiter::Bracket,
@@ -87,7 +87,7 @@ const LITERALS: &[&str] = &[
 
 /// A source of random trees.
 struct RandomTrees {
-    /// The last number, which isn't 0.
+    /// The last random number, which isn't 0.
     state: u64,
 }
 
@@ -112,7 +112,7 @@ impl RandomTrees {
         Ok(grouped(delimiter, inside)?)
     }
 
-    /// Up to 3 trees, whose groups have no groups.
+    /// Up to 3 trees. Their groups have no groups in them.
     fn shallow_trees(&mut self, rt: &(impl Abort + AllocGlobal)) -> Result<Vec<TokenTree>, Fail> {
         let mut trees = Vec::new();
         for _ in 0..self.below(4) {
@@ -121,7 +121,7 @@ impl RandomTrees {
         Ok(trees)
     }
 
-    /// A tree; if it is a group it has no groups.
+    /// A tree. If it is a group, it has no groups in it.
     fn shallow_tree(&mut self, rt: &(impl Abort + AllocGlobal)) -> Result<TokenTree, Fail> {
         let kind = self.below(13);
         if kind < 11 {
@@ -183,13 +183,13 @@ impl RandomTrees {
         }
     }
 
-    /// One of these values, of which there are some.
+    /// Returns one of these values, of which there must be at least one.
     fn one_of<T: Copy>(&mut self, values: &[T]) -> T
     {
         values[self.below(values.len() as u64) as usize]
     }
 
-    /// A number below the bound, which isn't 0.
+    /// Returns a number below the bound, which isn't 0.
     fn below(&mut self, bound: u64) -> u64
     {
         self.state ^= self.state << 13;
@@ -218,7 +218,7 @@ fn comes_back(stream: &TokenStream) -> Result<bool, ParseError> {
     }
 }
 
-/// Asserts that the stream comes back exactly where it is well spaced, and answers whether it does.
+/// Asserts that the stream comes back exactly if it is well spaced, and returns whether it comes back.
 fn check_spacing(
     rt: &(impl Abort + AllocGlobal),
     stream: &TokenStream,

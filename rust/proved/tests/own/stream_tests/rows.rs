@@ -2,7 +2,7 @@
 
 use crate::shim::prelude::{AllocGlobal, HostRuntime};
 
-// Several texts in one map, and the map's limit.
+// Tests of several texts in one map, and of the map's limit.
 use crate::stream_tests::checks::check_shown;
 use proved_tokens::proc_macro2::{ParseError, SourceMap, TokenStream};
 use crate::shim::process::Abort;
@@ -13,7 +13,7 @@ fn check_fits(rt: &impl Abort, map: &mut SourceMap, limit: u32, text: &str, fits
     assert_eq!(full, !fits, "of {text:?} with the limit {limit}");
 }
 
-/// Asserts whether `z` and then the empty text fit behind `abcd`, which stands at 1..5.
+/// Asserts whether `z` and then the empty text fit after `abcd`, whose span is 1..5.
 fn check_limit(rt: &(impl Abort + AllocGlobal), limit: u32, z: bool, empty: bool) {
     let mut map = SourceMap::with_limit(limit);
     let abcd = TokenStream::from_str("abcd", &mut map).is_ok();

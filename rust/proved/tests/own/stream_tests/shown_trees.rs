@@ -2,7 +2,7 @@
 
 use crate::shim::prelude::{HostRuntime, format};
 
-// What streams and trees show of themselves, and what an empty stream prints.
+// Tests of how Debug shows streams and trees, and of what an empty stream prints.
 use crate::stream_tests::built_streams::{empty_group, grouped, one};
 use crate::stream_tests::checks::{displays, has_no_width, parsed, shows};
 use proved_tokens::proc_macro2::{Delimiter, Ident, Span, TokenStream, TokenTree};
@@ -18,7 +18,7 @@ fn an_empty_stream_is_printed_as_nothing() -> Result<(), AllocError> {
     shows(&rt, &made, "TokenStream []")
 }
 
-/// The stream of a raw identifier that stands in no file.
+/// The stream of a raw identifier that is in no file.
 fn raw_name(name: &str) -> Result<TokenStream, Fail> {
     let ident = Ident::new_raw(name, Span::call_site())?;
     Ok(one(TokenTree::Ident(ident))?)
@@ -43,7 +43,7 @@ fn a_group_at_0_to_0_shows_no_span() -> Result<(), Fail> {
     Ok(())
 }
 
-/// The stream of the text in a new map, as it is shown on lines.
+/// How Debug shows the stream of the text in a new map, on several lines.
 fn shown_on_lines(text: &str) -> Result<String, Fail> {
     let stream = parsed(text)?;
     Ok(format!("{stream:#?}")?)
@@ -73,7 +73,7 @@ fn a_stream_is_shown_on_lines() -> Result<(), Fail> {
     Ok(())
 }
 
-/// Asserts that each tree of the text is displayed as these, whatever width is asked for.
+/// Asserts that the trees of the text are displayed as these texts, whatever width the format has.
 fn trees_have_no_width(
     rt: &impl Abort,
     text: &str,

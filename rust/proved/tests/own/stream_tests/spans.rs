@@ -2,7 +2,7 @@
 
 use crate::shim::prelude::{AllocGlobal, Grow, HostRuntime, Repeat, format};
 
-// What spans give back, of texts that were parsed into one map.
+// Tests of the look-ups of spans, in texts that were parsed into one map.
 use crate::stream_tests::checks::{held, repeated};
 use proved_tokens::pm_span::parts::{bounds, span_of};
 use proved_tokens::proc_macro2::{LineColumn, SourceMap, Span, TokenStream};
@@ -28,7 +28,7 @@ fn check_look_ups(
     assert_eq!(found, want, "of {positions:?}");
 }
 
-/// Asserts which text the span has, copied and lent.
+/// Asserts the text of the span, copied and borrowed.
 fn check_text(
     rt: &impl Abort,
     map: &mut SourceMap,
@@ -67,7 +67,7 @@ fn check_join(
     assert_eq!(joined.map(bounds), want, "of {first:?} and {lo}..{hi}");
 }
 
-/// Asserts where the trees of `text` stand, as the next text of the map.
+/// Asserts the spans of the trees of `text`, which becomes the next text of the map.
 fn check_spans(
     rt: &(impl Abort + AllocGlobal),
     map: &mut SourceMap,
@@ -95,7 +95,7 @@ fn check_rows(
     Ok(())
 }
 
-/// Parses `x` and `é` so many times in turn, each at the next two positions.
+/// Parses `x` and `é` in turn, `times` times, each at the next two positions.
 fn check_many(
     rt: &(impl Abort + AllocGlobal),
     map: &mut SourceMap,
@@ -278,7 +278,7 @@ fn a_map_shows_its_files() -> Result<(), Fail> {
     Ok(())
 }
 
-/// A line that is a name of 98 characters, of which the first takes two bytes.
+/// A line with a name of 98 characters, of which the first takes two bytes.
 const LONG_LINE: &str = "\u{e9}bcdefghijklmnopqrstuvwxyzabcdefghijklmnopqrstuvw\
     abcdefghijklmnopqrstuvwxyzabcdefghijklmnopqrstuvw\n";
 

@@ -2,11 +2,11 @@
 
 use crate::shim::prelude::{HostRuntime, Repeat};
 
-// Groups that nest deep.
+// Tests of groups that nest deep.
 use crate::stream_tests::checks::{check_same, count_trees, parses_well_spaced, printed, repeated};
 use crate::shim::test::Fail;
 
-/// So many brackets inside one another, around a plus sign.
+/// Brackets inside one another, around a plus sign.
 const DEEP: &[(&str, u32)] = &[("[", 100_000), ("+", 1), ("]", 100_000)];
 
 const DEEPER: &[(&str, u32)] = &[("[", 100_001), ("+", 1), ("]", 100_001)];

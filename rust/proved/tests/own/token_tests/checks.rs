@@ -1,5 +1,5 @@
 // Made from crates/token_tests/src/checks.rt by rust/erase: change that file, not this one.
-//! The assertions that the tests share.
+//! Assertions that the tests share.
 
 use crate::shim::prelude::format;
 
@@ -9,18 +9,18 @@ use crate::shim::alloc::AllocError;
 use crate::shim::fmt::{Debug, Display};
 use crate::shim::process::Abort;
 
-/// Asserts that the answer at a row of a test, which is printed if it fails, is the wanted one.
+/// Asserts that the result in a row of a test is the expected one. The row is printed if it fails.
 pub fn check_same<T: PartialEq + Debug>(rt: &impl Abort, row: &str, answer: &T, want: &T) {
     assert_eq!(answer, want, "at {row:?}");
 }
 
-/// The literal of the text, as the first text of a new map.
+/// Reads the literal of the text, as the first text of a new map.
 pub fn read(text: &str) -> Result<Literal, ParseError> {
     let mut map = SourceMap::new();
     Literal::from_str(text, &mut map)
 }
 
-/// The identifier of the name, which stands in no file.
+/// Makes the identifier of the name, with the span 0..0.
 pub fn made(name: &str, raw: bool) -> Result<Ident, IdentError> {
     if raw {
         Ident::new_raw(name, Span::call_site())
@@ -29,7 +29,7 @@ pub fn made(name: &str, raw: bool) -> Result<Ident, IdentError> {
     }
 }
 
-/// The text of the literal, if it was made.
+/// Returns the text of the literal, if it was made.
 fn text_of(literal: &Result<Literal, AllocError>) -> Option<&str> {
     match literal {
         Ok(literal) => Some(literal.text()),
@@ -37,12 +37,12 @@ fn text_of(literal: &Result<Literal, AllocError>) -> Option<&str> {
     }
 }
 
-/// Asserts that the literal was made, and is written as this text.
+/// Asserts that the literal was made, and has this text.
 pub fn is_written(rt: &impl Abort, literal: Result<Literal, AllocError>, want: &str) {
     check_same(rt, want, &text_of(&literal), &Some(want));
 }
 
-/// Asserts that the value is displayed as this text.
+/// Asserts the `Display` text of a value.
 pub fn displays<T: Display>(
     rt: &impl Abort,
     value: &T,
@@ -53,7 +53,7 @@ pub fn displays<T: Display>(
     Ok(())
 }
 
-/// Asserts that the value shows its parts as this text.
+/// Asserts the `Debug` text of a value.
 pub fn shows<T: Debug>(
     rt: &impl Abort,
     value: &T,
@@ -64,7 +64,7 @@ pub fn shows<T: Debug>(
     Ok(())
 }
 
-/// Asserts what each value of the table shows of itself.
+/// Asserts the `Debug` text of each value of the table.
 pub fn are_shown<T: Debug>(
     rt: &impl Abort,
     rows: &[(T, &str)],
@@ -75,7 +75,7 @@ pub fn are_shown<T: Debug>(
     Ok(())
 }
 
-/// Asserts what each value of the table is displayed as.
+/// Asserts the `Display` text of each value of the table.
 pub fn are_displayed<T: Display>(
     rt: &impl Abort,
     rows: &[(T, &str)],
@@ -86,7 +86,7 @@ pub fn are_displayed<T: Display>(
     Ok(())
 }
 
-/// Asserts that each value of the table is equal to itself, and to no other of them.
+/// Asserts that each value of the table is equal to itself, and to none of the others.
 pub fn are_distinct<T: PartialEq + Debug>(rt: &impl Abort, values: &[T]) {
     for (at, value) in values.iter().enumerate() {
         is_distinct(rt, values, at, value);

@@ -2,7 +2,7 @@
 
 use crate::shim::prelude::HostRuntime;
 
-// Values are equal exactly where they are of one kind and have equal parts.
+// Values are equal exactly if they are the same variant and have equal parts.
 use crate::token_tests::checks::are_distinct;
 use proved_tokens::literal_escaper::EscapeError;
 use proved_tokens::pm_token::{ConversionErrorKind, Delimiter, Spacing};

@@ -21,7 +21,7 @@ fn refusal(outcome: Result<Ident, IdentError>) -> &'static str {
 }
 }
 
-/// Asserts how each name is answered, as a plain identifier and as a raw one.
+/// Asserts the result for each name, as a plain identifier and as a raw one.
 fn are_answered(rt: &impl Abort, rows: &[(&str, &str, &str)]) {
     for &(name, plain, raw) in rows {
         let as_plain = refusal(made(name, false));
@@ -30,7 +30,7 @@ fn are_answered(rt: &impl Abort, rows: &[(&str, &str, &str)]) {
     }
 }
 
-/// Asserts that the identifier of the name, which is answered, is displayed as this text.
+/// Asserts the `Display` text of the identifier with the name, and returns the identifier.
 fn displayed(
     rt: &impl Abort,
     name: &str,
@@ -42,14 +42,14 @@ fn displayed(
     Ok(ident)
 }
 
-/// Asserts that the identifier is equal to the plain one of the name that stands in no file.
+/// Asserts that the identifier is equal to the plain one of the name, which has the span 0..0.
 fn is_equal(rt: &impl Abort, ident: &Ident, name: &str) -> Result<(), Fail> {
     let other = made(name, false)?;
     check_same(rt, name, ident, &other);
     Ok(())
 }
 
-/// Asserts of each text whether the raw identifier and the plain one are written as it.
+/// Asserts for each text whether the raw identifier and the plain one are written like it.
 fn stand_for(rt: &impl Abort, raw: &Ident, plain: &Ident, rows: &[(&str, bool, bool)]) {
     for &(text, is_raw, is_plain) in rows {
         let answers = (raw.eq_str(text), plain.eq_str(text));
@@ -57,7 +57,7 @@ fn stand_for(rt: &impl Abort, raw: &Ident, plain: &Ident, rows: &[(&str, bool, b
     }
 }
 
-/// The identifiers of the names in their order.
+/// Returns the identifiers of the names in their order.
 fn sorted(rows: &[(&str, bool)]) -> Result<Vec<Ident>, Fail> {
     let mut idents = Vec::new();
     for &(name, raw) in rows {
@@ -88,7 +88,7 @@ fn fill(
     Ok(())
 }
 
-/// Asserts what both maps, the hashed one first, have at the keys, which are raw or not.
+/// Asserts what both maps, first the hashed one, have at these keys, which are raw or not.
 fn values_are(
     rt: &impl Abort,
     hashed: &HashMap<Ident, i32>,
@@ -128,7 +128,7 @@ fn the_first_fault_of_a_name_is_answered() {
     are_answered(&rt, rows);
 }
 
-/// No clause can say that memory suffices for a name that doesn't stand in place.
+/// No contract can say that memory suffices for a long name, which is not kept in place.
 #[test]
 fn a_long_name_is_made_where_memory_suffices() -> Result<(), Fail> {
     let rt = HostRuntime;

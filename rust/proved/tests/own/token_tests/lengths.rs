@@ -2,31 +2,31 @@
 
 use crate::shim::prelude::{GrowText, HostRuntime, TryClone, format};
 
-// A text of at most 22 bytes stands in its token, and a longer one behind a pointer. Both are kept and copied.
+// A text of at most 22 bytes is kept in its token, and a longer one in memory. Both are kept unchanged and copied.
 use crate::token_tests::checks::{check_same, made};
 use proved_tokens::pm_token::{Ident, IdentError, Literal};
 use crate::shim::alloc::AllocError;
 use crate::shim::process::Abort;
 use crate::shim::test::Fail;
 
-/// A copy of the identifier of the name.
+/// Copies the identifier of the name.
 fn copied(name: &str, raw: bool) -> Result<Ident, IdentError> {
     Ok(made(name, raw)?.try_clone()?)
 }
 
-/// A copy of the string literal of the text.
+/// Copies the string literal of the text.
 fn copied_literal(text: &str) -> Result<Literal, AllocError> {
     let literal = Literal::string(text)?;
     literal.try_clone()
 }
 
-/// What a copy of the identifier of the name is written as.
+/// Returns how a copy of the identifier of the name is written.
 fn written(name: &str, raw: bool) -> Result<String, IdentError> {
     let copy = copied(name, raw)?;
     Ok(format!("{copy}")?)
 }
 
-/// What a copy of the string literal of the text is written as.
+/// Returns how a copy of the string literal of the text is written.
 fn written_literal(text: &str) -> Result<String, AllocError> {
     let copy = copied_literal(text)?;
     format!("{copy}")
@@ -54,7 +54,7 @@ fn is_quoted(rt: &impl Abort, text: &str) -> Result<(), AllocError> {
     Ok(())
 }
 
-/// A text of 100,000 bytes.
+/// Makes a text of 100,000 bytes.
 fn long_text() -> Result<String, AllocError> {
     let mut text = String::new();
     for _ in 0..10_000 {

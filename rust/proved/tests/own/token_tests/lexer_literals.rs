@@ -6,7 +6,7 @@ use crate::token_tests::piece_checks::{check_literal_length, check_no_pieces, ch
 use proved_tokens::lexical::PieceKind;
 use crate::shim::process::Abort;
 
-/// Asserts that each text begins with a literal of so many bytes and characters.
+/// Asserts that each text begins with a literal, with this number of bytes and of characters.
 fn check_literals(rt: &impl Abort, rows: &[(&str, usize, usize)]) {
     check_pieces(rt, PieceKind::Literal, rows);
     for &(text, bytes, _) in rows {

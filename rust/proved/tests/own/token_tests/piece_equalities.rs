@@ -2,7 +2,7 @@
 
 use crate::shim::prelude::HostRuntime;
 
-// Values are equal exactly where they are of one kind and have equal parts.
+// Values are equal exactly if they are the same variant and have equal parts.
 use crate::token_tests::checks::are_distinct;
 use proved_tokens::lexical::{Piece, PieceKind};
 use proved_tokens::literal_escaper::{EscapeError, MixedUnit, Mode, NonZeroChar, NonZeroU8};
@@ -117,7 +117,7 @@ fn kinds_of_pieces_are_equal_by_their_parts() {
     are_distinct(&rt, &kinds);
 }
 
-/// A piece that is a gap or a literal.
+/// Makes a piece that is a gap or a literal.
 fn piece(is_gap: bool, bytes: usize, chars: usize) -> Piece<'static> {
     let kind = if is_gap {
         PieceKind::Gap

@@ -2,7 +2,7 @@
 
 use crate::shim::prelude::HostRuntime;
 
-// What is written for bytes that are no text. What is written for texts is among the recorded answers of `conformance`.
+// The literals of bytes that are no text. The literals of texts are among the recorded answers of `conformance`.
 use crate::token_tests::checks::is_written;
 use proved_tokens::pm_token::Literal;
 

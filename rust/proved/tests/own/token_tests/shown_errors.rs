@@ -2,7 +2,7 @@
 
 use crate::shim::prelude::HostRuntime;
 
-// What errors show of themselves, and what they say.
+// The `Debug` and `Display` texts of errors.
 use crate::token_tests::checks::{are_displayed, are_shown, displays, shows};
 use proved_tokens::literal_escaper::EscapeError;
 use proved_tokens::pm_span::parts::span_of;
@@ -12,7 +12,7 @@ use proved_tokens::pm_token::{ConversionErrorKind, IdentError, Literal, ParseErr
 use crate::shim::alloc::AllocError;
 use crate::shim::process::Abort;
 
-/// Asserts what the error of a text that is no literal shows of itself.
+/// Asserts the `Debug` text of the error for a text that is no literal.
 fn is_refused_as(rt: &impl Abort, text: &str, want: &str) -> Result<(), AllocError> {
     let mut map = SourceMap::new();
     let refused = Literal::from_str(text, &mut map).err();

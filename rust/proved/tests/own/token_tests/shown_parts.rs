@@ -2,7 +2,7 @@
 
 use crate::shim::prelude::{HostRuntime, format};
 
-// What the parts of tokens show of themselves, and tokens without a span.
+// The `Debug` texts of the parts of tokens, and of tokens without a span.
 use crate::token_tests::checks::{are_shown, check_same, read, shows};
 use proved_tokens::pm_span::parts::span_of;
 use proved_tokens::pm_span::{LineColumn, SourceMap, Span};
@@ -31,7 +31,7 @@ fn a_spacing_shows_its_name() -> Result<(), AllocError> {
     are_shown(&rt, &rows)
 }
 
-/// Asserts what the raw identifier of the name shows of itself.
+/// Asserts the `Debug` text of the raw identifier with the name.
 fn raw_shows(
     rt: &impl Abort,
     name: &str,
@@ -73,7 +73,7 @@ fn a_mark_without_a_place_shows_no_span() -> Result<(), AllocError> {
     are_shown(&rt, &rows)
 }
 
-/// Asserts what the literal shows of itself, if it was made.
+/// Asserts the `Debug` text of the literal, if it was made.
 fn made_shows(
     rt: &impl Abort,
     made: Result<Literal, AllocError>,
@@ -83,7 +83,7 @@ fn made_shows(
     shows(rt, &literal, want)
 }
 
-/// Asserts what the literal of the text shows of itself.
+/// Asserts the `Debug` text of the literal that is read from the text.
 fn read_shows(rt: &impl Abort, text: &str, want: &str) -> Result<(), ParseError> {
     let literal = read(text)?;
     shows(rt, &literal, want)?;
@@ -123,7 +123,7 @@ fn a_place_shows_its_line_and_column() -> Result<(), AllocError> {
     shows(&rt, &value, "LineColumn { line: 3, column: 0 }")
 }
 
-/// What a map of these texts, with the limit 100, shows of itself.
+/// Returns the `Debug` text of a map of these texts, with the limit 100.
 fn map_shown(texts: &[&str]) -> Result<String, AllocError> {
     let mut map = SourceMap::with_limit(100);
     for text in texts {

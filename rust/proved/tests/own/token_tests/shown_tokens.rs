@@ -14,7 +14,7 @@ fn low_line(span: Span) -> Result<Ident, AllocError> {
     ident("_", false, span)
 }
 
-/// Asserts that `_` with this span is displayed, and shows its parts as this text.
+/// Asserts the `Display` and `Debug` texts of `_` with this span.
 fn low_line_shows(
     rt: &impl Abort,
     span: Span,

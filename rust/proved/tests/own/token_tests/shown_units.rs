@@ -2,7 +2,7 @@
 
 use crate::shim::prelude::HostRuntime;
 
-// What the types of contents show of themselves.
+// The `Debug` texts of the types of contents.
 use crate::token_tests::checks::are_shown;
 use proved_tokens::literal_escaper::{EscapeError, MixedUnit, Mode, NonZeroChar, NonZeroU8};
 use crate::shim::alloc::AllocError;
@@ -106,7 +106,7 @@ fn a_unit_shows_its_type_and_value() -> Result<(), AllocError> {
             "Ok(Char(NonZeroChar('\u{E9}')))",
         ),
         (MixedUnit::try_from('\0'), "Err(NulInCStr)"),
-        // A byte up to 7F is a character.
+        // A byte of at most 7F is a character.
         (
             MixedUnit::try_from(0x7F),
             "Ok(Char(NonZeroChar('\\u{7f}')))",

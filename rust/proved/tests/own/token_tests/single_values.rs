@@ -9,13 +9,13 @@ use crate::shim::test::Fail;
 
 type Value<T> = Result<T, ConversionErrorKind>;
 
-/// The value as a character and as a byte of the literal of the text.
+/// Returns the value of the text's literal as a character, and as a byte.
 fn single_values(text: &str) -> Result<(Value<char>, Value<u8>), ParseError> {
     let literal = read(text)?;
     Ok((literal.char_value(), literal.byte_value()))
 }
 
-/// This value, or the error of another kind of literal.
+/// Returns this value, or the error for another kind of literal.
 fn wanted<T>(value: Option<T>) -> Value<T> {
     match value {
         Some(value) => Ok(value),
@@ -23,8 +23,8 @@ fn wanted<T>(value: Option<T>) -> Value<T> {
     }
 }
 
-/// Asserts what value the literals of the texts have as a character and as a byte. Where they have none, they are said
-/// to be of another kind.
+/// Asserts the values of each text's literal as a character and as a byte. If it has none, the error is
+/// `InvalidLiteralKind`.
 fn single_values_are(
     rt: &impl Abort,
     rows: &[(&str, Option<char>, Option<u8>)],

@@ -9,7 +9,7 @@ use proved_tokens::pm_token::{Literal, ParseError};
 use crate::shim::alloc::AllocError;
 use crate::shim::process::Abort;
 
-/// Where the literal of the text stands in a new map, if it is one with this text.
+/// Returns the positions of the literal of the text in a new map, if the text is one.
 fn literal_bounds(text: &str) -> Option<(u32, u32)> {
     let mut map = SourceMap::new();
     let parsed = Literal::from_str(text, &mut map);
@@ -19,7 +19,7 @@ fn literal_bounds(text: &str) -> Option<(u32, u32)> {
     }
 }
 
-/// Where the fault of the text stands.
+/// Returns the positions of the text's syntax error.
 fn fault_bounds(text: &str) -> Option<(u32, u32)> {
     let mut map = SourceMap::new();
     let parsed = Literal::from_str(text, &mut map);
@@ -29,7 +29,7 @@ fn fault_bounds(text: &str) -> Option<(u32, u32)> {
     }
 }
 
-/// Asserts that each text is a whole literal, which stands in a new map from 1 up to `end`.
+/// Asserts that each text is a whole literal, with the span from 1 to `end` in a new map.
 fn are_whole(rt: &impl Abort, rows: &[(&str, u32)]) {
     for &(text, end) in rows {
         let answers = (literal_bounds(text), Literal::is_whole(text));
@@ -37,7 +37,7 @@ fn are_whole(rt: &impl Abort, rows: &[(&str, u32)]) {
     }
 }
 
-/// Asserts that no text is a whole literal, and that the fault of each stands nowhere.
+/// Asserts that no text is a whole literal, and that each error has the span 0..0.
 fn are_refused(rt: &impl Abort, texts: &[&str]) {
     for text in texts {
         let answers = (fault_bounds(text), Literal::is_whole(text));
@@ -45,7 +45,7 @@ fn are_refused(rt: &impl Abort, texts: &[&str]) {
     }
 }
 
-/// Asserts that a literal that is made of the text, which has to be one, has it and stands nowhere.
+/// Asserts that the literal made of the text has this text and the span 0..0. The text must be a whole literal.
 fn is_made(rt: &impl Abort, text: &str) -> Result<(), AllocError> {
     assert!(Literal::is_whole(text), "of {text:?}");
     let literal = Literal::from_str_unchecked(text)?;
@@ -54,7 +54,7 @@ fn is_made(rt: &impl Abort, text: &str) -> Result<(), AllocError> {
     Ok(())
 }
 
-/// Whether a map with this limit was full for the text, and whether it then holds the first three
+/// Returns whether a map with this limit was full for the text, and whether it then holds the first three
 /// characters.
 fn outcome(text: &str, limit: u32) -> (bool, bool) {
     let mut map = SourceMap::with_limit(limit);

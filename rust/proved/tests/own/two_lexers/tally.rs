@@ -1,19 +1,19 @@
 // Made from crates/two_lexers/src/tally.rt by rust/erase: change that file, not this one.
-//! How much was compared.
+//! Counts what was compared.
 
-/// How much was compared. The numbers end at `u64::MAX`.
+/// How many texts were compared, and how often. The numbers stop at `u64::MAX`.
 #[derive(Clone, Copy)]
 pub struct Tally {
-    /// The texts.
+    /// The number of texts.
     pub texts: u64,
-    /// The comparisons, at each character of each text and of its beginnings.
+    /// The number of comparisons, at each character of each text and of its beginnings.
     pub comparisons: u64,
-    /// The comparisons in which the two lexers differ.
+    /// The number of comparisons in which the two lexers differ.
     pub differ: u64,
 }
 
 impl Tally {
-    /// Counts a comparison, in which the two lexers answer the same or not.
+    /// Counts a comparison, in which the two lexers give the same result or not.
     pub fn count(&mut self, same: bool)
     {
         self.comparisons = self.comparisons.saturating_add(1);

@@ -3,7 +3,7 @@ use Rattle.highlight.specs.Delimiters.{from_match}
 use Rattle.highlight.specs.Nesting.{IsAwaited, flag, waiting_of}
 use Rattle.highlight.proofs.nesting.Nesting.matched.Given as goal
 
--- the openers that are taken out wait for other closers
+-- the openers that were removed wait for other closers
 abbrev pub invariant-loop-opener : goal.invariant-loop-opener
 invariant-loop-opener l = record {
   awaited : IsAwaited l.self.awaited l.self.openers.items;

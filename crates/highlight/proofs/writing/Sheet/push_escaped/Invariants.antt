@@ -3,7 +3,7 @@ use Rattle.std.specs.Str.Iter.{chars_rest}
 use Rattle.highlight.specs.Page.{escaped, line_after}
 use Rattle.highlight.proofs.writing.Sheet.push_escaped.Given as goal
 
--- with the characters that are left, it is all
+-- what is written so far, and the rest escaped, make the whole escaped text
 abbrev pub invariant-loop-c : goal.invariant-loop-c
 invariant-loop-c l = record {
   shown : string_bytes l.self.out ++ escaped l.self.line (chars_rest l.rest)

@@ -1,4 +1,4 @@
--- `into_parts` moves two fields, and what they own goes with them.
+-- `into_parts` moves two fields, and all that they own.
 use mathlib.Core.Path.{refl, sym, subst}
 use mathlib.Core.List.{List, [], ◌∷◌, ◌++◌}
 use seplogic.Ra.Ura.{Ura}

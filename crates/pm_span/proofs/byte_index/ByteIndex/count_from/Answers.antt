@@ -34,7 +34,7 @@ skip_chars-rest-requires c =
     let rest = known_rest c.as_str-text.utf8 text c.requires.known c.range_from.ensures.value in
     omega (arith, ap length rest, length-drop c.args.known.chars c.args.self.now, c.requires.within)
 
--- what is left of the text, in bytes
+-- the text after the offset, as bytes
 left : (c : goal.After-skip_chars-rest)
     → byte_offset c.args.self.now c.args.char_offset + length c.skip_chars-rest.result.now
     ≡ length c.as_str-text.result.now

@@ -6,7 +6,7 @@ use Rattle.pm_span.proofs.ByteOffsetLemmas.{known_boundary, known_order}
 use Rattle.pm_span.proofs.SeamLemmas.{between_at}
 use Rattle.pm_span.proofs.file_info.FileInfo.text_between.Goals as goal
 
--- both offsets are those of the text
+-- both byte offsets are those of offsets of the text
 from : (c : goal.After-text) → IsByteOffset c.args.self.now.text c.args.start c.byte_range-bytes.result.start
 from c = record {
   within = omega (arith, c.requires.ordered, c.requires.within);

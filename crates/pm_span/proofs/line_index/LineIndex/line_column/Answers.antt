@@ -5,14 +5,14 @@ use Rattle.pm_span.specs.LineIndex.{AreUpTo, after_line_feeds}
 use Rattle.pm_span.proofs.LineLemmas.{after_line_feeds_from-rising, line_column_found}
 use Rattle.pm_span.proofs.line_index.LineIndex.line_column.Goals as goal
 
--- the last of the line starts up to an offset is not after it
+-- the last line start that was counted is at or before the offset
 last_up_to :
     {starts : List ℕ} {n char_offset start : ℕ} → AreUpTo starts n char_offset → start ≡ get_or (0 ∷ starts) n 0
     → start ≤ char_offset
 last_up_to {n = zero} up is = omega (arith, is)
 last_up_to {n = suc n} up is = omega (arith, is, up.before n (omega arith))
 
--- the line and the column that are counted so
+-- the line and column from the count are right
 counted :
     (text : List ℕ) {starts slice : List ℕ} {n start char_offset : ℕ} → slice ≡ starts → starts ≡ after_line_feeds text
     → AreUpTo slice n char_offset → (n < length slice → char_offset < get_or slice n 0)

@@ -2,7 +2,7 @@ use Rattle.std.proofs.Common.{◌≡◌, ◌*◌, ◌<◌, ◌≤◌, ℕ, List,
 use Rattle.pm_span.specs.LineIndex.{AreBlocks, AreUpTo}
 use Rattle.pm_span.proofs.line_index.LineIndex.lines_before.Goals as goal
 
--- what a block says holds of each offset from its start on
+-- the count of a block is right for each offset from the block's start on
 of_block :
     {starts blocks slice own : List ℕ} (size block : ℕ) {lines char_offset : ℕ} → AreBlocks size starts blocks
     → starts ≡ own → slice ≡ blocks → block < length slice → lines ≡ get_or slice block 0 → block * size ≤ char_offset

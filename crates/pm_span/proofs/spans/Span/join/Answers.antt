@@ -9,7 +9,7 @@ use Rattle.pm_span.proofs.spans.Span.join.Goals as goal
 abbrev extent_of : ℕ → ℕ → Extent
 extent_of lo hi = record { lo = lo; hi = hi }
 
--- the span of both
+-- the span that covers both spans
 span_of_both :
     (first second span : Extent) (lo hi : ℕ) (p q : ℕ × ℕ) → p ≡ (first.lo, first.hi) → q ≡ (second.lo, second.hi)
     → lo ≡ min p.0 q.0 → hi ≡ max p.1 q.1 → span ≡ extent_of lo hi → span ≡ joined first second

@@ -2,7 +2,7 @@ use Rattle.std.proofs.Common.{◌≡◌, ◌++◌, List, length, IsTrue}
 use Rattle.pm_token.specs.CString.{Part, AreParts, parts_text, has_no_zero}
 use Rattle.pm_token.proofs.escapes.TextBuilder.push_c_string.Given as goal
 
--- what is written, whatever parts the bytes have that are left
+-- the text so far is right, whatever parts the remaining bytes have
 abbrev pub invariant-loop-left : goal.invariant-loop-left
 invariant-loop-left l = record {
   reads : (more : List Part) → AreParts more l.left

@@ -3,7 +3,7 @@ use Rattle.std.specs.Str.{chars, IsUtf8}
 use Rattle.pm_token.specs.Escaped.{written_char, content}
 use Rattle.pm_token.proofs.escapes.TextBuilder.push_content.Given as goal
 
--- what is written, and what is still to be written
+-- the text so far and that of the remaining characters make up the result
 abbrev pub invariant-loop-c : goal.invariant-loop-c
 invariant-loop-c l = record {
   same : l.self ++ content l.quote written_char (chars l.rest.rest.now)

@@ -7,7 +7,7 @@ use Rattle.pm_token.proofs.NameLemmas.{written_is}
 use Rattle.pm_token.proofs.identifiers.IdentDisplay.fmt.Goals.{then-is_raw+in_ok-write_str, else-is_raw}
 use Rattle.pm_token.proofs.identifiers.IdentDisplay.fmt.Goals as goal
 
--- `r#` and then the name
+-- `r#` if the identifier is raw, and then the name
 pub returns-clause-writes : goal.returns-clause-writes
 returns-clause-writes g c = elim c.if-is_raw.branch [
   | then-is_raw+in_ok-write_str w ↦ λ plain ok.

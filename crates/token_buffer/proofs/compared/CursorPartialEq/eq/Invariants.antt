@@ -3,7 +3,7 @@ use Rattle.token_buffer.specs.Entries.{AreWithin}
 use Rattle.token_buffer.proofs.PartLemmas.{said}
 use Rattle.token_buffer.proofs.compared.CursorPartialEq.eq.Given as goal
 
--- all entries say the same where those that are left do
+-- all contents are the same exactly if the remaining ones are
 abbrev pub invariant-loop-entry : goal.invariant-loop-entry
 invariant-loop-entry l = record {
   same : (said l.fn.self.text.now l.fn.self.entries.now ≡ said l.fn.other.text.now l.fn.other.entries.now)

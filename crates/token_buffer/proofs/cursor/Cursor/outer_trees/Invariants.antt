@@ -6,7 +6,7 @@ use Rattle.token_buffer.specs.Outer.{outer}
 use Rattle.token_buffer.specs.Reads.{left}
 use Rattle.token_buffer.proofs.cursor.Cursor.outer_trees.Given as goal
 
--- the trees that were made and those that are left are all
+-- the trees so far and those of the remaining ones make up the result
 abbrev pub invariant-loop-first : goal.invariant-loop-first
 invariant-loop-first l = joined (forest l.trees.items) (outer (left l.here)) ≡ outer (left l.fn.self)
 

@@ -5,7 +5,7 @@ use Rattle.token_buffer.specs.Made.{steps_left, whole_of}
 use Rattle.token_buffer.specs.Reads.{left}
 use Rattle.token_buffer.proofs.cursor.Cursor.to_stream.Given as goal
 
--- the trees that were made and those that are left are all
+-- the trees so far and the remaining ones are all trees
 abbrev pub invariant-loop-first : goal.invariant-loop-first
 invariant-loop-first l =
     whole_of (reverse l.groups.items) (joined (forest l.trees.items) (left l.here)) ≡ left l.fn.self

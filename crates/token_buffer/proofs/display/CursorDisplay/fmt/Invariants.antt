@@ -5,7 +5,7 @@ use Rattle.pm_stream.specs.PrintedEvents.{events_text}
 use Rattle.token_buffer.specs.Entries.{events_of, AreWithin}
 use Rattle.token_buffer.proofs.display.CursorDisplay.fmt.Given as goal
 
--- what is printed, and what is printed of the entries that are left
+-- the text so far and that of the remaining entries make up the result
 abbrev pub invariant-loop-entry : goal.invariant-loop-entry
 invariant-loop-entry g l = record {
   written :

@@ -1,20 +1,19 @@
 // Made from crates/pm_token/src/literals/values/content.rt by rust/erase: change that file, not this one.
-//! What stands between the quotes of a literal.
+//! Finds the content of a literal, which is the text between its quotes.
 
-/// What follows this ASCII front of the text.
+/// Returns the text after this ASCII prefix.
 fn behind_front<'a>(text: &'a str, front: &str) -> Option<&'a str>
 {
     text.strip_prefix(front)
 }
 
-/// What stands before a quote that ends the text.
+/// Returns the text before a quote at its end.
 fn before_quote(text: &str) -> Option<&str>
 {
     text.strip_suffix('"')
 }
 
-/// What stands after this ASCII front, up to a quote that ends the text, by the rule
-/// `cooked-content`.
+/// Returns the text after this ASCII prefix and before a quote at its end (`cooked-content`).
 ///
 /// # Contract
 ///
@@ -34,14 +33,13 @@ pub fn cooked_content<'a>(text: &'a str, front: &str) -> Option<&'a str>
     before_quote(behind_front(text, front)?)
 }
 
-/// What stands before a single quote that ends the text.
+/// Returns the text before a single quote at its end.
 fn before_single_quote(text: &str) -> Option<&str>
 {
     text.strip_suffix('\'')
 }
 
-/// What stands after this ASCII front, up to a single quote that ends the text, by the rule
-/// `single-content`.
+/// Returns the text after this ASCII prefix and before a single quote at its end (`single-content`).
 ///
 /// # Contract
 ///
@@ -61,13 +59,13 @@ pub fn single_content<'a>(text: &'a str, front: &str) -> Option<&'a str>
     before_single_quote(behind_front(text, front)?)
 }
 
-/// The text without the hash sign at its end.
+/// Returns the text before a hash sign at its end.
 fn before_hash(text: &str) -> Option<&str>
 {
     text.strip_suffix('#')
 }
 
-/// What stands between hash signs and a quote, and a quote and as many hash signs.
+/// Returns the text between quotes that have equally many hash signs outside of them.
 fn hashed_content(text: &str) -> Option<&str>
 {
     let mut quoted = text;
@@ -77,7 +75,7 @@ fn hashed_content(text: &str) -> Option<&str>
     cooked_content(quoted, "\"")
 }
 
-/// What stands after this ASCII front in quotes with hash signs, by the rule `raw-content`.
+/// Returns the text after this ASCII prefix, without its quotes and hash signs (`raw-content`).
 ///
 /// # Contract
 ///

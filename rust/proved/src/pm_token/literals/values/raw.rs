@@ -1,11 +1,11 @@
 // Made from crates/pm_token/src/literals/values/raw.rt by rust/erase: change that file, not this one.
-//! The values of raw contents.
+//! The values of contents without escapes.
 
 use crate::shim::prelude::{Grow, GrowList, GrowText};
 
 use crate::shim::alloc::AllocError;
 
-/// The content of a raw string.
+/// Copies the content of a raw string.
 ///
 /// # Contract
 ///
@@ -23,7 +23,7 @@ pub fn raw_string(content: &str) -> Result<String, AllocError>
     Ok(value)
 }
 
-/// The bytes of the content of a raw byte string.
+/// Copies the bytes of the content of a raw byte string.
 ///
 /// # Contract
 ///
@@ -43,7 +43,7 @@ pub fn raw_bytes(content: &str) -> Result<Vec<u8>, AllocError>
     Ok(value)
 }
 
-/// The bytes of the content of a raw C string, and a zero byte.
+/// Copies the bytes of the content of a raw C string, and adds a zero byte.
 ///
 /// # Contract
 ///

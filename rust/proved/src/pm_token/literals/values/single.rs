@@ -1,11 +1,11 @@
 // Made from crates/pm_token/src/literals/values/single.rt by rust/erase: change that file, not this one.
-//! The values of the texts of characters and bytes.
+//! The values of characters and bytes, from their text.
 
 use crate::pm_token::literals::conversion::ConversionErrorKind;
 use crate::pm_token::literals::values::content::single_content;
 use crate::literal_escaper::{unescape_byte, unescape_char};
 
-/// The unit between the quotes of a character's text, by the rule `character-value`.
+/// Returns the character between the quotes of a character literal (`character-value`).
 ///
 /// # Contract
 ///
@@ -21,7 +21,7 @@ pub fn character_of(text: &str) -> Result<char, ConversionErrorKind>
     }
 }
 
-/// The unit between the quotes of a byte's text, by the rule `byte-value`.
+/// Returns the byte between the quotes of a byte literal (`byte-value`).
 ///
 /// # Contract
 ///

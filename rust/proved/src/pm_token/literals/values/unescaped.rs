@@ -7,7 +7,7 @@ use crate::pm_token::literals::conversion::ConversionErrorKind;
 use crate::literal_escaper::{EscapeError, MixedUnit, unescape_byte_str, unescape_c_str, unescape_str};
 use crate::shim::alloc::AllocError;
 
-/// The fault, if it is one and no warning, or else the one before.
+/// Returns `fault`, or the fault before it if `fault` is only a warning.
 fn last_fault(before: Option<EscapeError>, fault: EscapeError) -> Option<EscapeError>
 {
     if fault.is_fatal() {
@@ -17,13 +17,13 @@ fn last_fault(before: Option<EscapeError>, fault: EscapeError) -> Option<EscapeE
     }
 }
 
-/// Puts a character at the end of the text.
+/// Adds a character at the end of the text.
 fn push_char(text: &mut String, c: char) -> Result<(), AllocError>
 {
     text.push_fallibly(c)
 }
 
-/// The characters of a string's content, joined.
+/// Returns the characters of a string's content, with its escapes replaced.
 ///
 /// # Contract
 ///
@@ -57,7 +57,7 @@ pub fn unescaped_string(content: &str) -> Result<String, ConversionErrorKind>
     }
 }
 
-/// The bytes of a byte string's content, joined.
+/// Returns the bytes of a byte string's content, with its escapes replaced.
 ///
 /// # Contract
 ///
@@ -91,7 +91,7 @@ pub fn unescaped_bytes(content: &str) -> Result<Vec<u8>, ConversionErrorKind>
     }
 }
 
-/// Puts the bytes of a unit at the end.
+/// Adds the bytes of a unit at the end.
 fn push_unit(bytes: &mut Vec<u8>, unit: MixedUnit) -> Result<(), AllocError>
 {
     match unit {
@@ -103,7 +103,7 @@ fn push_unit(bytes: &mut Vec<u8>, unit: MixedUnit) -> Result<(), AllocError>
     }
 }
 
-/// The bytes of a C string's content, joined, and a zero byte.
+/// Returns the bytes of a C string's content, with its escapes replaced, and a zero byte.
 ///
 /// # Contract
 ///

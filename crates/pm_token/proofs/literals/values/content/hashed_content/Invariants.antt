@@ -5,7 +5,7 @@ use Rattle.std.specs.Str.{chars}
 use Rattle.pm_token.specs.Content.{hashed_content as hashed}
 use Rattle.pm_token.proofs.literals.values.content.hashed_content.Given as goal
 
--- signs that were left out at both ends change nothing
+-- removing hash signs at both ends does not change the content
 abbrev pub invariant-loop-behind : goal.invariant-loop-behind
 invariant-loop-behind l = (hashed (chars l.quoted) ≡ hashed (chars l.initial.quoted)) × shadow (Utf8 l.quoted)
 

@@ -4,7 +4,7 @@ use Rattle.literal_escaper.specs.Value.{units_of, last_fault_or}
 use Rattle.pm_token.specs.Value.{bytes_of, unit_bytes}
 use Rattle.pm_token.proofs.literals.values.unescaped.unescaped_c_string.Given as goal
 
--- what was joined and what is left, and the last fault of both
+-- the value so far and that of the remaining units make up the result, with the last error of both
 abbrev pub invariant-loop-unit : goal.invariant-loop-unit
 invariant-loop-unit l = record {
   finite : (goal.iterator-loop-unit).can_next l.unit-iterator × (goal.iterator-loop-unit).is_finite l.unit-iterator;

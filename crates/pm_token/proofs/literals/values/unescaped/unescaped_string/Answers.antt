@@ -4,7 +4,7 @@ use Rattle.std.proofs.lemmas.Str.{chars-nil}
 use Rattle.literal_escaper.specs.Value.{units_of}
 use Rattle.pm_token.proofs.literals.values.unescaped.unescaped_string.Goals as goal
 
--- nothing is joined yet
+-- the value is empty at first
 pub loop-unit-init : goal.loop-unit-init
 loop-unit-init c =
     let left = units_of c.into_iter-unit-iterator.result in record {
