@@ -1,4 +1,4 @@
-//! Why nothing is written.
+//! Why no header is written.
 ghost use Rattle.std.specs.Prelude.{◌≡◌};
 
 use declarations::Fault;
@@ -8,13 +8,14 @@ use std::alloc::AllocError;
 use std::error::Error;
 use std::fmt;
 
-/// Why nothing is written.
+/// Why no header is written.
 #[derive(Debug, Drop, PartialEq)]
 pub enum HeaderError {
-    /// The generic parameters or the where clause aren't as the grammar has them. The trees are counted from the
-    /// parameter or the predicate that doesn't fit, and from the front of all where the brackets or the `where` don't.
+    /// The generic parameters or the where clause are not those of the grammar. The field `at` counts trees from the
+    /// parameter or predicate that does not fit. If the brackets or the `where` do not fit, it counts from the first
+    /// tree of the generic parameters or of the where clause.
     Fault(Fault),
-    /// A keyword or a mark couldn't be put in; for those that are written that is so where memory ran out.
+    /// A keyword or a mark could not be written, because memory ran out.
     Keyword(IdentError),
     /// Memory ran out. No call gives another error of a quote.
     Quote(QuoteError),
@@ -23,7 +24,7 @@ pub enum HeaderError {
 impl HeaderError {
     ghost use Rattle.item_headers.specs.Message.{header_span};
 
-    /// Where the fault stands, as [`Fault::span`] has it: `None` if more trees are missing, or for another error.
+    /// Returns the span of the tree that does not fit, or `None` if trees are missing at the end or for another error.
     pub fn span(&self) -> Option<Span>
         ensures { result ≡ header_span self.now }
     {

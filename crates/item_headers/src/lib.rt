@@ -1,13 +1,13 @@
-//! What a derive writes around its body: the generic parameters, the arguments and the where clause of an `impl` for a
-//! struct, an enum or a union.
+//! Writes what a derive puts around its body: the generic parameters, the arguments and the where clause of an `impl`
+//! for a struct, an enum or a union.
 //!
-//! Each call takes the parts as [`parse_type_item`](declarations::parse_type_item) answers them. It fails where
-//! these are no parameters or predicates, and where memory runs out; the item stays as it was. Trees of the item and
-//! of the caller keep their spans and spacings, and groups without delimiters stay.
+//! Each call takes the parts of an item as [`parse_type_item`](declarations::parse_type_item) returns them. It
+//! fails if they are not the parameters or predicates of an item, or if memory runs out. The item is unchanged. Trees
+//! of the item and of the caller keep their spans and spacings, and groups without delimiters are kept.
 //!
-//! The words and marks that are put between them have the span of
-//! [`Span::call_site`](proc_macro2::Span::call_site). To get a stream that comes back from its printed text,
-//! push the answer to a `Quote` and call its `finish`.
+//! The words and marks between these trees have the span of
+//! [`Span::call_site`](proc_macro2::Span::call_site). To get a stream that reads back from its printed text,
+//! push the result to a `Quote` and call its `finish`.
 #![tactic(auto)]
 
 mod clauses;

@@ -15,20 +15,19 @@ use proc_macro2::{IdentError, TokenStream, TokenTree};
 use quoting::Quote;
 use std::alloc::Global;
 
-/// How a parameter is written.
+/// Which part of a parameter is written.
 #[derive(Clone, Copy)]
 pub(crate) enum Form {
-    /// All but its default.
+    /// The parameter without its default.
     Declared,
     /// Its name.
     Named,
 }
 
-/// The generic parameters of an `impl` for the item: its own without their defaults, attributes kept, or nothing where
-/// it has none.
+/// Returns the generic parameters of an `impl` for the item: the item's own with attributes and without defaults.
 ///
-/// Of `struct S<'a, T: A = B, const N: usize = 3>` they are `<'a, T: A, const N: usize>`. A fault tells that the trees
-/// in their place aren't the generic parameters of an item.
+/// For `struct S<'a, T: A = B, const N: usize = 3>` they are `<'a, T: A, const N: usize>`. The stream is empty if the
+/// item has none. The error is `Fault` if the trees are not the generic parameters of an item.
 pub fn impl_generics(alloc: Global, item: &TypeItem<'_>) -> Result<TokenStream, HeaderError>
     ensures ok { IfOk result (λ stream. (params : List ParamTrees) × HasParams item.now.generics.now params
         × (stream ≡ impl_generics params)) }
@@ -45,9 +44,10 @@ pub fn impl_generics(alloc: Global, item: &TypeItem<'_>) -> Result<TokenStream, 
     Ok(quote.into_stream())
 }
 
-/// The arguments of the item's type: the names of its parameters in order, or nothing where it has none.
+/// Returns the generic arguments of the item's type: the names of its parameters in order.
 ///
-/// Of `struct S<'a, T: A = B, const N: usize = 3>` they are `<'a, T, N>`. It fails as [`impl_generics`] does.
+/// For `struct S<'a, T: A = B, const N: usize = 3>` they are `<'a, T, N>`. The stream is empty if the item has no
+/// parameters. The errors are those of [`impl_generics`].
 pub fn type_generics(alloc: Global, item: &TypeItem<'_>) -> Result<TokenStream, HeaderError>
     ensures ok { IfOk result (λ stream. (params : List ParamTrees) × HasParams item.now.generics.now params
         × (stream ≡ type_generics params)) }
@@ -58,8 +58,9 @@ pub fn type_generics(alloc: Global, item: &TypeItem<'_>) -> Result<TokenStream, 
     Ok(quote.into_stream())
 }
 
-/// The same as an expression wants them, as `::<'a, T, N>`; nothing where the item has none. It fails as
-/// [`impl_generics`] does.
+/// Returns the generic arguments of the item's type as an expression needs them, such as `::<'a, T, N>`.
+///
+/// The stream is empty if the item has no parameters. The errors are those of [`impl_generics`].
 pub fn turbofish(alloc: Global, item: &TypeItem<'_>) -> Result<TokenStream, HeaderError>
     ensures ok { IfOk result (λ stream. (params : List ParamTrees) × HasParams item.now.generics.now params
         × (stream ≡ turbofish params)) }
@@ -76,7 +77,7 @@ pub fn turbofish(alloc: Global, item: &TypeItem<'_>) -> Result<TokenStream, Head
     Ok(quote.into_stream())
 }
 
-/// Puts the parameters at the end, in brackets.
+/// Writes the parameters in angle brackets at the end of the quote.
 pub(crate) fn push_generics(
     quote: &mut Quote,
     alloc: Global,
@@ -117,7 +118,7 @@ fn push_param(
     }
 }
 
-/// Puts all of a parameter but its default at the end.
+/// Writes a parameter without its default at the end of the quote.
 fn push_declared(quote: &mut Quote, alloc: Global, param: &Param<'_>) -> Result<(), IdentError>
     ensures { OnOk result (quote.new ≡ joined quote.old (param_in forms.Declared (param_trees param.now))) }
 {
@@ -127,7 +128,7 @@ fn push_declared(quote: &mut Quote, alloc: Global, param: &Param<'_>) -> Result<
     Ok(push_led(quote, param.bounds)?)
 }
 
-/// Puts the keyword of a parameter at the end, if it has one.
+/// Writes the keyword of a parameter, if it has one, at the end of the quote.
 fn push_keyword(quote: &mut Quote, alloc: Global, kind: ParamKind) -> Result<(), IdentError>
     ensures { OnOk result (quote.new ≡ joined quote.old (keyword kind)) }
 {

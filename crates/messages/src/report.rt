@@ -29,7 +29,7 @@ pub fn conclude<E: Write>(
     ExitCode::from(status(&outcome))
 }
 
-/// Returns the exit status of a program: 0 after success, 1 if the text has a fault, and 2 after any other failure.
+/// Returns the exit status of a program: 0 after success, 1 after a syntax error, and 2 after any other failure.
 pub fn status(outcome: &Result<(), Failure>) -> u8
     ensures { result ≡ status_of outcome.now }
 {
@@ -42,9 +42,9 @@ pub fn status(outcome: &Result<(), Failure>) -> u8
 
 /// Writes to `errors`, in one line, why a program failed. The program reads the file at this path.
 ///
-/// The line and column of a fault count from 1, and the column counts characters. For a failed read or write the line
-/// has the system's reason. Nothing is written if nobody reads the output any more. For `(]` in the file `a.rs` the
-/// line is `a.rs:1:2: error: no token stands here, or a delimiter has no match`.
+/// The line and column of a syntax error count from 1, and the column counts characters. For a failed read or write
+/// the line has the system's reason. Nothing is written if nobody reads the output any more. For `(]` in the file
+/// `a.rs` the line is `a.rs:1:2: error: no token stands here, or a delimiter has no match`.
 pub fn say<E: Write>(alloc: Global, path: &str, failure: &Failure, errors: &mut E) -> io::Result<()>
     ensures { OnOk result ((reason : List ℕ) × Appends (E.contents errors.old) (E.contents errors.new)
         (message path.now reason failure.now)) }

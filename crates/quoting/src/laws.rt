@@ -2,11 +2,11 @@
 ghost use Rattle.quoting.specs.Laws.{AFaultIsHopeless, KeepsWhatItMay, NothingToDo, OnlySpacing};
 ghost use Rattle.quoting.specs.Laws.{WellSpacedWithoutFault};
 
-/// Where a stream has no fault, respaced it is well spaced; where it has one, no choice of spacings makes it well
-/// spaced. Respacing changes spacings only. A mark keeps its spacing where any choice of spacings that is well spaced
-/// keeps it, and so a well spaced stream comes out unchanged.
+/// A respaced stream is well spaced, unless it has a `first-fault`: then no choice of spacings makes it well spaced.
 ///
-/// So a stream has a fault exactly where no choice of spacings is well spaced.
+/// Respacing changes spacings only. A mark keeps its spacing if some well spaced choice of spacings keeps it, so a
+/// stream that is well spaced is unchanged. A stream has a `first-fault` exactly if no choice of spacings is well
+/// spaced.
 pub fn respacing()
     ensures spaced { WellSpacedWithoutFault }
     ensures hopeless { AFaultIsHopeless }

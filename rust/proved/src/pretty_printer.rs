@@ -1,9 +1,9 @@
 // Made from crates/pretty_printer/src/lib.rt by rust/erase: change that file, not this one.
-//! Prints streams so that people read them well.
+//! Prints streams on lines for people.
 //!
-//! [`to_pretty_string`] writes a stream's tokens on lines of 100 columns where that can be. What it writes reads
-//! back to the stream with its marks respaced, whatever its rules choose: the crate `layout` promises that of every
-//! layout.
+//! [`to_pretty_string`] writes a stream's tokens on lines of at most 100 columns where that is possible. The text reads
+//! back to the stream with its marks respaced, whatever gaps the rules here choose. The crate `layout` promises this of
+//! every layout.
 
 use crate::shim::prelude::TryClone;
 
@@ -32,14 +32,15 @@ impl<'a> Chooser for Printer<'a> {
     }
 }
 
-/// The stream's tokens as text for people: a statement or an item a line, blocks and long lists over several lines.
+/// Returns the stream's tokens as text for people: each statement or item begins a line, and blocks and long lists take
+/// several lines.
 ///
-/// Its marks are respaced first, as `Quote::finish` does: one that is Joint to what it can't be joined with is Alone.
-/// The text is a layout of that stream, so that it reads back to it, up to spans; a stream that is `well-spaced` is
-/// respaced to itself. Where the lines of the text break is told by no contract.
+/// The marks are respaced first, as `Quote::finish` does: a Joint mark becomes Alone if it can't be joined with the
+/// next token. The text is a layout of the respaced stream, so it reads back to that stream, up to spans. A stream that
+/// is `well-spaced` is respaced to itself. No contract says where the lines break.
 ///
-/// `NoneGroup` and `LoneQuote` tell the stream's first fault, which no spacing of its marks mends, and `Memory` that
-/// memory ran out. It takes time in proportion to the length of the text.
+/// `NoneGroup` and `LoneQuote` are returned for the first tree that no spacing of the marks allows (`first-fault`), and
+/// `Memory` if memory runs out. The call takes time in proportion to the length of the text.
 ///
 /// `fn f(){g(1)}` is written over three lines, the second of which is `    g(1)`.
 ///

@@ -13,10 +13,10 @@ use crate::proc_macro2::{IdentError, TokenStream, TokenTree};
 use crate::quoting::Quote;
 use crate::shim::alloc::AllocError;
 
-/// The where clause of the item, or nothing where it has no predicates.
+/// Returns the where clause of the item, or an empty stream if it has no predicates.
 ///
-/// Of `struct S<T> where T: A,` it is `where T: A`, and of `struct S<T> where` nothing. A fault tells that the trees in
-/// its place aren't the where clause of an item.
+/// For `struct S<T> where T: A,` it is `where T: A`, and for `struct S<T> where` it is empty. The error is `Fault` if
+/// the trees are not the where clause of an item.
 ///
 /// # Contract
 ///
@@ -40,10 +40,10 @@ pub fn where_clause(item: &TypeItem<'_>) -> Result<TokenStream, HeaderError>
     Ok(quote.into_stream())
 }
 
-/// The where clause of the item, and a predicate more.
+/// Returns the where clause of the item with one more predicate.
 ///
-/// Of `struct S<T> where T: A,` and `T: B` it is `where T: A, T: B`; of `struct S<T>` it is `where T: B`. What the
-/// predicate is isn't looked at. It fails as [`where_clause`] does.
+/// For `struct S<T> where T: A,` and `T: B` it is `where T: A, T: B`. For `struct S<T>` it is `where T: B`. The trees
+/// of the predicate are not checked. The errors are those of [`where_clause`].
 ///
 /// # Contract
 ///
@@ -73,10 +73,10 @@ pub fn where_clause_with(
     Ok(quote.into_stream())
 }
 
-/// The where clause of the item, and this bound on each parameter that is a type.
+/// Returns the where clause of the item with this bound on each parameter that is a type.
 ///
-/// Of `struct S<'a, T, U, const N: usize> where T: A` and `B` it is `where T: A, T: B, U: B`. A fault tells that the
-/// generic parameters or the where clause aren't those of an item. What the bound is isn't looked at.
+/// For `struct S<'a, T, U, const N: usize> where T: A` and `B` it is `where T: A, T: B, U: B`. The error is `Fault` if
+/// the generic parameters or the where clause are not those of an item. The trees of the bound are not checked.
 ///
 /// # Contract
 ///
@@ -108,7 +108,7 @@ pub fn where_clause_with_bound(
     Ok(quote.into_stream())
 }
 
-/// Puts the predicates of a where clause at the end, and answers whether there are any.
+/// Writes the predicates of a where clause at the end of the quote, and returns whether there are any.
 pub(crate) fn push_where(
     quote: &mut Quote,
     where_clause: &[TokenTree],
@@ -134,7 +134,7 @@ fn push_predicate(quote: &mut Quote, predicate: &Predicate<'_>) -> Result<(), Al
     Ok(())
 }
 
-/// Puts the bound on each parameter that is a type at the end, in a where clause that has some predicates or none.
+/// Writes the bound on each parameter that is a type at the end of a where clause, which may be empty so far.
 fn push_bounds(
     quote: &mut Quote,
     generics: &[TokenTree],
@@ -153,7 +153,7 @@ fn push_bounds(
     Ok(())
 }
 
-/// Puts the bound on a parameter at the end, if it is a type, and answers whether there are any predicates now.
+/// Writes the bound on a parameter at the end if it is a type, and returns whether there are any predicates now.
 fn push_bound(
     quote: &mut Quote,
     param: &Param<'_>,

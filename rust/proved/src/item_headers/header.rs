@@ -11,11 +11,11 @@ use crate::declarations::TypeItem;
 use crate::proc_macro2::{TokenStream, TokenTree};
 use crate::quoting::Quote;
 
-/// The front of an `impl` of a trait for the item's type, up to its braces.
+/// Returns the header of an `impl` of a trait for the item's type: all that comes before the braces.
 ///
-/// Of `struct S<'a, T: A = B> where T: C { .. }` and the trait `D<T>` it is
-/// `impl<'a, T: A> D<T> for S<'a, T> where T: C`. A fault tells that the generic parameters or the where clause aren't
-/// those of an item. What the trait is isn't looked at.
+/// For `struct S<'a, T: A = B> where T: C { .. }` and the trait `D<T>` it is
+/// `impl<'a, T: A> D<T> for S<'a, T> where T: C`. The error is `Fault` if the generic parameters or the where clause
+/// are not those of an item. The trees of the trait are not checked.
 ///
 /// # Contract
 ///
@@ -47,11 +47,12 @@ pub fn impl_header(
     Ok(quote.into_stream())
 }
 
-/// The same with this where clause in the place of the item's, as the calls for where clauses answer it; an empty
-/// stream is no where clause.
+/// Returns the header of an `impl` as [`impl_header`] does, but with this where clause instead of the item's.
 ///
-/// Of the same item and `where T: C, T: D<T>` it is `impl<'a, T: A> D<T> for S<'a, T> where T: C, T: D<T>`. A fault
-/// tells that the generic parameters aren't those of an item. What the trait and the clause are isn't looked at.
+/// Take the clause from a call such as `where_clause_with`. An empty stream is no where clause. For
+/// `struct S<'a, T: A = B> where T: C { .. }`, `D<T>` and `where T: C, T: D<T>` the header is
+/// `impl<'a, T: A> D<T> for S<'a, T> where T: C, T: D<T>`. The error is `Fault` if the generic parameters are not those
+/// of an item. The trees of the trait and of the clause are not checked.
 ///
 /// # Contract
 ///
@@ -81,7 +82,7 @@ pub fn impl_header_where(
     Ok(quote.into_stream())
 }
 
-/// All before the where clause.
+/// Returns the header up to the where clause.
 fn front(item: &TypeItem<'_>, trait_path: &TokenStream) -> Result<Quote, HeaderError>
 {
     let mut quote = Quote::new();

@@ -7,20 +7,19 @@ use crate::declarations::{Param, ParamKind, TypeItem, parse_param, within_generi
 use crate::proc_macro2::{IdentError, TokenStream, TokenTree};
 use crate::quoting::Quote;
 
-/// How a parameter is written.
+/// Which part of a parameter is written.
 #[derive(Clone, Copy)]
 pub(crate) enum Form {
-    /// All but its default.
+    /// The parameter without its default.
     Declared,
     /// Its name.
     Named,
 }
 
-/// The generic parameters of an `impl` for the item: its own without their defaults, attributes kept, or nothing where
-/// it has none.
+/// Returns the generic parameters of an `impl` for the item: the item's own with attributes and without defaults.
 ///
-/// Of `struct S<'a, T: A = B, const N: usize = 3>` they are `<'a, T: A, const N: usize>`. A fault tells that the trees
-/// in their place aren't the generic parameters of an item.
+/// For `struct S<'a, T: A = B, const N: usize = 3>` they are `<'a, T: A, const N: usize>`. The stream is empty if the
+/// item has none. The error is `Fault` if the trees are not the generic parameters of an item.
 ///
 /// # Contract
 ///
@@ -49,9 +48,10 @@ pub fn impl_generics(item: &TypeItem<'_>) -> Result<TokenStream, HeaderError>
     Ok(quote.into_stream())
 }
 
-/// The arguments of the item's type: the names of its parameters in order, or nothing where it has none.
+/// Returns the generic arguments of the item's type: the names of its parameters in order.
 ///
-/// Of `struct S<'a, T: A = B, const N: usize = 3>` they are `<'a, T, N>`. It fails as [`impl_generics`] does.
+/// For `struct S<'a, T: A = B, const N: usize = 3>` they are `<'a, T, N>`. The stream is empty if the item has no
+/// parameters. The errors are those of [`impl_generics`].
 ///
 /// # Contract
 ///
@@ -75,8 +75,9 @@ pub fn type_generics(item: &TypeItem<'_>) -> Result<TokenStream, HeaderError>
     Ok(quote.into_stream())
 }
 
-/// The same as an expression wants them, as `::<'a, T, N>`; nothing where the item has none. It fails as
-/// [`impl_generics`] does.
+/// Returns the generic arguments of the item's type as an expression needs them, such as `::<'a, T, N>`.
+///
+/// The stream is empty if the item has no parameters. The errors are those of [`impl_generics`].
 ///
 /// # Contract
 ///
@@ -105,7 +106,7 @@ pub fn turbofish(item: &TypeItem<'_>) -> Result<TokenStream, HeaderError>
     Ok(quote.into_stream())
 }
 
-/// Puts the parameters at the end, in brackets.
+/// Writes the parameters in angle brackets at the end of the quote.
 pub(crate) fn push_generics(
     quote: &mut Quote,
     trees: &[TokenTree],
@@ -140,7 +141,7 @@ fn push_param(
     }
 }
 
-/// Puts all of a parameter but its default at the end.
+/// Writes a parameter without its default at the end of the quote.
 fn push_declared(quote: &mut Quote, param: &Param<'_>) -> Result<(), IdentError>
 {
     push_trees(quote, param.attributes)?;
@@ -149,7 +150,7 @@ fn push_declared(quote: &mut Quote, param: &Param<'_>) -> Result<(), IdentError>
     Ok(push_led(quote, param.bounds)?)
 }
 
-/// Puts the keyword of a parameter at the end, if it has one.
+/// Writes the keyword of a parameter, if it has one, at the end of the quote.
 fn push_keyword(quote: &mut Quote, kind: ParamKind) -> Result<(), IdentError>
 {
     match kind {

@@ -154,7 +154,7 @@ impl Span {
         Some(file.text_between(lo - file.lo(), hi - file.lo()))
     }
 
-    /// Returns the smallest span that covers both spans (`join`), or `None` if they are not in one file. The map
+    /// Returns the smallest span that contains both spans (`join`), or `None` if they are not in one file. The map
     /// must hold this span.
     ///
     /// In a map with `aaa` LF `bbb` at 1..8 and `ccc` at 9..12, the spans 5..8 and 1..4 join to 1..8. Neither joins

@@ -5,8 +5,9 @@ use crate::proc_macro2::{ParseError, Span};
 use crate::shim::alloc::AllocError;
 use crate::shim::fmt;
 
-/// Why a quote gives no stream: the first fault in reading order, a group coming before its contents, or
-/// that memory ran out.
+/// Why a quote gives no stream: it has a tree whose printed text does not read back, or memory ran out.
+///
+/// The error is about the first such tree in reading order. A group comes before its contents.
 #[derive(Debug, PartialEq, Eq)]
 #[non_exhaustive]
 pub enum QuoteError {
@@ -37,10 +38,10 @@ impl From<AllocError> for QuoteError {
     }
 }
 
-/// Why a template is not filled: its first fault with its span in the template, that its text was not parsed, or that
+/// Why a template is not filled: its first error with the span in the template, that its text was not parsed, or that
 /// memory ran out.
 ///
-/// The first fault is the first in reading order, a group coming before its contents. So of `#( #missing )*` it is
+/// The first error is the first in reading order, a group coming before its contents. So of `#( #missing )*` it is
 /// `NoList` at the parentheses, and `NoHole` at `missing` only where a list is named beside it. Of the faults at one
 /// pair of parentheses `Nested` comes first, then `TooDeep`, then `NoList`.
 #[derive(Debug)]
@@ -66,8 +67,9 @@ pub enum TemplateError {
 }
 
 impl TemplateError {
-    /// Where the fault stands in the template: its span, or that of the text's fault as [`ParseError::span`] has it.
-    /// `None` if the map has no room or memory ran out.
+    /// Returns the span of the error in the template, or that of the text's syntax error ([`ParseError::span`]).
+    ///
+    /// Returns `None` if the map has no room or memory ran out.
     ///
     /// # Contract
     ///

@@ -1,11 +1,11 @@
 // Made from crates/quoting/src/laws.rt by rust/erase: change that file, not this one.
 //! What is proved of the definitions that the contracts cite. The function computes nothing.
 
-/// Where a stream has no fault, respaced it is well spaced; where it has one, no choice of spacings makes it well
-/// spaced. Respacing changes spacings only. A mark keeps its spacing where any choice of spacings that is well spaced
-/// keeps it, and so a well spaced stream comes out unchanged.
+/// A respaced stream is well spaced, unless it has a `first-fault`: then no choice of spacings makes it well spaced.
 ///
-/// So a stream has a fault exactly where no choice of spacings is well spaced.
+/// Respacing changes spacings only. A mark keeps its spacing if some well spaced choice of spacings keeps it, so a
+/// stream that is well spaced is unchanged. A stream has a `first-fault` exactly if no choice of spacings is well
+/// spaced.
 ///
 /// # Contract
 ///
