@@ -1,5 +1,5 @@
 -- What is left to find of the calls.
-use Rattle.std.proofs.Common.{◌≡◌, ℕ, zero, suc, ◌+◌, ◌*◌, ◌<◌, ◌≤◌, Bool, true, false, not, ◌&&◌, List, [], ◌∷◌}
+use Rattle.std.proofs.Common.{◌≡◌, ℕ, zero, suc, ◌+◌, ◌<◌, ◌≤◌, Bool, true, false, not, ◌&&◌, List, [], ◌∷◌}
 use Rattle.std.proofs.Common.{◌++◌, drop, length}
 use Rattle.std.proofs.Common.{Option, Some, None, refl, sym, ap, ap₂, subst, ◌∙◌, arith, get_or, ◌==◌, ne_eqb}
 use Rattle.std.proofs.Common.{if◌then◌else◌}
@@ -15,15 +15,12 @@ use Rattle.pm_span.specs.Files.{Files, Fits, Holds, new_map, next_lo, with_file}
 use Rattle.pm_stream.specs.Forest.{Forest, nil, leaf, group}
 use Rattle.pm_stream.specs.InOrder.{token_tree, in_order}
 use Rattle.pm_stream.specs.Parsing.{ParsesTo}
-use Rattle.pm_stream.specs.Size.{count}
 use Rattle.pm_stream.specs.TreeSpan.{extent_of}
 use Rattle.pm_stream.proofs.InOrderLemmas.{each_parts}
 use Rattle.pm_stream.proofs.LineColumnLemmas.{parsed_line_columns}
-use Rattle.token_buffer.specs.Reads.{left}
 use Rattle.token_buffer.specs.Refused.{IfParse}
 use Rattle.token_buffer.specs.declared.errors.BufferError.{BufferError}
 use Rattle.token_buffer.specs.declared.errors.BufferError.TheVariants.{Parse}
-use Rattle.token_buffer.specs.declared.cursor.Cursor.{Cursor}
 use Rattle.proc_macro2.specs.declared.LineColumn.{LineColumn}
 use Rattle.pm_span.specs.Lookup.{StartsAt}
 use Rattle.pm_token.specs.Outcome.{IfLex}
@@ -38,20 +35,6 @@ use Rattle.messages.specs.declared.errors.Failure.TheVariants.{Fault, MapFull as
 use Rattle.messages.proofs.ParsedLemmas.{Keeps-same}
 use Rattle.find_calls.specs.Answer.{StartsIn, are_some, lines}
 use Rattle.find_calls.specs.Calls.{calls, calls_onto, is_called, is_fn, is_named}
-
--- the calls after the open groups, the innermost group first
-abbrev pub rests : List ℕ → List Cursor → List Extent
-rests name [] = []
-rests name (after ∷ outer) = calls_onto name false (left after) (rests name outer)
-
--- how many steps are left there: one for each token, two for each group, and one for each that is open
-abbrev pub rests_steps : List Cursor → ℕ
-rests_steps [] = 0
-rests_steps (after ∷ outer) = 1 + 2 * count (left after) + rests_steps outer
-
--- the calls that were found and those that are left are all
-abbrev pub AreAll : List ℕ → List Extent → Bool → Forest → List Cursor → List Extent → Type 0
-AreAll name found defined here outer all = found ++ calls_onto name defined here (rests name outer) ≡ all
 
 -- ---- where they start
 

@@ -1,1 +1,5 @@
 mod CallLemmas
+mod OpenLemmas
+mod FollowLemmas
+mod SearchLemmas
+mod MarkLemmas

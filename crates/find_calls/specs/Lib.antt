@@ -1,2 +1,3 @@
 pub mod Calls
 pub mod Answer
+pub mod Opened
