@@ -261,7 +261,7 @@ copies=$room/rust
 mkdir "$copies"
 ln -s "$PWD/proved" "$PWD/proc-macro2" "$copies"
 ln -s "$PWD/../docs" "$PWD/../crates" "$room"
-cp -r bridge example "$copies"
+cp -r bridge example quotes "$copies"
 in_copy() { (cd "$copies/$1" && cargo "${@:2}"); }
 over_package=(--config 'patch.crates-io.proc-macro2.path="../proc-macro2"')
 bridge() { rm -f "$copies/bridge/Cargo.lock" && in_copy bridge "$@"; }
@@ -308,9 +308,9 @@ if has proc-macro2-1 && has unicode-ident-1; then
         local example=$1
         shift
         local build=(test --offline --quiet --features wrong --test wrong)
-        ! in_copy "example/$example" "${build[@]}" > "$room/seen" 2>&1 || return 1
+        ! in_copy "$example" "${build[@]}" > "$room/seen" 2>&1 || return 1
         while [ $# -gt 0 ]; do
-            if ! grep -A 1 "^error: $1" "$room/seen" | grep -q -- "--> wrong/$example.rs:$2$"; then
+            if ! grep -A 1 "^error.*: $1" "$room/seen" | grep -q -- "--> wrong/.*\.rs:$2$"; then
                 cat "$room/seen"
                 return 1
             fi
@@ -319,13 +319,23 @@ if has proc-macro2-1 && has unicode-ident-1; then
     }
     try "the example of a derive over the bridge and the public crate" in_copy example/names test --offline --quiet
     try "its errors stand at its user's tokens" \
-        told names "a variant has a name alone" 7:10 "a name is a literal" 12:6
+        told example/names "a variant has a name alone" 7:10 "a name is a literal" 12:6
     try "the example of an attribute over the bridge" in_copy example/traced test --offline --quiet
     wanted="only a function with a body is traced"
-    try "its errors stand at its user's tokens" told traced "$wanted" 5:1 "$wanted" 9:5
-    neat names traced
+    try "its errors stand at its user's tokens" told example/traced "$wanted" 5:1 "$wanted" 9:5
+    try "the example of a builder over the bridge" in_copy example/builder test --offline --quiet
+    try "the example of a memoizing attribute over the bridge" in_copy example/memoized test --offline --quiet
+    neat names traced builder memoized
 else
     skip "the bridge over the public crate, and its examples: no proc-macro2 or unicode-ident"
+fi
+
+if has quote-1 && has proc-macro2-1 && has unicode-ident-1; then
+    try "quote! gives the tokens of the public macro, of 2,000 templates" in_copy quotes test --offline --quiet
+    wanted="cannot find value \`.*\` in this scope"
+    try "a misspelled hole is told at its name" told quotes "$wanted" 8:13 "$wanted" 9:22
+else
+    skip "quote! beside the public macro: no quote, proc-macro2 or unicode-ident"
 fi
 
 generated() {

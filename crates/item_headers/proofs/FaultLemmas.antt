@@ -1,4 +1,4 @@
--- Where faults stand, neither parameters nor predicates do.
+-- Trees at which parsing fails are neither parameters nor predicates.
 use Rattle.std.proofs.Common.{◌≡◌, sym, ◌∙◌, ap, subst, ◌<◌, ◌==◌, true, false, List, [], ◌∷◌, Result, Ok, Err}
 use Rattle.std.proofs.Common.{IfErr, arith, length}
 use Rattle.declarations.proofs.ParamLemmas.{fewer_param, fewer_predicate, one_param, one_predicate}
@@ -11,16 +11,16 @@ use Rattle.item_headers.specs.declared.errors.HeaderError.TheVariants as errors
 use Rattle.pm_stream.specs.declared.stream.TokenTree.{TokenTree}
 use Rattle.pm_stream.specs.declared.stream.TokenTree.TheVariants.{Group, Ident, Punct, Literal}
 
--- ---- what errors tell
+-- ---- the meaning of errors
 
--- whatever the error is, this holds
+-- a statement that holds is true of every error
 pub told : {T : Type 0} → (result : Result T HeaderError) (P : Type 0) → P → IfErr result (λ error. IfFault error P)
 told (Ok found) P holds = tt
 told (Err (errors.Fault fault)) P holds = holds
 told (Err (errors.Keyword error)) P holds = tt
 told (Err (errors.Quote error)) P holds = tt
 
--- of a fault that another call told
+-- the meaning of an error that another call returned
 pub fault_weaker : (error : HeaderError) (P Q : Type 0) → (P → Q) → IfFault error P → IfFault error Q
 fault_weaker (errors.Fault fault) P Q from holds = from holds
 fault_weaker (errors.Keyword error) P Q from holds = tt
@@ -32,7 +32,7 @@ some_left (tree ∷ left) some none = cc
 
 -- ---- parameters
 
--- where none stands after some, and there are trees, these aren't all parameters
+-- if trees are left after some parameters but no parameter begins there, the trees are not all parameters
 no_more_params : (inside left : List TokenTree) (done params : List ParamTrees) → AreParams inside done left
     → (left ≡ [] → ⊥) → ((param : ParamTrees) (rest : List TokenTree) → IsParamAt left param rest → ⊥)
     → AreParams inside params [] → ⊥

@@ -1,4 +1,4 @@
--- The whole of what each function writes.
+-- The whole stream that each function writes.
 use Rattle.std.proofs.Common.{◌≡◌, refl, sym, ◌∙◌, ap, subst, Bool, true, false, List, [], ◌∷◌, append-nil, map}
 use Rattle.std.proofs.Common.{ℕ, suc, ◌==◌, arith, codes, length}
 use Rattle.std.proofs.lemmas.Bool.Decides.{nat_tests}
@@ -20,7 +20,7 @@ use Rattle.proc_macro2.specs.Forest.{Forest, nil, joined}
 use Rattle.proc_macro2.specs.Leaf.{Name}
 use Rattle.proc_macro2.specs.Trees.{alone}
 
--- ---- parts that are put in, one after another
+-- ---- parts that are added one after the other
 
 pub joined_three : (old a b c q1 q2 q3 : Forest) → q1 ≡ joined old a → q2 ≡ joined q1 b → q3 ≡ joined q2 c
     → q3 ≡ joined old (joined a (joined b c))
@@ -39,7 +39,7 @@ joined_six old a b c d e f q1 q2 q3 q4 q5 q6 is1 is2 is3 is4 is5 is6 =
     joined_three old a b (joined c (joined d (joined e f))) q1 q2 q6 is1 is2
     (joined_four q2 c d e f q3 q4 q5 q6 is3 is4 is5 is6)
 
--- a bound on one parameter
+-- the bound on one parameter, written part by part
 pub bound_put : (old lead name colon bound q1 q2 q3 q4 : Forest) → q1 ≡ joined old lead → q2 ≡ joined q1 name
     → q3 ≡ joined q2 colon → q4 ≡ joined q3 bound
     → q4 ≡ joined old (joined lead (joined (joined name (joined colon bound)) nil))
@@ -51,7 +51,7 @@ bound_put old lead name colon bound q1 q2 q3 q4 is1 is2 is3 is4 =
 more_than_none : (trees : List TokenTree) → false ≡ (suc (length trees) == 0)
 more_than_none trees = grind (arith, nat_tests)
 
--- trees after `:`, or nothing
+-- `led` adds nothing if there are no trees
 pub led_none : (c : ℕ) (trees : List TokenTree) (old : Forest) → (length trees == 0) ≡ true
     → old ≡ joined old (led c trees)
 led_none c [] old none = sym (joined_nil old)
@@ -62,12 +62,12 @@ pub led_some : (c : ℕ) (trees : List TokenTree) (old now new : Forest) → (le
 led_some c [] old now new some is1 is2 = let wrong : true ≡ false = some in cc
 led_some c (tree ∷ trees) old now new some is1 is2 = joined_two old (mark c) (put (tree ∷ trees)) now new is1 is2
 
--- a keyword, or none
+-- the keyword of a parameter of the given kind
 pub keyword_is : (kind was : ParamKind) (old new : Forest) → was ≡ kind → new ≡ joined old (keyword kind)
     → new ≡ joined old (keyword was)
 keyword_is kind was old new is put = subst (λ k. new ≡ joined old (keyword k)) (sym is) put
 
--- what a parameter of this kind adds
+-- the bound on a parameter of the given kind
 pub bound_is : (bound : Forest) (param : ParamTrees) (kind : ParamKind) (any more : Bool) (old new : Forest)
     → param.kind ≡ kind
     → (new ≡ joined old (listed_after any leads.Where (bounded_as bound param kind [])))
@@ -167,7 +167,7 @@ where_only predicates = ap (listed leads.Where) (sym (append-nil (map predicate_
 pub from_none : (start now written : Forest) → start ≡ nil → now ≡ joined start written → now ≡ written
 from_none start now written none is = is ∙ ap (λ s. joined s written) none
 
--- all before a where clause, of a copy of the path and of the name, and of the parameters read twice
+-- the header up to the where clause, from copies of the path and the name and from parameters that are read twice
 pub front_written : (params again : List ParamTrees) (name copy : Name) (path path2 start q1 q2 q3 q4 q5 q6 : Forest)
     → start ≡ nil → q1 ≡ joined start (word (codes "impl")) → q2 ≡ joined q1 (impl_generics params)
     → q3 ≡ joined q2 path2 → path2 ≡ path → q4 ≡ joined q3 (word (codes "for"))

@@ -1,4 +1,4 @@
--- Lists that are written element by element.
+-- The loops that write lists element by element.
 use Rattle.std.proofs.Common.{◌≡◌, refl, sym, ◌∙◌, ap, subst, ◌<◌, Bool, true, false, List, [], ◌∷◌, ◌++◌}
 use Rattle.std.proofs.Common.{arith, length, map}
 use Rattle.declarations.proofs.ParamLemmas.{fewer_param, one_param}
@@ -15,7 +15,7 @@ use Rattle.pm_stream.specs.declared.stream.TokenTree.{TokenTree}
 use Rattle.proc_macro2.specs.Building.{split}
 use Rattle.proc_macro2.specs.Forest.{Forest, joined}
 
--- ---- elements after others
+-- ---- lists with more elements at the end
 
 any_more : {A : Type 0} → (elements : List A) → any_of true elements ≡ true
 any_more [] = refl
@@ -61,7 +61,7 @@ pub map-snoc : {A B : Type 0} → (f : A → B) (front : List A) (element : A)
 map-snoc f [] element = refl
 map-snoc f (first ∷ front) element = ap (λ r. f first ∷ r) (map-snoc f front element)
 
--- one element more after those that were put in
+-- one more element after those that were added
 pub put_more : (any : Bool) (lead : Lead) (old now lead_done new : Forest) (front : List Forest) (element : Forest)
     → now ≡ joined old (listed_after any lead front) → lead_done ≡ joined now (lead_of (any_of any front) lead)
     → new ≡ joined lead_done element → new ≡ joined old (listed_after any lead (front ++ element ∷ []))
@@ -72,7 +72,7 @@ put_more any lead old now lead_done new front element is led is_new =
     ∙ ap (λ f. joined f (joined lead_here element)) is ∙ joined_assoc old before (joined lead_here element)
     ∙ ap (joined old) (sym (listed-snoc any lead front element))
 
--- ---- parameters and predicates that were read
+-- ---- parameters and predicates one after the other
 
 pub params-snoc : (trees : List TokenTree) (params : List ParamTrees) (left : List TokenTree) (param : ParamTrees)
     (rest : List TokenTree) → AreParams trees params left → IsParamAt left param rest
@@ -89,9 +89,9 @@ predicates-snoc trees [] left predicate rest read is =
 predicates-snoc trees (first ∷ predicates) left predicate rest read is =
     (read.0, read.1, predicates-snoc read.0 predicates left predicate rest read.2 is)
 
--- ---- what the loops have put in
+-- ---- the states of the loops
 
--- of these trees, down to those that are left
+-- the parameters of the trees up to those that are left were added
 pub record PutParams (lead : Lead) (form : Form) (inside left : List TokenTree) (old now : Forest) (any : Bool)
     : Type 0 where
   pub done : List ParamTrees
@@ -197,7 +197,7 @@ bound_more bound any_before inside left rest old now new any any_now param so_fa
           ∙ ap (λ fs. any_of any_before fs) (sym all);
     }
 
--- ---- the parameters of an item are the only ones
+-- ---- an item has only one list of parameters
 
 same_params : (trees : List TokenTree) (params params2 : List ParamTrees) → AreParams trees params []
     → AreParams trees params2 [] → params2 ≡ params
@@ -240,14 +240,14 @@ one_params generics params params2 has has2 =
     let inside = same_within generics has.inside has2.inside has.within has2.within in
     same_params has.inside params params2 has.all (subst (λ t. AreParams t params2 []) inside has2.all)
 
--- ---- several parts put in, one after another
+-- ---- several parts that are added one after the other
 
 pub joined_two : (old first second now new : Forest) → now ≡ joined old first → new ≡ joined now second
     → new ≡ joined old (joined first second)
 joined_two old first second now new now_is new_is =
     new_is ∙ ap (λ f. joined f second) now_is ∙ joined_assoc old first second
 
--- ---- trees put in, one after another
+-- ---- trees that are added one after the other
 
 no_trees : (trees : List TokenTree) → length trees ≡ 0 → trees ≡ []
 no_trees [] none = refl

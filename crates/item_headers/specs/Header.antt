@@ -1,4 +1,4 @@
--- What is written of the parameters and the predicates of an item.
+-- The trees that are written for the parameters and the predicates of an item.
 use Rattle.std.specs.Prelude.{◌≡◌, List, [], ◌∷◌, ◌++◌, codes, map}
 use Rattle.declarations.specs.Param.{IsAfterWhere, IsParamAt, IsPredicateAt, IsWithin, ParamTrees, PredicateTrees}
 use Rattle.declarations.specs.declared.generics.ParamKind.{ParamKind}
@@ -14,52 +14,55 @@ use Rattle.item_headers.specs.declared.lists.Lead.TheVariants as leads
 use Rattle.item_headers.specs.declared.params.Form.{Form}
 use Rattle.item_headers.specs.declared.params.Form.TheVariants as forms
 
--- ---- what is read
+-- ---- the parameters and predicates of an item
 
--- the trees begin with these parameters, one after another, and others are left
+-- whether the trees are the given parameters, followed by the trees that are left
 abbrev pub AreParams : List TokenTree → List ParamTrees → List TokenTree → Type 0
 AreParams trees [] left = trees ≡ left
 AreParams trees (param ∷ params) left =
     (rest : List TokenTree) × IsParamAt trees param rest × AreParams rest params left
 
--- these are all the parameters in the brackets
+-- whether the parameters are all that are in the brackets
 pub record HasParams (generics : List TokenTree) (params : List ParamTrees) : Type 0 where
   pub inside : List TokenTree
   pub within : IsWithin generics inside
   pub all : AreParams inside params []
 
+-- whether the trees are the given predicates, followed by the trees that are left
 abbrev pub ArePredicates : List TokenTree → List PredicateTrees → List TokenTree → Type 0
 ArePredicates trees [] left = trees ≡ left
 ArePredicates trees (predicate ∷ predicates) left =
     (rest : List TokenTree) × IsPredicateAt trees predicate rest × ArePredicates rest predicates left
 
--- these are all the predicates of the clause
+-- whether the predicates are all that are in the where clause
 pub record HasPredicates (clause : List TokenTree) (predicates : List PredicateTrees) : Type 0 where
   pub inside : List TokenTree
   pub after : IsAfterWhere clause inside
   pub all : ArePredicates inside predicates []
 
--- ---- what is written
+-- ---- the trees that are written
 
+-- the keyword of a parameter: `const`, or none
 abbrev pub keyword : ParamKind → Forest
 keyword kinds.Const = word (codes "const")
 keyword _ = nil
 
--- a parameter without its default, or its name
+-- a parameter in the given form: without its default, or only its name
 abbrev pub param_in : Form → ParamTrees → Forest
 param_in forms.Declared param =
     joined (put param.attributes) (joined (keyword param.kind) (joined (put param.name) (led 58 param.bounds)))
 param_in forms.Named param = put param.name
 
--- `>` (62) after some parameters
+-- `>` (62), or nothing if there are no parameters
 abbrev pub closed : List ParamTrees → Forest
 closed [] = nil
 closed (param ∷ params) = mark 62
 
+-- the parameters in angle brackets, or nothing if there are none
 abbrev pub generics : Lead → Form → List ParamTrees → Forest
 generics lead form params = joined (listed lead (map (param_in form) params)) (closed params)
 
--- `<'a, T: A, const N: usize>`: the parameters without defaults; nothing where there are none
+-- `<'a, T: A, const N: usize>`: the parameters without defaults, or nothing if there are none
 abbrev pub impl_generics : List ParamTrees → Forest
 impl_generics params = generics leads.Angle forms.Declared params
 
@@ -75,12 +78,13 @@ turbofish params = generics leads.Turbofish forms.Named params
 abbrev pub predicate_in : PredicateTrees → Forest
 predicate_in predicate = joined (put predicate.bounded) (joined (mark 58) (put predicate.bounds))
 
--- a bound on each parameter that is a type
+-- the bound on a parameter of the given kind, if it is a type, before the other bounds
 abbrev pub bounded_as : Forest → ParamTrees → ParamKind → List Forest → List Forest
 bounded_as bound param kinds.Lifetime rest = rest
 bounded_as bound param kinds.Type rest = joined (put param.name) (joined (mark 58) bound) ∷ rest
 bounded_as bound param kinds.Const rest = rest
 
+-- the bound on the parameter, if it is a type, before the other bounds
 abbrev pub bounded : Forest → ParamTrees → List Forest → List Forest
 bounded bound param rest = bounded_as bound param param.kind rest
 
@@ -89,11 +93,11 @@ abbrev pub bounds_on_types : Forest → List ParamTrees → List Forest
 bounds_on_types bound [] = []
 bounds_on_types bound (param ∷ params) = bounded bound param (bounds_on_types bound params)
 
--- `where` and the predicates, the written ones and then more; nothing where there are none
+-- `where`, the predicates of the item and then more predicates, or nothing if there are none
 abbrev pub where_with : List PredicateTrees → List Forest → Forest
 where_with predicates more = listed leads.Where (map predicate_in predicates ++ more)
 
--- `impl`, the parameters, the trait, `for` and the type
+-- `impl`, the parameters, the trait, `for` and the type with its arguments
 abbrev pub front : List ParamTrees → Name → Forest → Forest
 front params name path =
     joined (word (codes "impl")) (joined (impl_generics params) (joined path (joined (word (codes "for"))

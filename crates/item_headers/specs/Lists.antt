@@ -1,4 +1,4 @@
--- Lists as they are written: what stands before each element.
+-- Lists as they are written, with the marks or the word before each element.
 use Rattle.std.specs.Prelude.{ℕ, Bool, true, false, List, [], ◌∷◌, codes}
 use Rattle.proc_macro2.specs.Building.{split, gathered}
 use Rattle.proc_macro2.specs.Forest.{Forest, nil, leaf, joined}
@@ -7,43 +7,45 @@ use Rattle.pm_stream.specs.declared.stream.TokenTree.{TokenTree}
 use Rattle.item_headers.specs.declared.lists.Lead.{Lead}
 use Rattle.item_headers.specs.declared.lists.Lead.TheVariants as leads
 
--- a mark that is Alone, and a word, which stand nowhere
+-- a mark that is Alone, with a span that points to no text
 abbrev pub mark : ℕ → Forest
 mark c = leaf (Mark c false) 0 0 nil
 
+-- a word, with a span that points to no text
 abbrev pub word : List ℕ → Forest
 word name = leaf (Name false name) 0 0 nil
 
--- the trees as they stand in a stream that they are put into
+-- the trees after they were pushed to a quote: a negative literal becomes two trees
 abbrev pub put : List TokenTree → Forest
 put trees = gathered split trees
 
--- the mark (`:` is 58) and these trees, or nothing where there are none
+-- the mark (`:` is 58) and the trees, or nothing if there are no trees
 abbrev pub led : ℕ → List TokenTree → Forest
 led c [] = nil
 led c (tree ∷ trees) = joined (mark c) (put (tree ∷ trees))
 
--- what stands before the first element: `<` (60), `::<` whose first `:` (58) is Joint, or `where`
+-- the trees before the first element: `<` (60), `::<` whose first `:` (58) is Joint, or `where`
 abbrev pub first_lead : Lead → Forest
 first_lead leads.Angle = mark 60
 first_lead leads.Turbofish = leaf (Mark 58 true) 0 0 (joined (mark 58) (mark 60))
 first_lead leads.Where = word (codes "where")
 
--- before an element, which some others stand before or none: a `,` (44) before all but the first
+-- the trees before an element: `,` (44) if the `Bool` is true, or else those before the first element
 abbrev pub lead_of : Bool → Lead → Forest
 lead_of true lead = mark 44
 lead_of false lead = first_lead lead
 
--- the elements after some others or none, each after what stands before it
+-- the elements, each with the trees before it. The `Bool` is whether other elements come before them
 abbrev pub listed_after : Bool → Lead → List Forest → Forest
 listed_after any lead [] = nil
 listed_after any lead (element ∷ elements) =
     joined (lead_of any lead) (joined element (listed_after true lead elements))
 
+-- the elements of a whole list, each with the trees before it
 abbrev pub listed : Lead → List Forest → Forest
 listed lead elements = listed_after false lead elements
 
--- whether there are elements, of these or before them
+-- whether there are elements before the list or in it
 abbrev pub any_of : {A : Type 0} → Bool → List A → Bool
 any_of any [] = any
 any_of any (element ∷ elements) = true

@@ -54,10 +54,11 @@ pub fn where_clause_with(
     Ok(quote.into_stream())
 }
 
-/// Returns the where clause of the item with this bound on each parameter that is a type.
+/// Returns the where clause of the item with one more bound on each type parameter.
 ///
-/// For `struct S<'a, T, U, const N: usize> where T: A` and `B` it is `where T: A, T: B, U: B`. The error is `Fault` if
-/// the generic parameters or the where clause are not those of an item. The trees of the bound are not checked.
+/// For `struct S<'a, T, U, const N: usize> where T: A` and the bound `B` it is `where T: A, T: B, U: B`. The error is
+/// `Fault` if the generic parameters or the where clause are not those of an item. The trees of the bound are not
+/// checked.
 pub fn where_clause_with_bound(
     alloc: Global,
     item: &TypeItem<'_>,
@@ -97,6 +98,7 @@ pub(crate) fn push_where(
     Ok(any)
 }
 
+/// Writes a predicate at the end of the quote.
 fn push_predicate(quote: &mut Quote, predicate: &Predicate<'_>) -> Result<(), AllocError>
     ensures { OnOk result (quote.new ≡ joined quote.old (predicate_in (predicate_trees predicate.now))) }
 {
@@ -106,7 +108,8 @@ fn push_predicate(quote: &mut Quote, predicate: &Predicate<'_>) -> Result<(), Al
     Ok(())
 }
 
-/// Writes the bound on each parameter that is a type at the end of a where clause, which may be empty so far.
+/// Writes the bound on each type parameter at the end of the quote. `any` is whether the where clause has predicates
+/// already.
 fn push_bounds(
     quote: &mut Quote,
     alloc: Global,
@@ -129,7 +132,8 @@ fn push_bounds(
     Ok(())
 }
 
-/// Writes the bound on a parameter at the end if it is a type, and returns whether there are any predicates now.
+/// Writes the bound at the end of the quote if the parameter is a type. Returns whether the where clause has predicates
+/// now.
 fn push_bound(
     quote: &mut Quote,
     alloc: Global,

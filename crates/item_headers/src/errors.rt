@@ -1,4 +1,4 @@
-//! Why no header is written.
+//! The error of the calls.
 ghost use Rattle.std.specs.Prelude.{◌≡◌};
 
 use declarations::Fault;
@@ -8,7 +8,7 @@ use std::alloc::AllocError;
 use std::error::Error;
 use std::fmt;
 
-/// Why no header is written.
+/// The error of a call: the item's parameters or predicates are wrong, or memory ran out.
 #[derive(Debug, Drop, PartialEq)]
 pub enum HeaderError {
     /// The generic parameters or the where clause are not those of the grammar. The field `at` counts trees from the
@@ -17,14 +17,16 @@ pub enum HeaderError {
     Fault(Fault),
     /// A keyword or a mark could not be written, because memory ran out.
     Keyword(IdentError),
-    /// Memory ran out. No call gives another error of a quote.
+    /// Memory ran out. No call returns any other error of a quote.
     Quote(QuoteError),
 }
 
 impl HeaderError {
     ghost use Rattle.item_headers.specs.Message.{header_span};
 
-    /// Returns the span of the tree that does not fit, or `None` if trees are missing at the end or for another error.
+    /// Returns the span of the tree that does not fit.
+    ///
+    /// Returns `None` if trees are missing at the end, and for any error but `Fault`.
     pub fn span(&self) -> Option<Span>
         ensures { result ≡ header_span self.now }
     {

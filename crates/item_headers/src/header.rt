@@ -1,4 +1,4 @@
-//! The front of an `impl`.
+//! The header of an `impl`.
 ghost use Rattle.std.specs.Prelude.{◌≡◌, [], IfErr, IfOk, List};
 ghost use Rattle.declarations.specs.Param.{ParamTrees, PredicateTrees};
 ghost use Rattle.item_headers.specs.Fault.{HasNoParams, HasNotBoth, IfFault};
@@ -33,7 +33,7 @@ pub fn impl_header(
     Ok(quote.into_stream())
 }
 
-/// Returns the header of an `impl` as [`impl_header`] does, but with this where clause instead of the item's.
+/// Returns the header of an `impl` as [`impl_header`] does, but with another where clause instead of the item's.
 ///
 /// Take the clause from a call such as `where_clause_with`. An empty stream is no where clause. For
 /// `struct S<'a, T: A = B> where T: C { .. }`, `D<T>` and `where T: C, T: D<T>` the header is
@@ -55,7 +55,7 @@ pub fn impl_header_where(
     Ok(quote.into_stream())
 }
 
-/// Returns the header up to the where clause.
+/// Returns a quote with the header up to the where clause.
 fn front(alloc: Global, item: &TypeItem<'_>, trait_path: &TokenStream) -> Result<Quote, HeaderError>
     ensures ok { IfOk result (λ quote. (params : List ParamTrees) × HasParams item.now.generics.now params
         × (quote ≡ front params item.now.name.now trait_path.now)) }

@@ -1,4 +1,4 @@
-//! Words, marks and trees put into a quote, and what stands before each element of a list.
+//! Adds words, marks and trees to a quote, and the marks and words before each element of a list.
 ghost use Rattle.std.specs.Prelude.{◌≡◌, IsTrue, OnOk, true};
 ghost use Rattle.std.specs.Str.{chars};
 ghost use Rattle.item_headers.specs.Lists.{first_lead, lead_of, led, mark, put, word};
@@ -11,7 +11,7 @@ use proc_macro2::{Ident, IdentError, Punct, Spacing, Span, TokenTree};
 use quoting::Quote;
 use std::alloc::{AllocError, Global};
 
-/// What stands before the first element of a list.
+/// The marks or the word before the first element of a list.
 #[derive(Clone, Copy)]
 pub(crate) enum Lead {
     /// `<`
@@ -22,7 +22,7 @@ pub(crate) enum Lead {
     Where,
 }
 
-/// Puts a mark that is Alone at the end.
+/// Adds a mark that is Alone at the end of the quote.
 pub(crate) fn push_mark(quote: &mut Quote, character: char) -> Result<(), AllocError>
     requires { IsTrue (is_mark character) }
     ensures { OnOk result (quote.new ≡ joined quote.old (mark character)) }
@@ -30,7 +30,7 @@ pub(crate) fn push_mark(quote: &mut Quote, character: char) -> Result<(), AllocE
     quote.push(TokenTree::Punct(Punct::new(character, Spacing::Alone)))
 }
 
-/// Puts a word at the end.
+/// Adds a word at the end of the quote.
 pub(crate) fn push_word(quote: &mut Quote, alloc: Global, name: &str) -> Result<(), IdentError>
     ensures { OnOk result (quote.new ≡ joined quote.old (word (chars name.now))) }
 {
@@ -39,7 +39,7 @@ pub(crate) fn push_word(quote: &mut Quote, alloc: Global, name: &str) -> Result<
     Ok(())
 }
 
-/// Puts copies of these trees at the end.
+/// Adds copies of the trees at the end of the quote.
 pub(crate) fn push_trees(quote: &mut Quote, trees: &[TokenTree]) -> Result<(), AllocError>
     ensures { OnOk result (quote.new ≡ joined quote.old (put trees.now)) }
 {
@@ -52,7 +52,7 @@ pub(crate) fn push_trees(quote: &mut Quote, trees: &[TokenTree]) -> Result<(), A
     Ok(())
 }
 
-/// Puts `:` and copies of these trees at the end, if there are any.
+/// Adds `:` and copies of the trees at the end of the quote, or nothing if there are no trees.
 pub(crate) fn push_led(quote: &mut Quote, trees: &[TokenTree]) -> Result<(), AllocError>
     ensures { OnOk result (quote.new ≡ joined quote.old (led 58 trees.now)) }
 {
@@ -64,7 +64,7 @@ pub(crate) fn push_led(quote: &mut Quote, trees: &[TokenTree]) -> Result<(), All
     Ok(())
 }
 
-/// Puts what stands before an element at the end: the first, or one after others.
+/// Adds the marks or the word before an element of a list: `,` if `any` elements come before it, or else `lead`.
 pub(crate) fn push_lead(
     quote: &mut Quote,
     alloc: Global,
@@ -79,6 +79,7 @@ pub(crate) fn push_lead(
     push_first_lead(quote, alloc, lead)
 }
 
+/// Adds the marks or the word before the first element of a list.
 fn push_first_lead(quote: &mut Quote, alloc: Global, lead: Lead) -> Result<(), IdentError>
     ensures { OnOk result (quote.new ≡ joined quote.old (first_lead lead)) }
 {
@@ -89,7 +90,7 @@ fn push_first_lead(quote: &mut Quote, alloc: Global, lead: Lead) -> Result<(), I
     }
 }
 
-/// Puts `::<` at the end.
+/// Adds `::<` at the end of the quote.
 fn push_turbofish(quote: &mut Quote) -> Result<(), AllocError>
     ensures { OnOk result (quote.new ≡ joined quote.old (first_lead leads.Turbofish)) }
 {
@@ -99,7 +100,7 @@ fn push_turbofish(quote: &mut Quote) -> Result<(), AllocError>
     Ok(())
 }
 
-/// Puts a `:` that is Joint at the end.
+/// Adds a `:` that is Joint at the end of the quote.
 fn push_joint_colon(quote: &mut Quote) -> Result<(), AllocError>
     ensures { OnOk result (quote.new ≡ joined quote.old (leaf (Mark 58 true) 0 0 nil)) }
 {

@@ -1,4 +1,4 @@
-//! Generic parameters, without their defaults or by their names.
+//! The generic parameters and arguments of an item.
 ghost use Rattle.std.specs.Prelude.{◌≡◌, IfErr, IfOk, List, OnOk};
 ghost use Rattle.declarations.specs.Param.{ParamTrees, param_trees};
 ghost use Rattle.item_headers.specs.Fault.{HasNoParams, IfFault};
@@ -20,11 +20,11 @@ use std::alloc::Global;
 pub(crate) enum Form {
     /// The parameter without its default.
     Declared,
-    /// Its name.
+    /// Only the name of the parameter.
     Named,
 }
 
-/// Returns the generic parameters of an `impl` for the item: the item's own with attributes and without defaults.
+/// Returns the generic parameters of an `impl` for the item: the item's own, with attributes but without defaults.
 ///
 /// For `struct S<'a, T: A = B, const N: usize = 3>` they are `<'a, T: A, const N: usize>`. The stream is empty if the
 /// item has none. The error is `Fault` if the trees are not the generic parameters of an item.
@@ -77,7 +77,7 @@ pub fn turbofish(alloc: Global, item: &TypeItem<'_>) -> Result<TokenStream, Head
     Ok(quote.into_stream())
 }
 
-/// Writes the parameters in angle brackets at the end of the quote.
+/// Writes the parameters in angle brackets at the end of the quote, or nothing if there are none.
 pub(crate) fn push_generics(
     quote: &mut Quote,
     alloc: Global,
@@ -104,6 +104,7 @@ pub(crate) fn push_generics(
     Ok(())
 }
 
+/// Writes a parameter in the given form at the end of the quote.
 fn push_param(
     quote: &mut Quote,
     alloc: Global,

@@ -1,4 +1,4 @@
-//! Tests of what a derive writes: items, and the fronts of the `impl`s for them.
+//! Tests of the trees that a derive writes: items, and the headers of the `impl`s for them.
 #![tactic(auto)]
 
 #[cfg(test)]

@@ -1,4 +1,4 @@
-// Items, and what is written for them, as it is printed. What is printed is read again.
+// Items, and the printed text of each call for them. The text is parsed again.
 use declarations::{ItemKind, TypeItem, parse_item, parse_type_item, split_expression};
 use item_headers::{
     HeaderError, impl_generics, impl_header, impl_header_where, turbofish, type_generics,
@@ -9,8 +9,8 @@ use std::alloc::{AllocError, Global};
 use std::process::Abort;
 use std::test::Fail;
 
-/// An item, and what is printed of it for the trait `Z<'b>`, the predicate `X: Y` and the bound `Z<'b>`. A header is
-/// the front and a where clause.
+/// An item, and the printed text of each call with the trait `Z<'b>`, the predicate `X: Y` and the bound `Z<'b>`. A
+/// header is `front` and a where clause.
 #[derive(Clone, Copy)]
 struct Row {
     item: &'static str,
@@ -55,7 +55,7 @@ const ROWS: &[Row] = &[
         bound: "where T : D , T : Z <'b > , U : Z <'b >",
         front: "impl < 'a , T : A < B >, const N : usize , U > Z <'b > for S < 'a , T , N , U >",
     },
-    // The where clause of a tuple struct stands after its fields.
+    // The where clause of a tuple struct is after its fields.
     Row {
         item: "pub struct W<T = u8, const B: bool = true>(pub T, [T; 2]) where T: Copy + 'static, [T; 2]:;",
         impl_generics: "< T , const B : bool >",
@@ -157,7 +157,7 @@ fn an_impl_has_the_parameters_of_its_type(rt: HostRuntime) -> Result<(), Fail> {
     Ok(())
 }
 
-/// Of an item with the parameters and the where clause that are written the same is written again.
+/// Asserts that the calls give the same trees for an item with the parameters and the where clause that were written.
 fn check_written_again(rt: &(impl Abort + AllocGlobal), row: Row) -> Result<(), Fail> {
     let text = format!(in rt.alloc(); "enum E {} {} {{}}", row.impl_generics, row.where_clause)?;
     let stream = TokenStream::from_str(&text, &mut SourceMap::new(rt.alloc()))?;
@@ -165,7 +165,7 @@ fn check_written_again(rt: &(impl Abort + AllocGlobal), row: Row) -> Result<(), 
     check_parts(rt, row, &item)
 }
 
-/// With braces a header is one `impl`.
+/// Asserts that a header with braces is one `impl`.
 fn check_impl(rt: &(impl Abort + AllocGlobal), row: Row, clause: &str) -> Result<(), Fail> {
     let header = header_text(rt.alloc(), row, clause)?;
     let text = format!(in rt.alloc(); "{header} {{}}")?;

@@ -6,12 +6,18 @@ use crate::watched::{begin, show};
 use proc_macro2::{
     Delimiter, Group, Ident, Punct, SourceMap, Spacing, Span, TokenStream, TokenTree,
 };
-use quoting::{Hole, Quote};
+use quoting::{Hole, Number, Quote, TemplateError, Value, Values};
 use std::alloc::Global;
 use std::io::Write;
 
 /// A template with a name in a group, and a repetition with a group.
 const TEMPLATE: &str = "[#one] #((#each)),*";
+
+/// A template with values, and a repetition inside a repetition.
+const VALUES: &str = "#name #text #number #(#(#row)*)*";
+
+/// A text that is too long to be kept in a token.
+const LETTERS: &str = "abcdefghijabcdefghijabcdefghijabcdefghij";
 
 /// Pushes trees to a quote of `x (+ y)`, whose `+` is Joint, or fills it, or takes its stream, and then writes what it
 /// gives. It is filled with the given template, or with `TEMPLATE` if that is empty.
@@ -24,6 +30,8 @@ pub fn run<W: Write>(alloc: Global, out: &mut W, call: &str, given: &str) -> Res
             "push_stream" => push_stream(alloc, out, &mut quote)?,
             "fill" => fill(alloc, out, &mut quote, template)?,
             "parse" => parse(alloc, out, &mut quote)?,
+            "values" => values(alloc, out, &mut quote)?,
+            "list" => list(alloc, out)?,
             "finish" => finish(out, &quote)?,
             _ => return Err(Fail::NoCase),
         }
@@ -62,6 +70,48 @@ fn fill<W: Write>(
     ];
     begin(out)?;
     show(out, quote.fill(&template, &holes))
+}
+
+/// Fills a template with a name, a text and a negative number, and a list of lists.
+fn values<W: Write>(alloc: Global, out: &mut W, quote: &mut Quote) -> Result<(), Fail> {
+    let template = TokenStream::from_str(VALUES, &mut SourceMap::new(alloc))?;
+    let mut rows = Values::new(alloc);
+    rows.push(Value::Strings(&["s", "t"]))?;
+    begin(out)?;
+    let done = fill_values(
+        quote,
+        &template,
+        &Value::Name(LETTERS),
+        &Value::String(LETTERS),
+        &Value::Number(Number::I8(-7)),
+        &Value::List(rows),
+    );
+    show(out, done)
+}
+
+/// Fills the template with these values.
+fn fill_values<'a>(
+    quote: &mut Quote,
+    template: &TokenStream,
+    name: &'a Value<'a>,
+    text: &'a Value<'a>,
+    number: &'a Value<'a>,
+    row: &'a Value<'a>,
+) -> Result<(), TemplateError> {
+    let holes = [
+        Hole::of("name", name),
+        Hole::of("text", text),
+        Hole::of("number", number),
+        Hole::of("row", row),
+    ];
+    quote.fill(template, &holes)
+}
+
+/// Puts a list of a text in a list that has no room.
+fn list<W: Write>(alloc: Global, out: &mut W) -> Result<(), Fail> {
+    let mut list = Values::new(alloc);
+    begin(out)?;
+    show(out, list.push(Value::Strings(&[LETTERS])))
 }
 
 /// Parses the template's text, which becomes a file of a map, and fills it.

@@ -1,8 +1,8 @@
 //! Prints streams on lines for people.
 //!
 //! [`to_pretty_string`] writes a stream's tokens on lines of at most 100 columns where that is possible. The text reads
-//! back to the stream with its marks respaced, whatever gaps the rules here choose. The crate `layout` promises this of
-//! every layout.
+//! back to the stream with its marks respaced, whatever gaps the rules here choose. The crate `layout` promises this
+//! for every layout.
 #![tactic(auto)]
 
 ghost use Rattle.std.specs.Prelude.{◌≡◌, Err, IfErr, IfOk, string_bytes};
@@ -77,7 +77,7 @@ pub fn to_pretty_string(alloc: Global, stream: &TokenStream) -> Result<String, Q
     }
 }
 
-/// The tokens of a stream as text for people, if it is well spaced.
+/// Returns the tokens of the stream as text for people, or `NotWellSpaced` if the stream is not well spaced.
 fn lay_out(alloc: Global, stream: &TokenStream) -> Result<String, LayoutError>
     ensures spaced { IfOk result (λ text. IsWellSpaced stream.now) }
     ensures layout { IfOk result (λ text. IsLayout stream.now (chars (string_bytes text))) }

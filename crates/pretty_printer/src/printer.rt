@@ -1,4 +1,4 @@
-//! Chooses the gaps: where lines break, and how far in they begin.
+//! Chooses the gaps: the line breaks, and the columns at which lines begin.
 use crate::atoms::{Atom, Kind, NO_LINE, Role, Unread, Word, push_list};
 use crate::chains::{Chain, Chains, NOWHERE, chain_at};
 use crate::lists::{after, atom, before, is_tall, width};
@@ -8,104 +8,104 @@ use layout::Gap;
 use proc_macro2::TokenStream;
 use std::alloc::{AllocError, Global};
 
-/// How many columns a line has.
+/// The number of columns of a line.
 const WIDTH: usize = 100;
 
-/// How far in a block stands.
+/// The number of columns by which a block is indented.
 const TAB: usize = 4;
 
-/// No line begins further in, so that a text that is nested deeply takes room in proportion to its length.
+/// The largest column at which a line begins. It keeps the size of a deeply nested text in proportion to its tokens.
 const DEEPEST: usize = 60;
 
-/// No chain of calls, and no list of arguments, is wider on one line.
+/// The largest width of a chain of calls, and of a list of arguments, on one line.
 const CHAIN: usize = 60;
 
-/// How wide an element is at most of which several stand on one line.
+/// The largest width of an element if several elements share a line.
 const SHORT: usize = 11;
 
-/// How many atoms stand before the generics of an item at most, as those of `pub(in a) const unsafe extern "C" fn f`.
+/// The largest number of atoms before an item's generics, as in `pub(in a) const unsafe extern "C" fn f`.
 const HEAD: usize = 8;
 
-/// No group.
+/// The index of a missing group.
 const NO_GROUP: usize = usize::MAX;
 
-/// How the atoms of a list are written.
+/// The style in which the atoms of a list are written.
 #[derive(Clone, Copy, PartialEq)]
 enum Style {
     /// On one line.
     Flat,
-    /// As if the delimiters were not there: the last part goes on over the next lines.
+    /// As if there were no delimiters: the last part goes on over the next lines.
     Open,
-    /// Each part on a line of its own.
+    /// Each part on its own line.
     Lines,
 }
 
 /// A list that is written.
 #[derive(Clone, Copy)]
 struct Frame {
-    /// Its group, or `NO_GROUP`.
+    /// The group of the list, or `NO_GROUP`.
     group: usize,
     first: usize,
     end: usize,
-    /// The atom that comes next.
+    /// The index of the next atom.
     at: usize,
     style: Style,
-    /// Where its parts and its closer stand.
+    /// The columns of its parts and of its closer.
     lines: usize,
     close: usize,
-    /// From this part on, as many as fit stand on one line.
+    /// From the part with this number on, as many parts as fit share a line.
     mixed: usize,
-    /// How many parts began, and whether the last has the braces of a `use`.
+    /// The number of parts that began, and whether the last one has the braces of a `use`.
     parts: usize,
     has_use: bool,
-    /// The part that is written, and whether it is on one line.
+    /// The start and end of the part that is written, and whether it is on one line.
     start: usize,
     part_end: usize,
     flat: bool,
-    /// Where the part stands, what goes on with it, and its chain of calls.
+    /// The columns of the part, of the lines that continue it, and of its chain of calls.
     indent: usize,
     deep: usize,
     chain: usize,
-    /// Up to where lines were broken before operators, and whether any was.
+    /// The index up to which lines were broken before operators, and whether any was broken.
     operators_until: usize,
     operators: bool,
-    /// From where and up to where the chain goes whose lines are broken; nowhere if these are the same.
+    /// The range of the chain whose lines are broken. It is empty if there is none.
     chain_from: usize,
     chain_until: usize,
-    /// Up to where the last chain goes that is in no other, and whether it has dots.
+    /// The end of the last chain that is not in another one, and whether it has dots.
     read_until: usize,
     read_dots: bool,
-    /// How many `<` are open since the last `where` whose lines are broken, and whether that was the last atom. If
-    /// there was none, `NOWHERE`.
+    /// The number of `<` that are open since the last `where` whose lines are broken, or `NOWHERE` if there was none.
+    /// `after_where` is whether that `where` was the last atom.
     where_depth: usize,
     after_where: bool,
 }
 
-/// Chooses the gaps of a stream, one after another.
+/// Chooses the gaps of a stream, one after the other.
 #[derive(Drop)]
 pub struct Printer<'a> {
-    /// The atoms of the stream's own list, and after them those inside the groups of the part that is written.
+    /// The atoms of the stream's outermost list, followed by those inside the groups of the part that is written.
     atoms: Vec<Atom>,
     groups: Vec<Unread<'a>>,
-    /// How many of them are of the stream's own list, and where the groups of the next part begin.
+    /// The number of atoms and groups of the outermost list, and the index of the next part's first group.
     top: usize,
     top_groups: usize,
     next_group: usize,
-    /// For indexes.
+    /// Scratch memory for indexes.
     opens: Vec<usize>,
-    /// The list that is written, and those around it.
+    /// The list that is written, and the lists around it.
     list: Frame,
     outer: Vec<Frame>,
     chains: Chains,
-    /// How many characters the line has, and how many of them are spaces at its beginning.
+    /// The number of characters on the line so far, and of the spaces at its beginning.
     column: usize,
     indent: usize,
-    /// How many tokens come with no gap, as they are of one atom.
+    /// The number of next tokens that have no gap before them, since they are of the same atom.
     joined: usize,
     failure: Option<AllocError>,
 }
 
-/// A list of which nothing is written.
+/// Returns the frame of a list of which nothing is written.
 fn unwritten(group: usize, first: usize, end: usize, style: Style) -> Frame {
     Frame {
         group,
@@ -136,7 +136,7 @@ fn unwritten(group: usize, first: usize, end: usize, style: Style) -> Frame {
 }
 
 impl<'a> Printer<'a> {
-    /// Chooses the gaps of this stream.
+    /// Returns a printer of this stream.
     pub fn new(alloc: Global, stream: &'a TokenStream) -> Result<Printer<'a>, AllocError> {
         let mut atoms = Vec::new(alloc);
         let mut groups = Vec::new(alloc);
@@ -163,7 +163,7 @@ impl<'a> Printer<'a> {
         })
     }
 
-    /// The gap before the next token, opener or closer. Once memory ran out, any.
+    /// Returns the gap before the next token, opener or closer. After memory ran out, the gap has no meaning.
     #[inline(always)]
     pub fn next_gap(&mut self) -> Gap {
         if self.joined > 0 {
@@ -182,7 +182,7 @@ impl<'a> Printer<'a> {
         }
     }
 
-    /// Fails where memory ran out.
+    /// Fails if memory ran out.
     pub fn finish(self) -> Result<(), AllocError> {
         match self.failure {
             Some(error) => Err(error),
@@ -216,7 +216,7 @@ impl<'a> Printer<'a> {
             let group = *group;
             self.read_group(group)?;
         }
-        // Groups stand before those inside them, and are measured after them.
+        // A group is before those inside it in the list, but is measured after them.
         let past = self.next_group;
         let count = self.groups.len();
         self.measure_groups(top_groups, count);
@@ -241,7 +241,7 @@ impl<'a> Printer<'a> {
         Ok(())
     }
 
-    /// Measures these groups, the last first.
+    /// Measures the groups in `from..until`, the last one first.
     fn measure_groups(&mut self, from: usize, until: usize) {
         for passed in from..until {
             let place = until
@@ -264,7 +264,7 @@ impl<'a> Printer<'a> {
         atom(self.atoms.as_slice(), index)
     }
 
-    /// The atom before this one in its part.
+    /// Returns the atom before this index in the part that is written.
     fn previous(&self, index: usize) -> &Atom {
         let start = self.list.start;
         before(self.atoms.as_slice(), start, index)
@@ -278,17 +278,17 @@ impl<'a> Printer<'a> {
         is_tall(self.atoms.as_slice(), from, end)
     }
 
-    /// Whether so many characters more fit on the line.
+    /// Returns whether `more` characters fit on the line.
     fn fits(&self, more: usize) -> bool {
         self.column.saturating_add(more) <= WIDTH
     }
 
-    /// Whether these atoms fit on the line.
+    /// Returns whether these atoms and `more` characters fit on the line.
     fn fit(&self, from: usize, end: usize, more: usize) -> bool {
         !self.is_tall(from, end) && self.fits(self.width(from, end).saturating_add(more))
     }
 
-    /// Moves past a gap.
+    /// Moves the column past a gap.
     fn pass(&mut self, gap: Gap) {
         match gap {
             Gap::Nothing => {}
@@ -300,7 +300,7 @@ impl<'a> Printer<'a> {
         }
     }
 
-    /// Writes the next atom of the list, or its end, and answers the gap before it.
+    /// Writes the next atom of the list, or its closer, and returns the gap before it.
     #[inline(never)]
     fn step(&mut self) -> Result<Gap, AllocError> {
         if self.list.at >= self.list.end {
@@ -312,7 +312,7 @@ impl<'a> Printer<'a> {
         self.step_part()
     }
 
-    /// Writes the closer.
+    /// Writes the closer of the list, and returns the gap before it.
     fn close(&mut self) -> Gap {
         let gap = match self.list.style {
             Style::Flat => self.inner_gap(),
@@ -327,7 +327,7 @@ impl<'a> Printer<'a> {
         gap
     }
 
-    /// What stands inside the delimiters of a group that is on one line.
+    /// Returns the gap inside the delimiters of a group that is on one line.
     fn inner_gap(&self) -> Gap {
         let index = self.list.group;
         let group = self.atom(index);
@@ -338,7 +338,7 @@ impl<'a> Printer<'a> {
         }
     }
 
-    /// What stands before an atom on one line.
+    /// Returns the gap before an atom if its line does not break there.
     fn flat_gap(&self, index: usize) -> Gap {
         if self.atom(index).spaced {
             Gap::Space
@@ -359,7 +359,7 @@ impl<'a> Printer<'a> {
         Ok(gap)
     }
 
-    /// Writes an atom, of a group its opener, with its list in this style from this column on.
+    /// Writes an atom. Of a group it writes the opener; its list gets this style and begins at this column.
     fn write(&mut self, index: usize, style: Style, column: usize) -> Result<(), AllocError> {
         self.list.at = index.saturating_add(1);
         let own = self.atom(index);
@@ -391,7 +391,7 @@ impl<'a> Printer<'a> {
         Ok(())
     }
 
-    /// From which of its parts on several of a group stand on one line.
+    /// Returns the number of the part from which on several parts of the group share a line.
     fn mixed_from(&self, index: usize) -> usize {
         let own = *self.atom(index);
         let bang = self.previous(index);
@@ -414,7 +414,7 @@ impl<'a> Printer<'a> {
         usize::MAX
     }
 
-    /// Whether each part of the group is short.
+    /// Returns whether each part of the group is short.
     fn are_short(&self, own: &Atom) -> bool {
         let mut start = own.first;
         for _ in 0..own.parts {
@@ -492,7 +492,7 @@ impl<'a> Printer<'a> {
         Ok(gap)
     }
 
-    /// Whether it is the block of what stands before it.
+    /// Returns whether the atom is a block that belongs to the atoms before it.
     fn is_head(&self, index: usize) -> bool {
         let previous = self.previous(index);
         self.atom(index).role == Role::Block
@@ -502,7 +502,7 @@ impl<'a> Printer<'a> {
             && !previous.is_mark('!')
     }
 
-    /// The gap before a part, which begins now.
+    /// Begins a part, and returns the gap before it.
     fn begin_part(&mut self, index: usize) -> Result<Gap, AllocError> {
         let part_end = self.atom(index).part_end;
         let end = if part_end > index {
@@ -549,13 +549,13 @@ impl<'a> Printer<'a> {
         })
     }
 
-    /// Whether a part that begins here is so short that no rule breaks its line.
+    /// Returns whether a part that begins here is so short that no rule breaks its line.
     fn is_flat(&self, index: usize, end: usize) -> bool {
         self.atom(index).plain && self.fit(index, end, 0) && self.width(index, end) <= CHAIN
     }
 
-    /// Whether an empty line stands between the part that ended and the one from `index` to `end`: between two items,
-    /// if one of them has several lines or the second has an attribute.
+    /// Returns whether an empty line is between the part that ended and the one in `index..end`. It is there after an
+    /// item before an attribute, and between two items of which one has several lines.
     fn parts_items(&self, index: usize, end: usize) -> bool {
         let start = self.list.start;
         let past = self.list.part_end;
@@ -568,7 +568,7 @@ impl<'a> Printer<'a> {
         self.is_item(index, end) && (self.is_tall(start, past) || self.is_tall(index, end))
     }
 
-    /// Whether the part is an item.
+    /// Returns whether the part is an item.
     fn is_item(&self, start: usize, end: usize) -> bool {
         let first = self.atom(start);
         let last = before(self.atoms.as_slice(), start, end);
@@ -584,7 +584,7 @@ impl<'a> Printer<'a> {
         word && (last.is_mark(';') || last.is_brace())
     }
 
-    /// The gap before another atom of a part.
+    /// Returns the gap before an atom that is not the first of its part.
     fn part_gap(&mut self, index: usize) -> Gap {
         let bound = self.list.where_depth != NOWHERE && self.begins_bound(index);
         let previous = self.previous(index);
@@ -616,7 +616,7 @@ impl<'a> Printer<'a> {
         if binds && self.breaks_where(index) {
             self.list.where_depth = 0;
             self.list.after_where = true;
-            // After parameters a line each, whose closer stands alone on its line, it goes on there.
+            // If each parameter has its own line, `where` follows on the line of the closer.
             let alone = self.column == self.list.indent.saturating_add(1);
             return if alone && self.previous(index).is_round() {
                 Gap::Space
@@ -634,7 +634,7 @@ impl<'a> Printer<'a> {
         self.flat_gap(index)
     }
 
-    /// Whether what follows `=` fits on the next line, at this column, and doesn't on this one.
+    /// Returns whether the atoms after `=` fit on the next line, at this column, but not on this line.
     fn goes_below(&self, index: usize, column: usize) -> bool {
         let end = self.list.part_end;
         let wide = self.width(index, end);
@@ -657,8 +657,8 @@ impl<'a> Printer<'a> {
         chain.first == chain.last
     }
 
-    /// Whether the lines of the `where` of this index are broken: it stands before a body or at the end of an item.
-    /// In an impl without items they are not, if it has one bound and all of it fits on the line.
+    /// Returns whether the lines of the `where` at this index are broken. They are if it is before a body or at the end
+    /// of an item. But in an impl without items one bound stays on the line if it fits.
     fn breaks_where(&self, index: usize) -> bool {
         let end = self.list.part_end;
         let last = self.previous(end);
@@ -691,7 +691,7 @@ impl<'a> Printer<'a> {
         false
     }
 
-    /// Whether a bound of the last `where` begins with the atom, which comes next. Each is asked about once.
+    /// Returns whether a bound of the last `where` begins with the next atom. It must be called once for each atom.
     fn begins_bound(&mut self, index: usize) -> bool {
         if self.list.after_where {
             self.list.after_where = false;
@@ -707,7 +707,7 @@ impl<'a> Printer<'a> {
         false
     }
 
-    /// Whether the part ends with the atom, and that is braces.
+    /// Returns whether the part ends with the atom and it is a group in braces.
     fn is_last_brace(&self, index: usize) -> bool {
         index.saturating_add(1) == self.list.part_end && self.atom(index).is_brace()
     }
@@ -718,18 +718,18 @@ impl<'a> Printer<'a> {
         }
     }
 
-    /// Whether a group is on one line.
+    /// Returns whether a group is on one line.
     fn stays_flat(&self, index: usize) -> bool {
         let own = self.atom(index);
         if own.tall {
             return false;
         }
         if own.is_empty() && self.list.where_depth != NOWHERE && self.is_last_brace(index) {
-            // A body without statements, below bounds a line each.
+            // It is an empty body after bounds on their own lines.
             return false;
         }
         if own.role == Role::Attribute && own.end.saturating_sub(own.first) == 3 {
-            // A name and a value, as of a doc comment.
+            // The attribute has a name and a value, as a doc comment has.
             return true;
         }
         let tail = self.tail(index);
@@ -742,13 +742,13 @@ impl<'a> Printer<'a> {
         !called || own.width <= CHAIN.saturating_add(2) || earlier.is_word(Word::Fn)
     }
 
-    /// Whether characters have to follow an atom on its line.
+    /// Returns whether characters must follow the atom on its line.
     fn has_tail(&self, index: usize) -> bool {
         let next = index.saturating_add(1);
         next < self.list.part_end && !self.ends_tail(index, next)
     }
 
-    /// Whether what has to follow the atom of `index` on its line ends before the one of `later`.
+    /// Returns whether the atoms that must follow the one at `index` on its line end before `later`.
     fn ends_tail(&self, index: usize, later: usize) -> bool {
         let own = self.atom(later);
         let previous = self.previous(later);
@@ -759,7 +759,7 @@ impl<'a> Printer<'a> {
             || next_line && !previous.glued
     }
 
-    /// How many characters have to follow an atom on its line.
+    /// Returns the number of characters that must follow the atom on its line.
     fn tail(&self, index: usize) -> usize {
         let mut end = index.saturating_add(1);
         for later in index.saturating_add(1)..self.list.part_end {
@@ -773,13 +773,13 @@ impl<'a> Printer<'a> {
             .saturating_sub(self.atom(index).width);
         let last = self.previous(end);
         if end > index.saturating_add(1) && last.is_group() && !last.is_empty() {
-            // Only its opener has to.
+            // Of the last group only the opener must follow.
             return wide.saturating_sub(last.width).saturating_add(1);
         }
         wide
     }
 
-    /// Whether the last part of a group goes on over the next lines, as if no delimiters were there.
+    /// Returns whether the last part of a group goes on over the next lines, as if there were no delimiters.
     fn opens(&self, index: usize) -> bool {
         let own = *self.atom(index);
         if own.is_brace() || own.is_empty() || own.role == Role::Repeated {
@@ -816,7 +816,7 @@ impl<'a> Printer<'a> {
         if !closure && !(own.parts == 1 && dots < 2) {
             return false;
         }
-        // The opener isn't written yet.
+        // The opener is not written yet.
         !self.is_tall(start, body) && self.fits(self.width(own.first, body).saturating_add(5))
     }
 
@@ -862,7 +862,7 @@ impl<'a> Printer<'a> {
         self.list.operators = true;
     }
 
-    /// Whether there are such operators; if `tall`, such that not all before the last of them fits on the line.
+    /// Returns whether there are such operators. If `tall`, the atoms before the last of them must also not fit.
     fn has(&self, index: usize, stop: usize, wanted: Operator, tall: bool) -> bool {
         let mut last = index;
         for later in index.saturating_add(1)..stop {
@@ -887,7 +887,7 @@ impl<'a> Printer<'a> {
         }
     }
 
-    /// Whether the patterns have no paths and no fields.
+    /// Returns whether the patterns have no paths and no fields.
     fn are_plain(&self, index: usize, stop: usize) -> bool {
         for later in index..stop {
             let own = self.atom(later);
@@ -908,7 +908,7 @@ impl<'a> Printer<'a> {
             if !ends {
                 continue;
             }
-            // After the last comes the arm.
+            // The `=>` of the arm follows the last pattern.
             let more = if later == stop { 5 } else { 0 };
             let wide = self.width(start, later).saturating_add(more);
             if bar > index && column.saturating_add(wide) > WIDTH {
@@ -920,7 +920,7 @@ impl<'a> Printer<'a> {
         }
     }
 
-    /// Whether the generics of an item begin with the `<` of this index: it follows `impl`, or a name near the front.
+    /// Returns whether an item's generics begin with the `<` at this index. It follows `impl` or a name near the start.
     fn begins_generics(&self, index: usize) -> bool {
         if index.saturating_sub(self.list.start) > HEAD {
             return false;
@@ -939,8 +939,8 @@ impl<'a> Printer<'a> {
         }
     }
 
-    /// Writes each of the generics that begin here on a line, if they are too long for this one. No line breaks within
-    /// them else.
+    /// Puts each of the generics that begin here on its own line, if they are too long for this line. Otherwise no line
+    /// breaks within them.
     fn break_generics(&mut self, index: usize) {
         let mut close = index;
         let mut depth: usize = 0;
@@ -977,7 +977,7 @@ impl<'a> Printer<'a> {
         self.set_line(close, outer);
     }
 
-    /// The chain of calls that begins here, if it has dots.
+    /// Returns the chain of calls that begins here. Returns `None` if the chain around it is known to have no dots.
     fn next_chain(&mut self, index: usize) -> Result<Option<Chain>, AllocError> {
         if index >= self.list.read_until {
             let chain = chain_at(self.atoms.as_slice(), index, self.list.part_end);
@@ -997,8 +997,8 @@ impl<'a> Printer<'a> {
         Ok(Some(chain))
     }
 
-    /// Breaks the lines of the chain of calls that begins here before its dots, if it is too long. `used` says how many
-    /// characters stand before it on the line.
+    /// Breaks the lines of the chain of calls that begins here before its dots, if it is too long. `used` is the number
+    /// of characters before it on the line.
     fn break_chain(&mut self, index: usize, used: usize) -> Result<(), AllocError> {
         self.list.chain_from = 0;
         self.list.chain_until = 0;
@@ -1025,7 +1025,7 @@ impl<'a> Printer<'a> {
             .break_dots(list, index, (from, chain.end), self.list.chain)
     }
 
-    /// Whether no line of a chain breaks before its dots.
+    /// Returns whether no line of a chain breaks before its dots.
     fn stays_on_line(&self, chain: &Chain, index: usize) -> bool {
         if chain.after || self.is_tall(index, chain.last) {
             return false;
@@ -1038,7 +1038,7 @@ impl<'a> Printer<'a> {
         short || self.is_tall(index, chain.end) && self.is_short_call(chain, index)
     }
 
-    /// Whether only the arguments of the last call need several lines.
+    /// Returns whether only the arguments of the last call need several lines.
     fn is_short_call(&self, chain: &Chain, index: usize) -> bool {
         chain.call != NOWHERE
             && !self.atom(chain.call).is_empty()
@@ -1047,7 +1047,7 @@ impl<'a> Printer<'a> {
     }
 }
 
-/// Whether an expression may begin after the atom.
+/// Returns whether an expression may begin after the atom.
 fn begins_expression(previous: &Atom) -> bool {
     if previous.is_nothing() || previous.is_keyword() || previous.is_brace() {
         return true;
@@ -1059,7 +1059,7 @@ fn begins_expression(previous: &Atom) -> bool {
         )
 }
 
-/// The operators before which lines break, those that bind less before the others.
+/// The operators before which lines break, in the order of their precedence, the lowest first.
 #[derive(Clone, Copy, PartialEq)]
 enum Operator {
     Nothing,
@@ -1069,7 +1069,7 @@ enum Operator {
     Plus,
 }
 
-/// Which of them the atom is.
+/// Returns the operator that the atom is, if lines break before it.
 fn operator_of(own: &Atom) -> Operator {
     if own.role != Role::Between {
         Operator::Nothing
@@ -1086,7 +1086,7 @@ fn operator_of(own: &Atom) -> Operator {
     }
 }
 
-/// The column of what is inside something that begins at this one.
+/// Returns the column that is one level deeper than this one, but at most `DEEPEST`.
 fn deeper(column: usize) -> usize {
     column.saturating_add(TAB).min(DEEPEST)
 }

@@ -1,11 +1,11 @@
-//! What operators and groups mean where they stand.
+//! Finds the roles of operators and groups, which depend on the atoms around them.
 use crate::atoms::{Atom, Kind, Role, Sign, Word};
 use crate::lists::{after, atom, before, set_role};
 use crate::widths::wants_space;
 use proc_macro2::Delimiter;
 use std::alloc::AllocError;
 
-/// Gives the atoms of a list their roles. `block` says whether it may have statements. `opens` is for indexes.
+/// Sets the roles of a list's atoms. `block` is whether the list may have statements. `opens` is scratch memory.
 pub fn assign_roles(
     atoms: &mut Vec<Atom>,
     opens: &mut Vec<usize>,
@@ -21,7 +21,7 @@ pub fn assign_roles(
         depth: 0,
     };
     for index in first..end {
-        // Roles before it stand, and those after it are asked by no other: the angles may be paired as they come.
+        // Roles before this atom are set, and no pairing reads those after it. So angles can be paired in order.
         let open = atom(atoms.as_slice(), index);
         if open.is_mark('<') && open.role == Role::Plain {
             pair_angles(atoms, opens, index, end)?;
@@ -31,7 +31,7 @@ pub fn assign_roles(
     Ok(())
 }
 
-/// Finds the `<` and `>` that enclose types, from this `<` on.
+/// Finds the `<` and `>` around types, from the `<` at this index on.
 fn pair_angles(
     atoms: &mut Vec<Atom>,
     opens: &mut Vec<usize>,
@@ -64,14 +64,14 @@ fn pair_angles(
     Ok(())
 }
 
-/// Whether no type goes on with the atom, which stands after this one.
+/// Returns whether types end before the atom, which follows the atom `previous`.
 fn ends_types(atom: &Atom, previous: &Atom) -> bool {
     match atom.kind {
         Kind::Word(word) => matches!(
             word,
             Word::String | Word::If | Word::Let | Word::Match | Word::Else
         ),
-        // Braces may be the whole of an argument, as in `f::<{ N }>()`.
+        // Braces can be a whole argument, as in `f::<{ N }>()`.
         Kind::Group(_) => {
             atom.is_brace() && !matches!(previous.kind, Kind::Sign(Sign::One('<' | ',' | '=')))
         }
@@ -87,7 +87,7 @@ fn ends_types(atom: &Atom, previous: &Atom) -> bool {
     }
 }
 
-/// What the next braces belong to.
+/// The keyword that the next braces belong to.
 #[derive(Clone, Copy, PartialEq)]
 enum Head {
     Nothing,
@@ -96,29 +96,29 @@ enum Head {
     // Any other item.
     Item,
     Else,
-    // An `if` that gives a value, and its `else`.
+    // An `if` whose value is used, and its `else`.
     Branch,
     // `if`, `for`, `while`, `loop` or `match`.
     Other,
 }
 
-/// No statement begins.
+/// The `start` of a state in which no statement begins.
 const NO_START: usize = usize::MAX;
 
-/// What was read of a list.
+/// The state of the loop over a list.
 #[derive(Clone, Copy)]
 struct State {
-    // Where the statement or the arm begins. Right after braces that end one, the index of the atom after them.
+    // The index at which the statement or the arm begins. After braces that end one, it is the next index.
     start: usize,
     in_bars: bool,
     head: Head,
     last: Head,
-    // How many `<` are open.
+    // The number of open `<`.
     depth: usize,
 }
 
 impl State {
-    /// Gives the atom of this index its role, and says whether a space stands before it.
+    /// Sets the role of the atom at this index, and whether a space is before it.
     fn take(&mut self, atoms: &mut Vec<Atom>, first: usize, end: usize, index: usize) {
         let own = atom(atoms.as_slice(), index);
         let previous = before(atoms.as_slice(), first, index);
@@ -160,7 +160,7 @@ impl State {
         }
     }
 
-    /// Whether an `if` begins that gives a value, at this word, with which `head` begins.
+    /// Returns whether an `if` whose value is used begins at this word. The word begins `head`.
     fn take_head(&mut self, word: Word, head: Head, previous: &Atom, next: &Atom) -> bool {
         let item = matches!(head, Head::Fn | Head::Impl | Head::Item);
         if word == Word::For && (self.head == Head::Impl || next.is_mark('<')) {
@@ -215,7 +215,7 @@ impl State {
             return Role::Use;
         }
         if self.depth > 0 {
-            // An argument among types.
+            // An argument of a type.
             return Role::Expression;
         }
         let goes_on = next.is_mark('=')
@@ -249,7 +249,7 @@ impl State {
         }
     }
 
-    /// Whether a statement, an arm or an attribute ends with the group of this index, which is to have this role.
+    /// Returns whether a statement, an arm or an attribute ends with the group at this index, which gets this role.
     fn ends(&self, atoms: &[Atom], index: usize, role: Role, next: &Atom) -> bool {
         let passed = index.saturating_sub(self.start);
         if role == Role::Attribute {
@@ -279,7 +279,7 @@ impl State {
                 | Word::Enum
                 | Word::Extern
                 | Word::Pub => true,
-                // As `unsafe` and `async move`, or before `fn`.
+                // For example `unsafe` and `async move`, or a keyword before `fn`.
                 Word::Keyword => passed < 3 || self.last == Head::Fn,
                 Word::Name | Word::MacroRules => after(atoms, index, self.start).role == Role::Bang,
                 _ => false,
@@ -362,7 +362,7 @@ impl State {
     }
 }
 
-/// What begins with the word.
+/// Returns the kind of item or expression that begins with the word.
 fn head_of(word: Word) -> Option<Head> {
     Some(match word {
         Word::Fn => Head::Fn,
@@ -376,7 +376,7 @@ fn head_of(word: Word) -> Option<Head> {
     })
 }
 
-/// Of an operator that has two sides after a value.
+/// Returns the role of an operator that has two operands if it follows a value, and otherwise one.
 fn side(value: bool) -> Role {
     if value { Role::Between } else { Role::Before }
 }

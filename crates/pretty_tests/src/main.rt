@@ -1,8 +1,8 @@
-//! Writes what `pretty_printer` answers of the streams of standard input, for comparison with the record of it.
+//! Writes the pretty texts of the streams on standard input, for comparison with recorded ones.
 //!
-//! No contract tells where lines break. So `stdout` beside `stdin` records it of 1,000 streams, 100 texts as they are
-//! and the others as digests; `bench/pretty_record/remake.py` makes it anew. The status is 0 exactly where each row was
-//! one.
+//! No contract says where lines break. So `stdout` beside `stdin` records the texts of 1,000 streams: 100 in full and
+//! the others as digests. `bench/pretty_record/remake.py` makes the record again. The status is 0 exactly if every line
+//! of the input is a row.
 #![tactic(auto)]
 
 mod rows;

@@ -1,4 +1,4 @@
-//! Rows of streams, and what is written of each.
+//! Rows of streams, and the line or text that is written for each.
 use literal_escaper::unescape_str;
 use pretty_printer::to_pretty_string;
 use proc_macro2::{ParseError, Punct, Spacing, TokenStream, TokenTree};
@@ -7,17 +7,17 @@ use std::alloc::{AllocError, Global};
 use std::io;
 use std::io::Write;
 
-/// What stands before the record.
+/// The text before the record.
 const HEAD: &str =
     "This record detects change and proves nothing right: it is what the code answered when it was made.
 bench/pretty_record/remake.py makes it anew, tells how many streams moved, and shows ten of them before and after.
 ";
 
-/// Writes the head, and of each row the pretty text of its stream, and answers how many rows are none.
+/// Writes the head and the pretty text of each row's stream. Returns the number of lines that are not rows.
 ///
-/// A row is a word, a space, and a text, written as the content of a string literal. `text` wants the pretty text of
-/// the stream that the text is, `joint` that of the stream whose outermost marks are all Joint, and `digest` a digest
-/// of the pretty text, but where `whole` wants all as they are.
+/// A row is a word, a space, and the content of a string literal, whose value is parsed as a stream. For `text` the
+/// stream's pretty text is written. For `joint` the outermost marks are made Joint first. For `digest` a digest of the
+/// pretty text is written, unless `whole` is true.
 pub fn write_rows<W: Write>(
     alloc: Global,
     lines: &str,
@@ -44,7 +44,7 @@ pub fn write_rows<W: Write>(
     Ok(wrong)
 }
 
-/// The stream of a row.
+/// Returns the stream of a row, or `None` if it is not a row.
 fn stream_of(alloc: Global, word: &str, content: &str) -> Result<Option<TokenStream>, AllocError> {
     let mut text = String::new(alloc);
     for (_, unit) in unescape_str(content) {
@@ -65,7 +65,7 @@ fn stream_of(alloc: Global, word: &str, content: &str) -> Result<Option<TokenStr
     }
 }
 
-/// The stream whose outermost marks are all Joint.
+/// Returns the stream with all of its outermost marks Joint.
 fn joint(alloc: Global, stream: &TokenStream) -> Result<TokenStream, AllocError> {
     let mut trees = Vec::new(alloc);
     for tree in stream.trees() {
@@ -80,7 +80,7 @@ fn joint(alloc: Global, stream: &TokenStream) -> Result<TokenStream, AllocError>
     TokenStream::from_trees(alloc, trees)
 }
 
-/// Writes the number of a row, and what is answered of its stream.
+/// Writes the number of a row, and the pretty text of its stream, its digest or the error.
 fn write_row<W: Write>(
     alloc: Global,
     number: usize,
@@ -100,7 +100,7 @@ fn write_row<W: Write>(
     }
 }
 
-/// FNV-1a of 64 bits.
+/// Returns the FNV-1a digest of 64 bits.
 fn digest_of(bytes: &[u8]) -> u64 {
     let mut digest: u64 = 0xcbf2_9ce4_8422_2325;
     for byte in bytes {

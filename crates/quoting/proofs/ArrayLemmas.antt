@@ -1,10 +1,10 @@
--- What an array's iterator gives.
+-- The items of an array's iterator.
 use Rattle.std.proofs.Common.{◌≡◌, ℕ, List, ◌∙◌, sym, map-id}
 use Rattle.std.proofs.iter.Yields.{listed, gives_Drains}
 use Rattle.std.specs.Array.Iter.{array_into_iter_items, array_steps}
 use Rattle.std.specs.Iterator.{Drains}
 
--- all items that are left
+-- the iterator of an array gives all items that are left
 pub drained : {A : Type 0} {n : ℕ} (it : _) (xs : List A) → Drains (array_steps {A = A} {n = n}) it xs
     → xs ≡ array_into_iter_items it
 drained {A} {n} it xs d =

@@ -1,4 +1,4 @@
--- Trees that are put together, in a list after a stream.
+-- The list of trees of a `StreamBuilder`.
 use Rattle.std.proofs.Common.{◌≡◌, ℕ, zero, suc, ◌+◌, ◌<◌, List, [], ◌∷◌, ◌++◌, take, length, get_or}
 use Rattle.std.proofs.Common.{refl, sym, ap, subst, ◌∙◌}
 use Rattle.proc_macro2.specs.Forest.{Forest, joined, IsBuilt}
@@ -9,7 +9,7 @@ use Rattle.pm_stream.proofs.TreeLemmas.{IsBuilt-joined, forest-push}
 use Rattle.quoting.proofs.PartLemmas.{joined_assoc, joined_nil}
 use Rattle.quoting.proofs.RespacedListLemmas.{copied_more}
 
--- one tree at the end of the list
+-- a list with one more tree at the end
 pub built_last : (items new : List TokenTree) (t : TokenTree) → new ≡ items ++ t ∷ [] → IsBuilt (forest items)
     → IsBuilt (alone t) → IsBuilt (forest new)
 built_last items new t put built one =
@@ -23,7 +23,7 @@ built_take (suc n) (Ident i ∷ ts) h = (h.0, h.1, built_take n ts h.2)
 built_take (suc n) (Punct p ∷ ts) h = (h.0, h.1, built_take n ts h.2)
 built_take (suc n) (Literal l ∷ ts) h = (h.0, h.1, built_take n ts h.2)
 
--- a list and copies of the first of these trees
+-- a list with copies of the first trees of another one at the end
 pub built_copies : (n : ℕ) (items new ts : List TokenTree) → forest new ≡ joined (forest items) (forest (take n ts))
     → IsBuilt (forest items) → IsBuilt (forest ts) → IsBuilt (forest new)
 built_copies n items new ts copied built trees =
@@ -34,7 +34,7 @@ pub copies_begun : (items new ts : List TokenTree) → new ≡ items
     → forest new ≡ joined (forest items) (forest (take 0 ts))
 copies_begun items new ts same = ap forest same ∙ sym (joined_nil (forest items))
 
--- one copy more
+-- one more copy
 pub copies_more : (n : ℕ) (old : Forest) (items new trees : List TokenTree) (t copy : TokenTree) → n < length trees
     → t ≡ get_or trees n t → copy ≡ t → forest items ≡ joined old (forest (take n trees)) → new ≡ items ++ copy ∷ []
     → forest new ≡ joined old (forest (take (n + 1) trees))

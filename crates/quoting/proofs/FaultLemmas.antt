@@ -1,4 +1,4 @@
--- The search for the first fault.
+-- The search for the `first-fault`.
 use Rattle.std.proofs.Common.{◌≡◌, ℕ, ◌==◌, ◌&&◌, Bool, true, false, not, Option, Some, None, List, [], ◌∷◌}
 use Rattle.std.proofs.Common.{if◌then◌else◌, refl, sym, ap, ◌∙◌}
 use Rattle.proc_macro2.specs.Character.{single_quote}
@@ -20,7 +20,7 @@ use Rattle.quoting.specs.declared.errors.QuoteError.{QuoteError}
 use Rattle.quoting.specs.declared.errors.QuoteError.TheVariants.{NoneGroup, LoneQuote, Memory}
 use Rattle.quoting.proofs.SearchLemmas.{found, or_else}
 
--- the first fault of the steps that are left
+-- the first error of the steps that are left
 abbrev pub left_fault : List Step → Option QuoteError
 left_fault = found step_fault
 
@@ -52,22 +52,22 @@ left_fault-onto (group d lo hi inside rest) more =
 pub left_fault-steps : (f : Forest) → left_fault (steps f) ≡ first_fault f
 left_fault-steps f = left_fault-onto f []
 
--- ---- what is named
+-- ---- the error that is returned
 
 pub named : (f : Forest) (fault : QuoteError) → first_fault f ≡ Some fault → IsFaultOf f fault
 named f NoneGroup h = h
 named f LoneQuote h = h
 named f (Memory error) h = tt
 
--- ---- whether any mark has to be mended
+-- ---- whether all marks are well spaced
 
--- one step more, past what fits
+-- one more step, which fits
 pub spaced_on : (spaced : Bool) (old new : List Step) (step : Step) → old ≡ step ∷ new → step_fits step ≡ true
     → (spaced && left_spaced new) ≡ (spaced && left_spaced old)
 spaced_on true old new step first is = sym (ap left_spaced first ∙ ap (λ b. b && left_spaced new) is)
 spaced_on false old new step first is = refl
 
--- ---- what fits has no fault
+-- ---- a tree that fits has no error
 
 clean : (b : Bool) (fault : QuoteError) → b ≡ true → ◌≡◌ {A = Option QuoteError} (if b then None else Some fault) None
 clean true fault e = refl

@@ -1,4 +1,4 @@
--- Templates whose first trees are filled.
+-- The loop that fills a template, tree by tree.
 use Rattle.std.proofs.Common.{◌≡◌, ℕ, Bool, true, false, zero, suc, All, Option, Some, None, Ok, Err, List, [], ◌∷◌}
 use Rattle.std.proofs.Common.{drop, length, refl, sym, ap, ap₂, subst, ◌∙◌, arith}
 use Rattle.std.proofs.lemmas.List.Elements.{All-drop}
@@ -11,7 +11,7 @@ use Rattle.proc_macro2.specs.declared.Group.{Group as Grouped}
 use Rattle.proc_macro2.specs.declared.TokenTree.{TokenTree}
 use Rattle.proc_macro2.specs.declared.TokenTree.TheVariants.{Group, Ident, Punct, Literal}
 use Rattle.quoting.specs.Filled.{followed, enclosed_in, has_meaning, replaced, set_apart, filled_by}
-use Rattle.quoting.specs.Given.{UnlessMemory, apart, apart_before, gives, inside_at, interpolation_of, named_all}
+use Rattle.quoting.specs.Given.{UnlessMemory, apart, apart_before, gives, in_turns, inside_at, interpolation_of}
 use Rattle.quoting.specs.Given.{span_of}
 use Rattle.quoting.specs.Given.{text_of}
 use Rattle.quoting.specs.Holes.{Outcome, filling_of, put_in}
@@ -19,11 +19,11 @@ use Rattle.quoting.specs.Interpolation.{Interpolation, Names, taken}
 use Rattle.quoting.specs.declared.errors.TemplateError.{TemplateError}
 use Rattle.quoting.specs.declared.holes.Hole.{Hole}
 use Rattle.quoting.specs.declared.holes.HoleName.{HoleName}
-use Rattle.quoting.specs.declared.errors.TemplateError.TheVariants.{NoHole, LoneList, NoList, UnequalLists, Nested}
-use Rattle.quoting.specs.declared.errors.TemplateError.TheVariants.{TooDeep, Parse, Memory}
+use Rattle.quoting.specs.declared.errors.TemplateError.TheVariants.{NoHole, LoneList, NoList, UnequalLists}
+use Rattle.quoting.specs.declared.errors.TemplateError.TheVariants.{NotIdent, NotFinite, TooDeep, Parse, Memory}
 use Rattle.quoting.proofs.PartLemmas.{joined_assoc, joined_nil}
 
--- what comes of what has a meaning
+-- the outcome of a hole or a repetition at a given depth
 abbrev pub Giving : Type 0
 Giving = ℕ → Interpolation → Outcome
 
@@ -32,12 +32,13 @@ unless_weaker (NoHole span) P Q f h = f h
 unless_weaker (LoneList span) P Q f h = f h
 unless_weaker (NoList span) P Q f h = f h
 unless_weaker (UnequalLists span) P Q f h = f h
-unless_weaker (Nested span) P Q f h = f h
+unless_weaker (NotIdent span) P Q f h = f h
+unless_weaker (NotFinite span) P Q f h = f h
 unless_weaker (TooDeep span) P Q f h = f h
 unless_weaker (Parse error) P Q f h = absurd h
 unless_weaker (Memory error) P Q f h = tt
 
--- ---- outcomes one after another
+-- ---- outcomes one after the other
 
 pub followed_nil : (o : Outcome) → followed (Ok nil) o ≡ o
 followed_nil (Ok f) = refl
@@ -49,7 +50,7 @@ followed_more f g (Err fault) = refl
 
 -- ---- one tree
 
--- trees that are passed over
+-- the trees of a hole or a repetition, which are skipped
 pub passed_over : (given : Giving) (depth n : ℕ) (ts : List TokenTree)
     → filled_by given depth n (forest ts) ≡ filled_by given depth 0 (forest (drop n ts))
 passed_over given depth zero ts = refl
@@ -59,12 +60,12 @@ passed_over given depth (suc n) (Ident i ∷ ts) = passed_over given depth n ts
 passed_over given depth (suc n) (Punct p ∷ ts) = passed_over given depth n ts
 passed_over given depth (suc n) (Literal l ∷ ts) = passed_over given depth n ts
 
--- a token, by what it begins
+-- the outcome of a token, by the hole or repetition that it begins
 abbrev by_interpolation : Giving → ℕ → Token → ℕ → ℕ → Forest → Option Interpolation → Outcome
 by_interpolation given depth token lo hi rest s =
     followed (replaced (given depth) token lo hi s) (filled_by given depth (taken s) rest)
 
--- a token with its span, a mark Alone or as it is
+-- a token with its span. A mark may become Alone
 apart_name : (i : leaves.Name) (b : Bool)
     → leaf (set_apart b (name_token i)) i.span.lo i.span.hi nil ≡ alone (apart b (Ident i))
 apart_name i false = refl
@@ -121,10 +122,10 @@ group_fault given zero g fault rest h = h
 group_fault given (suc depth) g fault rest h =
     ap (λ o. followed (enclosed_in g.delimiter g.span.lo g.span.hi o) (filled_by given (suc depth) 0 rest)) h
 
--- ---- the state of the walk
+-- ---- the state of the loop
 
--- the outcome of all after what was there is what is there, followed by the outcome of what is left, whose trees may be
--- put into streams
+-- the result so far, followed by the outcome of the trees that are left, is the whole result. The trees that are left
+-- can be part of a stream
 pub record IsUpTo (given : Giving) (depth : ℕ) (was all out : Forest) (left : List TokenTree) : Type 0 where
   pub so_far :
       followed (Ok was) (filled_by given depth 0 all) ≡ followed (Ok out) (filled_by given depth 0 (forest left))
@@ -148,7 +149,7 @@ step given depth n old all out new part t left after rest was whole drops one pu
       (subst (λ ts. All GoesInside (drop 1 ts)) whole (All-drop GoesInside 1 left was.inside)));
 }
 
--- the tree may be put into a stream, a mark Alone or as it is
+-- the tree can be part of a stream, also if it is a mark that becomes Alone
 apart_inside : (b : Bool) (t : TokenTree) → GoesInside t → GoesInside (apart b t)
 apart_inside false t inside = inside
 apart_inside true (Group g) inside = inside
@@ -163,7 +164,7 @@ copy_inside given depth old all out t copy left after was whole cloned =
     subst GoesInside (sym cloned)
     (apart_inside (has_meaning (forest after)) t (subst (All GoesInside) whole was.inside 0 t (omega arith)))
 
--- a token that begins nothing
+-- one step at a token that begins neither a hole nor a repetition
 pub token_step : (given : Giving) (depth : ℕ) (old all out new : Forest) (t copy : TokenTree)
     (left after : List TokenTree)
     → IsUpTo given depth old all out left → left ≡ t ∷ after → ((g : Grouped) → t ≡ Group g → ⊥)
@@ -173,7 +174,7 @@ token_step given depth old all out new t copy left after was whole other none cl
     step given depth 0 old all out new (alone (apart_before (forest after) t)) t left after after was whole refl
     (token_alone given depth t (forest after) other (sym none)) (put ∙ ap (λ u. joined out (alone u)) cloned)
 
--- a group
+-- one step at a group
 pub group_step : (given : Giving) (depth : ℕ) (old all out new inside : Forest) (t : TokenTree) (g filled : Grouped)
     (left after : List TokenTree)
     → IsUpTo given depth old all out left → left ≡ t ∷ after → t ≡ Group g → inside_at given depth g ≡ Ok inside
@@ -186,7 +187,7 @@ group_step given depth old all out new inside t g filled left after was whole is
     ∙ group_filled given depth g inside (forest after) fills)
     (put ∙ ap (λ u. joined out (alone (Group u))) regrouped)
 
--- what has a meaning
+-- one step at a hole or a repetition
 pub found_step : (given : Giving) (depth : ℕ) (old all out new part : Forest) (t : TokenTree) (found : Interpolation)
     (left after rest : List TokenTree)
     → IsUpTo given depth old all out left → left ≡ t ∷ after → Some found ≡ interpolation_of t (forest after)
@@ -203,7 +204,7 @@ pub ended : (given : Giving) (depth : ℕ) (old all out : Forest) (left : List T
 ended given depth old all out [] was none = was.so_far ∙ ap Ok (joined_nil out)
 ended given depth old all out (t ∷ left) was none = absurd (omega (arith, none))
 
--- what comes after a stream is there where both are
+-- if the whole outcome is a stream, its second part is one too
 pub followed_by : (old new : Forest) (o : Outcome) → followed (Ok old) o ≡ Ok new
     → (part : Forest) × (o ≡ Ok part) × (new ≡ joined old part)
 followed_by old new (Ok part) h = (part, refl, cc)
@@ -214,7 +215,7 @@ pub follows_fault : (old : Forest) (o : Outcome) (fault : TemplateError) → fol
 follows_fault old (Ok part) fault h = absurd (cc)
 follows_fault old (Err other) fault h = h
 
--- what has a meaning and comes after the trees
+-- one step at a hole or a repetition, whose trees are added to the stream
 pub found_onto : (given : Giving) (depth : ℕ) (old all out new : Forest) (t : TokenTree) (found : Interpolation)
     (left after rest : List TokenTree)
     → IsUpTo given depth old all out left → left ≡ t ∷ after → Some found ≡ interpolation_of t (forest after)
@@ -224,9 +225,8 @@ found_onto given depth old all out new t found left after rest was whole is drop
     let p = followed_by out new (given depth found) put in
     found_step given depth old all out new p.0 t found left after rest was whole is drops p.1 p.2
 
--- what comes in the place of a name
-pub gives_name : (holes : List Hole) (turn : Option ℕ) (depth : ℕ) (name : HoleName)
-    → gives holes turn depth (Names (text_of name) (span_of name))
-    ≡ put_in turn (span_of name) (filling_of (named_all holes) (text_of name))
-gives_name holes None depth name = refl
-gives_name holes (Some turn) depth name = refl
+-- the trees that replace a hole
+pub gives_name : (holes : List Hole) (turns : List ℕ) (depth : ℕ) (name : HoleName)
+    → gives holes turns depth (Names (text_of name) (span_of name))
+    ≡ put_in (span_of name) (filling_of (in_turns holes turns) (text_of name))
+gives_name holes turns depth name = refl

@@ -1,4 +1,4 @@
--- Trees in which nothing is filled.
+-- Trees that filling does not change.
 use Rattle.std.proofs.Common.{◌≡◌, ℕ, Bool, true, false, not, ◌==◌, suc, None, Ok, List, [], ◌∷◌}
 use Rattle.std.proofs.Common.{if◌then◌else◌, refl, sym, ap, ◌∙◌}
 use Rattle.std.specs.List.{list_all}
@@ -15,7 +15,7 @@ use Rattle.quoting.specs.Given.{apart, inside_at, interpolation_of, is_fixed}
 use Rattle.quoting.specs.Interpolation.{after_hash}
 use Rattle.quoting.proofs.FillLemmas.{Giving, token_alone}
 
--- a mark that is no `#` begins nothing
+-- a mark other than `#` begins neither a hole nor a repetition
 begins_nothing : (p : leaves.Mark) (rest : Forest) → not (p.mark == hash_sign) ≡ true
     → interpolation_of (Punct p) rest ≡ None
 begins_nothing p rest h = by_test (p.mark == hash_sign) h
@@ -31,7 +31,7 @@ no_meaning (Ident i ∷ trees) h = refl
 no_meaning (Punct p ∷ trees) h = ap is_found (begins_nothing p (forest trees) (and_parts _ _ h).0)
 no_meaning (Literal l ∷ trees) h = refl
 
--- a tree that stays, before trees that stay
+-- an unchanged tree before unchanged trees
 stays : (t : TokenTree) (f : Forest) → followed (Ok (alone t)) (Ok f) ≡ Ok (before t f)
 stays (Group g) f = refl
 stays (Ident i) f = refl
@@ -61,7 +61,7 @@ all_stay given depth (Literal l ∷ trees) h =
     one_stays given depth (Literal l) (forest trees) (λ g e. absurd (cc)) refl (no_meaning trees h)
     (all_stay given depth trees h)
 
--- the inside of a group in which all stay
+-- the contents of a group that filling does not change
 pub inside_stays : (given : Giving) (depth inner : ℕ) (g : Grouped) (trees : List TokenTree) (inside : Forest)
     → depth ≡ suc inner → forest trees ≡ g.stream → list_all is_fixed trees ≡ true → inside ≡ g.stream
     → inside_at given depth g ≡ Ok inside

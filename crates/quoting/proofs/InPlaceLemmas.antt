@@ -1,4 +1,4 @@
--- Lists of which the first trees are filled where they stand.
+-- The loop that fills the trees of a list in place.
 use Rattle.std.proofs.Common.{◌≡◌, ℕ, ◌+◌, ◌-◌, ◌≤◌, ◌<◌, zero, suc, Bool, true, false, All, None, Ok, List}
 use Rattle.std.proofs.Common.{[], ◌∷◌, take, drop, length, refl, sym, ap, subst, ◌∙◌, arith}
 use Rattle.std.specs.Prelude.{slice_index_or, slice_set}
@@ -13,7 +13,7 @@ use Rattle.quoting.specs.Given.{Settles, apart, apart_before, interpolation_of}
 use Rattle.pm_stream.proofs.TreeLemmas.{built_inside, forest-push}
 use Rattle.quoting.proofs.FillLemmas.{Giving, IsUpTo, ended, followed_nil, group_step, token_step}
 
--- the walk is at this index of a list, all of whose trees are built
+-- the loop is at the given index of a list that can become a stream
 pub record IsAt (given : Giving) (depth : ℕ) (was all out : Forest) (done : ℕ) (items : List TokenTree) : Type 0 where
   pub up_to : IsUpTo given depth was all out (drop done items)
   pub built : IsBuilt (forest items)
@@ -27,7 +27,7 @@ apart_text : (b : Bool) (l : leaves.Text) → Literal l ≡ apart b (Literal l)
 apart_text false l = refl
 apart_text true l = refl
 
--- a tree that begins nothing
+-- one step at a tree that begins neither a hole nor a repetition
 pub settle_step : (given : Giving) (depth : ℕ) (old all out put : Forest) (b : Bool) (t new : TokenTree)
     (left after : List TokenTree)
     → IsUpTo given depth old all out left → left ≡ t ∷ after → None ≡ interpolation_of t (forest after)
@@ -46,7 +46,7 @@ settle_step given depth old all out put b (Literal l) new left after was whole n
     token_step given depth old all out put (Literal l) new left after was whole (λ g e. absurd (cc)) none
     (is ∙ (apart_text b l ∙ same)) puts
 
--- a list of which the last trees are these
+-- the index at which the last trees of a list begin
 pub ends_with : (n : ℕ) (ts left : List TokenTree) → drop n ts ≡ left → drop (length ts - length left) ts ≡ left
 ends_with zero ts left h =
     let none : length ts - length left ≡ 0 = omega (arith, ap length h) in
@@ -90,12 +90,12 @@ built_drop zero ts h = h
 built_drop (suc n) [] h = h
 built_drop (suc n) (t ∷ ts) h = built_drop n ts (built_after t (forest ts) h)
 
--- all trees from the index on
+-- the trees from the index on
 pub all_left : (n : ℕ) (xs items : List TokenTree) → xs ≡ items → drop n items ≡ take (length xs - n) (drop n xs)
 all_left n xs items same =
     ap (drop n) (sym same) ∙ sym (take_all (length xs - n) (drop n xs) (omega (arith, length-drop n xs)))
 
--- ---- the walk
+-- ---- the loop
 
 pub begun : (given : Giving) (depth : ℕ) (was all out : Forest) (items : List TokenTree) → IsBuilt (forest items)
     → followed (Ok was) (filled_by given depth 0 all) ≡ followed (Ok out) (filled_by given depth 0 (forest items))
@@ -106,7 +106,7 @@ begun given depth was all out items built same = record {
   within = omega arith;
 }
 
--- there is a tree at the index
+-- if trees are left, the index is within the list
 index_within : (n : ℕ) (items after : List TokenTree) (t : TokenTree) → drop n items ≡ t ∷ after → n < length items
 index_within n items after t whole = omega (arith, ap length whole, length-drop n items)
 
@@ -126,7 +126,7 @@ goes_inside given depth n was all out items after t x here whole at =
     subst GoesInside (is_first n items after t x whole at)
     (subst (All GoesInside) whole here.up_to.inside 0 t (omega arith))
 
--- one tree, which begins nothing, is done
+-- the loop goes past a tree that begins neither a hole nor a repetition
 pub settled : (given : Giving) (depth n : ℕ) (was all out put : Forest) (items after : List TokenTree) (b : Bool)
     (t x new : TokenTree)
     → IsAt given depth was all out n items → drop n items ≡ t ∷ after → x ≡ slice_index_or items n x
@@ -143,7 +143,7 @@ settled given depth n was all out put items after b t x new here whole at none s
   within = omega (arith, index_within n items after t whole, length-set items n new);
 }
 
--- the same where the list itself has what is done
+-- the loop goes past such a tree, and the filled tree stays in the list
 pub settled_in_place : (given : Giving) (depth n : ℕ) (was all : Forest) (items after : List TokenTree) (b : Bool)
     (t x new : TokenTree)
     → IsAt given depth was all (forest (take n items)) n items → drop n items ≡ t ∷ after
@@ -155,7 +155,7 @@ settled_in_place given depth n was all items after b t x new here whole at none 
     t x new here whole at none same settles built
     (ap forest (take_more_set items n new (index_within n items after t whole)) ∙ forest-push (take n items) new)
 
--- what has a meaning is done
+-- the loop goes past a hole or a repetition
 pub passed : (given : Giving) (depth n m : ℕ) (was all out new : Forest) (items after rest : List TokenTree)
     (t : TokenTree)
     → IsAt given depth was all out n items → drop n items ≡ t ∷ after → rest ≡ drop m after
@@ -169,7 +169,7 @@ passed given depth n m was all out new items after rest t here whole drops now =
       within = omega arith;
     }
 
--- all are done
+-- the loop ends when all trees are done
 pub all_done : (given : Giving) (depth n : ℕ) (all stream : Forest) (items : List TokenTree)
     → IsAt given depth nil all (forest (take n items)) n items → n ≡ length items → stream ≡ forest items
     → filled_by given depth 0 all ≡ Ok stream

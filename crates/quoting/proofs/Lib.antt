@@ -8,6 +8,7 @@ mod PushLemmas
 mod Examples
 mod BuilderLemmas
 mod FixedLemmas
+mod ItemLemmas
 mod FillLemmas
 mod InPlaceLemmas
 mod TurnLemmas

@@ -1,4 +1,4 @@
--- Lists of which the first trees are respaced, each in the group that comes next in the one around it.
+-- The open lists of `respaced`. Each is the list of the next group in the list around it.
 use Rattle.std.proofs.Common.{◌≡◌, ℕ, ◌+◌, ◌*◌, ◌<◌, Result, Ok, Err, IfOk, List, [], ◌∷◌, ◌++◌, refl, sym, ap, ap₂}
 use Rattle.std.proofs.Common.{subst, ◌∙◌, arith}
 use Rattle.proc_macro2.specs.Forest.{Forest, nil, leaf, group, joined}
@@ -11,7 +11,7 @@ use Rattle.proc_macro2.specs.declared.TokenTree.TheVariants.{Group, Ident, Punct
 use Rattle.quoting.specs.Part.{Adds, IsOpen, Part, enclosed, ended, others, respaced_alone}
 use Rattle.quoting.specs.Respaced.{respaced}
 
--- ---- forests one after another
+-- ---- joined forests
 
 pub joined_nil : (f : Forest) → joined f nil ≡ f
 joined_nil nil = refl
@@ -23,28 +23,28 @@ joined_assoc nil g h = refl
 joined_assoc (leaf t lo hi f) g h = ap (leaf t lo hi) (joined_assoc f g h)
 joined_assoc (group d lo hi f k) g h = ap (group d lo hi f) (joined_assoc k g h)
 
--- ---- the lists around
+-- ---- the outer lists
 
--- a list once these trees stand in the group that comes next in it, and the others are respaced
+-- the whole list after respacing, if its next group has the given contents
 abbrev pub closed : Part → Forest → Forest
 closed part inside = joined part.done (joined (enclosed part.left inside) (respaced (forest (others part.left))))
 
--- the outermost list once all is respaced: these trees, in the lists around them, the outermost first
+-- the outermost list after respacing, if the innermost list becomes the given trees
 abbrev pub unwound : List Part → Forest → Forest
 unwound [] inside = inside
 unwound (part ∷ parts) inside = closed part (unwound parts inside)
 
--- what the first of these lists was, or else that
+-- the trees of the first list before respacing, or else the given trees
 abbrev pub first_whole : List Part → Forest → Forest
 first_whole [] whole = whole
 first_whole (part ∷ parts) whole = part.whole
 
--- each list comes from the group that is next in the one around it; that is the innermost
+-- each list is that of the next group in the list around it. The given trees are the innermost list
 abbrev pub Linked : List Part → Forest → Type 0
 Linked [] whole = Unit {0}
 Linked (part ∷ parts) whole = IsOpen part.left (first_whole parts whole) × Linked parts whole
 
--- how many trees and ends of groups are left after the groups that are next
+-- the number of trees and group ends that are left after the open groups
 abbrev pub outer_count : List Part → ℕ
 outer_count [] = 0
 outer_count (part ∷ parts) = 1 + 2 * count (forest (others part.left)) + outer_count parts
@@ -82,14 +82,14 @@ linked_pop (p ∷ outer) part whole h =
     let more = linked_pop outer part whole h.1 in
     ((subst (IsOpen p.left) (first_whole-push outer part whole) h.0, more.0), more.1)
 
--- ---- the state of the walk
+-- ---- the state of the loop
 
--- what comes out of the state is the answer, and each list comes from the group before it
+-- the state leads to the result, and each list is that of the next group in the list around it
 pub record IsOnTheWay (here : Part) (outer : List Part) (answer : Forest) : Type 0 where
   pub answer_is : unwound outer (ended here) ≡ answer
   pub linked : Linked outer here.whole
 
--- nothing is done
+-- the state at the start, when no tree is done
 pub begun : (here : Part) (outer : List Part) (f : Forest) → here.done ≡ nil → forest here.left ≡ f → outer ≡ []
     → IsOnTheWay here outer (respaced f)
 begun here outer f done left none = record {
@@ -99,7 +99,7 @@ begun here outer f done left none = record {
   linked = subst (λ o. Linked o here.whole) (sym none) tt;
 }
 
--- ---- the first tree is a group
+-- ---- a step at a group
 
 pub open_group : (here new : Part) (outer more : List Part) (t : TokenTree) (after : List TokenTree) (g : Grouped)
     (answer : Forest)
@@ -132,7 +132,7 @@ open_less here new outer more t after g left is inside push =
     let rest_count = ap (λ ts. count (forest (others ts))) first in
     omega (arith, ap outer_count push, outer_count-push outer here, ap count inside, here_count, rest_count)
 
--- ---- it is another tree
+-- ---- a step at another tree
 
 respaced-before : (t : TokenTree) (rest : Forest) → ((g : Grouped) → t ≡ Group g → ⊥)
     → respaced (before t rest) ≡ joined (respaced_alone t (next_token rest)) (respaced rest)
@@ -170,7 +170,7 @@ step_less here new outer t after first left adds =
     let rest : new.left ≡ after = adds.left ∙ ap others left in
     omega (arith, ap (λ ts. count (forest ts)) left, ap (λ ts. count (forest ts)) rest, count-before t (forest after))
 
--- ---- no tree is left
+-- ---- a step at the end of a list
 
 ended_here : (here : Part) → here.left ≡ [] → ended here ≡ here.done
 ended_here here none = ap (λ ts. joined here.done (respaced (forest ts))) none ∙ joined_nil here.done

@@ -1,4 +1,4 @@
--- What is put into a stream by an iterator over one item.
+-- A stream to which an iterator over one item is added.
 use Rattle.std.proofs.Common.{◌≡◌, List, [], ◌∷◌, ◌++◌, Option, Some, Result, Ok, Err, OnOk, OnErr, MatchResult, length}
 use Rattle.std.proofs.Common.{length-append, refl, sym, ap, ◌∙◌, arith}
 use Rattle.std.specs.Iterator.{Drains, Yields}
@@ -6,7 +6,7 @@ use Rattle.proc_macro2.specs.Building.{PutsIn, gathered}
 use Rattle.proc_macro2.specs.Forest.{Forest, joined}
 use Rattle.quoting.proofs.PartLemmas.{joined_nil}
 
--- what the iterator has left, one item at a time and as a whole
+-- the items that the iterator has left, by single steps and as a whole
 pub record Lists {S A : Type 0} (steps : S → Option A → S → Type 0) (left : S → List A) : Type 0 where
   pub each : (it next : S) (x : A) → steps it (Some x) next → left it ≡ x ∷ left next
   pub all : (it : S) (xs : List A) → Drains steps it xs → xs ≡ left it
@@ -21,7 +21,7 @@ none_before : {A : Type 0} (xs ys : List A) (x y : A) → xs ++ y ∷ ys ≡ x �
 none_before [] ys x y h = refl
 none_before (z ∷ xs) ys x y h = absurd (omega (arith, ap length h, length-append xs (y ∷ ys)))
 
--- one item is put in
+-- one item is added
 pub put_one : {S A E : Type 0} (Begins : S → Type 0) (steps : S → Option A → S → Type 0) (left : S → List A)
     (trees : A → Forest) (item : A) (was old new : Forest) (r : Result (Unit {0}) E) → was ≡ old → Lists steps left
     → ((it : S) × (xs : List A) × Begins it × PutsIn trees was xs new
@@ -35,7 +35,7 @@ put_one Begins steps left trees item was old new (Ok u) same lists ran one =
     ∙ (ap (λ xs. joined was (gathered trees xs)) items
     ∙ (ap (joined was) (joined_nil (trees item)) ∙ ap (λ f. joined f (trees item)) same))
 
--- it is refused
+-- after an error nothing is added
 pub refuse_one : {S A E : Type 0} (Begins : S → Type 0) (steps : S → Option A → S → Type 0) (left : S → List A)
     (trees : A → Forest) (item : A) (was old new : Forest) (r : Result (Unit {0}) E) → was ≡ old → Lists steps left
     → OnErr r ((it : S) × (xs : List A) × (last : A) × (now : S) × (rest : S) × Begins it × Yields steps it xs now

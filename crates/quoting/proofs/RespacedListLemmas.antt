@@ -1,4 +1,4 @@
--- One list of which the first trees are respaced.
+-- Lemmas about one list of which the first trees are respaced.
 use Rattle.std.proofs.Common.{◌≡◌, ℕ, ◌+◌, ◌<◌, All, Option, Some, None, Result, Ok, Err, IfOk, MatchResult, List, []}
 use Rattle.std.proofs.Common.{◌∷◌, ◌++◌, length, take, drop, append-nil, get_or, refl, sym, ap, ap₂, subst, ◌∙◌}
 use Rattle.std.proofs.Math.Seq.{take-add}
@@ -11,7 +11,7 @@ use Rattle.proc_macro2.specs.declared.TokenTree.{TokenTree}
 use Rattle.proc_macro2.specs.declared.TokenTree.TheVariants.{Group, Ident, Punct, Literal}
 use Rattle.quoting.specs.Part.{Adds, Part, done_of, others}
 
--- what a list is seen as
+-- the model of a `RespacedList`
 abbrev pub part_of : Forest → Option Forest → ℕ → List TokenTree → Part
 part_of whole changed count trees =
     record { whole = whole; done = done_of changed count trees; left = drop count trees }
@@ -22,7 +22,7 @@ joined-before (Ident i) f k = refl
 joined-before (Punct p) f k = refl
 joined-before (Literal l) f k = refl
 
--- one tree more
+-- a list with one more tree at the end
 pub forest-push : (ts : List TokenTree) (t : TokenTree) → forest (ts ++ t ∷ []) ≡ joined (forest ts) (alone t)
 forest-push [] t = refl
 forest-push (u ∷ ts) t = ap (before u) (forest-push ts t) ∙ sym (joined-before u (forest ts) (alone t))
@@ -38,7 +38,7 @@ pub take_more : (n : ℕ) (ts after : List TokenTree) (t : TokenTree) → drop n
     → take (n + 1) ts ≡ take n ts ++ t ∷ []
 take_more n ts after t first = take-add n 1 ts ∙ ap (λ xs. take n ts ++ take 1 xs) first
 
--- the first tree that is left stays, and nothing was changed before
+-- the first tree that is left is kept, and no tree before it was changed
 pub adds_kept : (whole : Forest) (n : ℕ) (trees : List TokenTree) (t : TokenTree) (old : Part)
     → part_of whole None n trees ≡ old → old.left ≡ t ∷ others old.left
     → Adds old (alone t) (part_of whole None (n + 1) trees)
@@ -52,7 +52,7 @@ adds_kept whole n trees t old same first =
       left = drop_more n trees ∙ ap (λ (p : Part). others p.left) same;
     }
 
--- these trees come in its place
+-- the first tree that is left is replaced by other trees
 pub adds_put : (whole : Forest) (changed : Option Forest) (n : ℕ) (trees : List TokenTree) (was now first : Forest)
     (old : Part)
     → part_of whole changed n trees ≡ old → was ≡ done_of changed n trees → now ≡ joined was first
@@ -63,7 +63,7 @@ adds_put whole changed n trees was now first old same copied put = record {
   left = drop_more n trees ∙ ap (λ (p : Part). others p.left) same;
 }
 
--- the first tree that is left may be put into a stream
+-- the first tree that is left can be part of a stream
 pub first_goes_inside : (whole : Forest) (changed : Option Forest) (n : ℕ) (trees : List TokenTree) (t copy : TokenTree)
     (old : Part)
     → All GoesInside trees → part_of whole changed n trees ≡ old → old.left ≡ t ∷ others old.left → copy ≡ t
@@ -73,7 +73,7 @@ first_goes_inside whole changed n trees t copy old all same first cloned =
     subst GoesInside (sym cloned)
     (All-head GoesInside t (others old.left) (subst (All GoesInside) here (All-drop GoesInside n trees all)))
 
--- all trees are done, and none was changed
+-- all trees are done, and none of them was changed
 pub finished : {E : Type 0} (Refused : E → Type 0) (whole : Forest) (n : ℕ) (trees : List TokenTree) (old : Part)
     (r : Result Forest E)
     → part_of whole None n trees ≡ old → forest trees ≡ whole → old.left ≡ []
@@ -86,7 +86,7 @@ finished Refused whole n trees old (Ok f) same is none copied =
     ∙ (ap (λ xs. take n trees ++ xs) (sym (ap (λ (p : Part). p.left) same ∙ none)) ∙ take-append-drop n trees) in
     copied ∙ (sym is ∙ (ap forest (sym all) ∙ ap (λ (p : Part). p.done) same))
 
--- one copy more
+-- one more copy of a tree
 pub copied_more : (trees : List TokenTree) (n : ℕ) (t copy : TokenTree) (was now : Forest) → n < length trees
     → t ≡ get_or trees n t → copy ≡ t → was ≡ forest (take n trees) → now ≡ joined was (alone copy)
     → now ≡ forest (take (n + 1) trees)

@@ -2,12 +2,12 @@
 use Rattle.std.proofs.Common.{◌≡◌, Option, Some, None, List, [], ◌∷◌, sym, ap, ◌∙◌}
 use Rattle.proc_macro2.specs.Steps.{Step}
 
--- what is found, or else what is found later
+-- the first result, or the second if there is none
 abbrev pub or_else : {A : Type 0} → Option A → Option A → Option A
 or_else None later = later
 or_else (Some found) later = Some found
 
--- what is found at the first of the steps at which something is found
+-- the result of the first step that has one
 abbrev pub found : {A : Type 0} → (Step → Option A) → List Step → Option A
 found look [] = None
 found look (step ∷ steps) = or_else (look step) (found look steps)

@@ -1,4 +1,4 @@
--- What respacing does.
+-- The laws of respacing, proved.
 use Rattle.std.proofs.Common.{◌≡◌, ◌==◌, ℕ, Bool, true, false, not, ◌&&◌, Option, Some, None, List, [], if◌then◌else◌}
 use Rattle.std.proofs.Common.{refl, sym, ap, ap₂, ◌∙◌}
 use Rattle.std.proofs.lemmas.Bool.{and_from, and_parts, both_ways}
@@ -14,7 +14,7 @@ use Rattle.quoting.specs.Respaced.{is_kept_joint, respaced, respaced_token}
 use Rattle.quoting.specs.declared.errors.QuoteError.{QuoteError}
 use Rattle.quoting.specs.declared.errors.QuoteError.TheVariants.{NoneGroup, LoneQuote}
 
--- ---- what may come after a mark, whatever spacing it has itself
+-- ---- the token after a mark, spacings aside
 
 quote_unspaced : (f : Forest) → follows_quote (next_token (unspaced f)) ≡ follows_quote (next_token f)
 quote_unspaced nil = refl
@@ -47,11 +47,11 @@ same_joint c f g e = sym (joint_unspaced c g) ∙ (ap (λ x. follows_joint c (ne
 
 -- ---- one mark
 
--- whether a mark fits: is it `'`, is it Joint, and may what is next come after a `'`, or else after the mark
+-- whether a mark fits: is it `'`, is it Joint, and may the next token follow a `'`, or follow this mark if it is Joint
 abbrev fits_as : Bool → Bool → Bool → Bool → Bool
 fits_as is_quote joint quotes joins = if joint then (if is_quote then quotes else joins) else not is_quote
 
--- how it is spaced
+-- whether the mark is Joint after respacing
 abbrev kept_as : Bool → Bool → Bool → Bool
 kept_as is_quote joint joins = if is_quote then true else (joint && joins)
 
@@ -60,7 +60,7 @@ fits_by : (c : ℕ) (joint : Bool) (next : Option Token)
 fits_by c true next = refl
 fits_by c false next = refl
 
--- it fits once it is respaced
+-- a respaced mark fits
 respaced_as : (q joint quotes joins : Bool) → (if q then quotes else true) ≡ true
     → fits_as q (kept_as q joint joins) quotes joins ≡ true
 respaced_as true joint quotes joins h = h
@@ -68,13 +68,13 @@ respaced_as false true quotes true h = refl
 respaced_as false true quotes false h = refl
 respaced_as false false quotes joins h = refl
 
--- if it fits with any spacing it may stand there
+-- a mark that fits with some spacing has no error
 stands_as : (q joint quotes joins : Bool) → fits_as q joint quotes joins ≡ true → (if q then quotes else true) ≡ true
 stands_as true true quotes joins h = h
 stands_as true false quotes joins h = absurd (both_ways _ refl h)
 stands_as false joint quotes joins h = refl
 
--- if it fits it stays as it was
+-- respacing does not change a mark that fits
 stays_as : (q joint quotes joins : Bool) → fits_as q joint quotes joins ≡ true → kept_as q joint joins ≡ joint
 stays_as true true quotes joins h = refl
 stays_as true false quotes joins h = absurd (both_ways _ refl h)
@@ -94,7 +94,7 @@ respaced_fits (Mark c joint) f h =
     (same_joint c f (respaced f) (only_spacing f))
     ∙ respaced_as (c == single_quote) joint (follows_quote (next_token f)) (follows_joint c (next_token f)) h)
 
--- a mark that fits in another choice of spacings
+-- a mark that fits in a choice of spacings fits with that spacing in the stream too
 chosen_fits : (c d : ℕ) (joint : Bool) (f g : Forest) → d ≡ c → unspaced g ≡ unspaced f
     → fits (Mark d joint) (next_token g) ≡ true
     → fits_as (c == single_quote) joint (follows_quote (next_token f)) (follows_joint c (next_token f)) ≡ true
@@ -140,7 +140,7 @@ keeps_token (Mark c joint) (Mark d chosen) f g olds chosens news same e h more =
 
 -- ---- streams
 
--- where one choice of spacings is well spaced there is no fault
+-- if some choice of spacings is well spaced, there is no `first-fault`
 no_fault : (f g : Forest) (after : Option QuoteError) → unspaced g ≡ unspaced f → well_spaced g ≡ true
     → fault_or f after ≡ after
 no_fault nil nil after e w = refl
@@ -175,7 +175,7 @@ passes : (b : Bool) (x : Option QuoteError) (y : QuoteError) → (if b then x el
 passes true x y h = (refl, h)
 passes false x y h = absurd (cc)
 
--- where there is no fault it is well spaced once it is respaced
+-- a respaced stream without a `first-fault` is well spaced
 spaced_or : (f : Forest) (after : Option QuoteError) → fault_or f after ≡ None
     → (well_spaced (respaced f) ≡ true) × (after ≡ None)
 spaced_or nil after h = (refl, h)
@@ -192,7 +192,7 @@ spaced_or (group d lo hi f k) after h =
 pub spaced : (f : Forest) → first_fault f ≡ None → IsWellSpaced (respaced f)
 spaced f h = (spaced_or f None h).0
 
--- a mark keeps its spacing wherever it may
+-- a mark keeps its spacing if some well spaced choice of spacings keeps it
 keeps_onto : (f g : Forest) (olds chosens news : List Bool) → unspaced g ≡ unspaced f → well_spaced g ≡ true
     → KeepsThose olds chosens news
     → KeepsThose (spacings_onto f olds) (spacings_onto g chosens) (spacings_onto (respaced f) news)
@@ -221,7 +221,7 @@ keeps_onto (group d lo hi f k) (group c l h g m) olds chosens news e w more =
 pub keeps : (f : Forest) → KeepsAllItMay f (respaced f)
 keeps f g e w = keeps_onto f g [] [] [] e w tt
 
--- what was well spaced comes out unchanged
+-- respacing does not change a well spaced stream
 pub unchanged : (f : Forest) → IsWellSpaced f → respaced f ≡ f
 unchanged nil w = refl
 unchanged (leaf t lo hi f) w =

@@ -1,7 +1,7 @@
--- Turns that are counted, and of which the first are filled.
-use Rattle.std.proofs.Common.{◌≡◌, Bor, ℕ, zero, suc, ◌+◌, ◌-◌, ◌<◌, ◌==◌, Bool, true, false, if◌then◌else◌}
-use Rattle.std.proofs.Common.{Option, Some, None, is_some, Ok, Err, List, [], ◌∷◌, length}
-use Rattle.std.proofs.Common.{refl, sym, ap, subst, ◌∙◌, arith}
+-- The count of a repetition's turns, and the loop that fills them.
+use Rattle.std.proofs.Common.{◌≡◌, Bor, ℕ, zero, suc, ◌+◌, ◌-◌, ◌≤◌, ◌<◌, ◌++◌, ◌==◌, Bool, true, false}
+use Rattle.std.proofs.Common.{if◌then◌else◌, Option, Some, None, Ok, Err, List, [], ◌∷◌, length, length-append}
+use Rattle.std.proofs.Common.{refl, sym, ap, ap₂, subst, ◌∙◌, arith}
 use Rattle.proc_macro2.specs.Extent.{Extent}
 use Rattle.proc_macro2.specs.Forest.{Forest, nil, leaf, group, joined}
 use Rattle.proc_macro2.specs.declared.ParseError.{ParseError}
@@ -11,28 +11,30 @@ use Rattle.proc_macro2.specs.Steps.{Step, Leave, steps, steps_onto}
 use Rattle.proc_macro2.specs.Token as tokens
 use Rattle.proc_macro2.specs.Token.{Token, Name}
 use Rattle.proc_macro2.specs.declared.Group.{Group as Grouped}
-use Rattle.quoting.specs.Filled.{at_top, before_turn, filled_by, followed, in_turn, repeated_so, turns_from}
+use Rattle.quoting.specs.Filled.{before_turn, comes, depth_limit, filled_by, followed, repeated, turns_from}
 use Rattle.quoting.specs.Filled.{unless_fault}
-use Rattle.quoting.specs.Given.{UnlessMemory, gives, named_all, repeats_of, separator_of, interpolation_of}
-use Rattle.quoting.specs.Holes.{Filling, One, Each, Named, Outcome, filling_of}
-use Rattle.quoting.specs.Interpolation.{Interpolation, Names, Repeats, interpolation, taken}
-use Rattle.quoting.specs.Turns.{Check, and_then, checked, interpolation_checked, name_checked, named_length}
-use Rattle.quoting.specs.Turns.{or_else, turns_of}
-use Rattle.quoting.specs.Turns.{turns_or}
+use Rattle.quoting.specs.Given.{UnlessMemory, gives, in_turns, repeats_of, separator_of, interpolation_of}
+use Rattle.quoting.specs.Given.{named_all}
+use Rattle.quoting.specs.Holes.{Named, Outcome, all_in_turn, filling_of, list_length}
+use Rattle.quoting.specs.Items.{Filling}
+use Rattle.quoting.specs.Interpolation.{Interpolation, Names, Repeats, interpolation}
+use Rattle.quoting.specs.Turns.{Check, and_then, checked, interpolation_checked, length_checked, name_checked}
+use Rattle.quoting.specs.Turns.{named_length, or_else, turns_of, turns_or}
 use Rattle.quoting.specs.Searched.{step_turns}
 use Rattle.quoting.specs.declared.errors.TemplateError.{TemplateError}
-use Rattle.quoting.specs.declared.errors.TemplateError.TheVariants.{NoHole, LoneList, NoList, UnequalLists, Nested}
-use Rattle.quoting.specs.declared.errors.TemplateError.TheVariants.{TooDeep, Parse, Memory}
+use Rattle.quoting.specs.declared.errors.TemplateError.TheVariants.{NoHole, LoneList, NoList, UnequalLists}
+use Rattle.quoting.specs.declared.errors.TemplateError.TheVariants.{NotIdent, NotFinite, TooDeep, Parse, Memory}
 use Rattle.quoting.specs.declared.holes.Hole.{Hole}
 use Rattle.quoting.specs.declared.interpolation.Repetition.{Repetition}
+use Rattle.quoting.proofs.ItemLemmas.{in_all_more}
 use Rattle.quoting.proofs.SearchLemmas as search
 use Rattle.quoting.proofs.SearchLemmas.{found}
 use Rattle.quoting.proofs.PartLemmas.{joined_assoc, joined_nil}
 use Rattle.quoting.proofs.FillLemmas.{followed_more}
 
--- ---- turns that are counted
+-- ---- the count of turns
 
--- how many turns there are by the steps that are left
+-- the number of turns by the steps that are left
 abbrev pub left_turns : List Named → List Step → Option ℕ
 left_turns holes = found (step_turns holes)
 
@@ -62,9 +64,9 @@ left_turns-onto holes (group d lo hi inside rest) more =
 pub left_turns-steps : (holes : List Named) (f : Forest) → left_turns holes (steps f) ≡ turns_of holes f
 left_turns-steps holes f = left_turns-onto holes f []
 
--- ---- turns that are filled
+-- ---- the loop that fills the turns
 
--- the outcome of all turns is what came out, followed by the turns from one on
+-- the outcome of all turns is the trees so far, followed by the turns from the given one on
 abbrev pub TurnsOn : (ℕ → Outcome) → Forest → Outcome → Forest → ℕ → ℕ → Type 0
 TurnsOn given between all out turn end = all ≡ followed (Ok out) (turns_from given between turn (end - turn))
 
@@ -108,15 +110,15 @@ turns_ended given between all out turn end so_far same =
 
 -- ---- repetitions
 
--- the turns of a body
-abbrev pub turn_of : List Hole → ℕ → Forest → ℕ → Outcome
-turn_of holes inner body = λ turn. filled_by (in_turn (named_all holes) turn) inner 0 body
+-- the outcome of one turn of a body, inside the given turns
+abbrev pub turn_of : List Hole → List ℕ → ℕ → Forest → ℕ → Outcome
+turn_of holes turns inner body = λ turn. filled_by (gives holes (turns ++ turn ∷ [])) inner 0 body
 
 pub before_none : (turn : ℕ) → before_turn nil turn ≡ nil
 before_none zero = refl
 before_none (suc turn) = refl
 
--- nothing comes before the first turn, or where there is no separator
+-- before the first turn, or without a separator, nothing is added
 pub nothing_between : (stream between : Forest) (turn : ℕ) → turn ≡ 0
     → stream ≡ joined stream (before_turn between turn)
 nothing_between stream between zero none = sym (joined_nil stream)
@@ -128,50 +130,94 @@ no_separator stream separator turn none =
     sym (ap (λ s. joined stream (before_turn (separator_of s) turn)) none
     ∙ (ap (joined stream) (before_none turn) ∙ joined_nil stream))
 
--- outside of repetitions it is its turns, once its body is checked
-checked_turns : (holes : List Hole) (turn : Option ℕ) (depth inner turns : ℕ) (repetition : Repetition)
+-- `gives` inside one more repetition, in a turn of it
+turn_given : (holes : List Hole) (turns : List ℕ) (turn : ℕ) → length turns < depth_limit
+    → gives holes (turns ++ turn ∷ [])
+    ≡ comes (depth_limit - suc (length turns)) (all_in_turn turn (in_turns holes turns))
+turn_given holes turns turn few =
+    let more : length (turns ++ turn ∷ []) ≡ suc (length turns) = omega (arith, length-append turns (turn ∷ [])) in
+    ap₂ (λ n hs. comes (depth_limit - n) hs) more (in_all_more turns turn (named_all holes))
+
+limit_left : (n : ℕ) → n < depth_limit → depth_limit - n ≡ suc (depth_limit - suc n)
+limit_left n few = omega (arith, few)
+
+-- a repetition is its turns if the check of its body succeeds
+checked_turns : (holes : List Hole) (turns : List ℕ) (depth inner count : ℕ) (repetition : Repetition)
     (trees : Forest)
-    → is_some turn ≡ false → depth ≡ suc inner → trees ≡ repetition.body.now.stream
-    → turns_of (named_all holes) trees ≡ Some turns
-    → gives holes turn depth (repeats_of repetition)
-    ≡ unless_fault (named_all holes) inner repetition.body.now.stream (separator_of repetition.separator) turns
-    (checked (named_all holes) inner turns 0 trees)
-checked_turns holes (Some turn) depth inner turns repetition trees none deep whole counts = absurd (cc)
-checked_turns holes None depth inner turns repetition trees none deep whole counts =
+    → length turns + depth ≤ depth_limit → depth ≡ suc inner → trees ≡ repetition.body.now.stream
+    → turns_of (in_turns holes turns) trees ≡ Some count
+    → gives holes turns depth (repeats_of repetition)
+    ≡ unless_fault (turn_of holes turns inner repetition.body.now.stream) (separator_of repetition.separator) count
+    (checked (in_turns holes turns) inner count trees)
+checked_turns holes turns depth inner count repetition trees few deep whole counts =
     let body = repetition.body.now in
     let between = separator_of repetition.separator in
-    ap (λ n. at_top (named_all holes) n (repeats_of repetition)) deep
-    ∙ (ap (repeated_so (named_all holes) inner body.stream body.span between)
-    (ap (turns_of (named_all holes)) (sym whole) ∙ counts)
-    ∙ ap (λ f. unless_fault (named_all holes) inner body.stream between turns
-    (checked (named_all holes) inner turns 0 f)) (sym whole))
+    let here = in_turns holes turns in
+    let room : length turns < depth_limit = omega (arith, few, deep) in
+    let more = depth_limit - suc (length turns) in
+    let plain : ℕ → Outcome = λ turn. filled_by (comes more (all_in_turn turn here)) inner 0 body.stream in
+    ap₂ (λ n d. comes n here d (repeats_of repetition)) (limit_left (length turns) room) deep
+    ∙ (ap (repeated here plain inner body.stream body.span between)
+    (ap (turns_of here) (sym whole) ∙ counts)
+    ∙ (ap (λ f. unless_fault plain between count (checked here inner count f)) (sym whole)
+    ∙ ap (λ (f : ℕ → Outcome). unless_fault f between count (checked here inner count trees))
+    (λ i turn. filled_by (sym (turn_given holes turns turn room) i) inner 0 body.stream)))
 
-pub all_turns : (holes : List Hole) (turn : Option ℕ) (depth inner turns : ℕ) (repetition : Repetition) (trees : Forest)
-    → is_some turn ≡ false → depth ≡ suc inner → trees ≡ repetition.body.now.stream
-    → turns_of (named_all holes) trees ≡ Some turns → checked (named_all holes) inner turns 0 trees ≡ Ok tt
-    → gives holes turn depth (repeats_of repetition)
-    ≡ turns_from (λ i. filled_by (in_turn (named_all holes) i) inner 0 repetition.body.now.stream)
-    (separator_of repetition.separator) 0 turns
-all_turns holes turn depth inner turns repetition trees none deep whole counts checks =
-    checked_turns holes turn depth inner turns repetition trees none deep whole counts
-    ∙ ap (unless_fault (named_all holes) inner repetition.body.now.stream (separator_of repetition.separator) turns)
+pub all_turns : (holes : List Hole) (turns : List ℕ) (depth inner count : ℕ) (repetition : Repetition) (trees : Forest)
+    → length turns + depth ≤ depth_limit → depth ≡ suc inner → trees ≡ repetition.body.now.stream
+    → turns_of (in_turns holes turns) trees ≡ Some count → checked (in_turns holes turns) inner count trees ≡ Ok tt
+    → gives holes turns depth (repeats_of repetition)
+    ≡ turns_from (turn_of holes turns inner repetition.body.now.stream) (separator_of repetition.separator) 0 count
+all_turns holes turns depth inner count repetition trees few deep whole counts checks =
+    checked_turns holes turns depth inner count repetition trees few deep whole counts
+    ∙ ap (unless_fault (turn_of holes turns inner repetition.body.now.stream) (separator_of repetition.separator) count)
     checks
 
--- ---- what is wrong inside of a repetition is a fault of the template
+-- a repetition that names no list or is nested too deep is an error
+pub no_list : (holes : List Hole) (turns : List ℕ) (depth inner : ℕ) (repetition : Repetition) (trees : Forest)
+    → length turns + depth ≤ depth_limit → depth ≡ suc inner → trees ≡ repetition.body.now.stream
+    → turns_of (in_turns holes turns) trees ≡ None
+    → gives holes turns depth (repeats_of repetition) ≡ Err (NoList repetition.body.now.span)
+no_list holes turns depth inner repetition trees few deep whole counts =
+    let body = repetition.body.now in
+    let between = separator_of repetition.separator in
+    let here = in_turns holes turns in
+    let room : length turns < depth_limit = omega (arith, few, deep) in
+    let more = depth_limit - suc (length turns) in
+    let plain : ℕ → Outcome = λ turn. filled_by (comes more (all_in_turn turn here)) inner 0 body.stream in
+    ap₂ (λ n d. comes n here d (repeats_of repetition)) (limit_left (length turns) room) deep
+    ∙ ap (repeated here plain inner body.stream body.span between) (ap (turns_of here) (sym whole) ∙ counts)
 
--- whether a list is as long as there are turns
-abbrev length_checked : Bool → Extent → Check
-length_checked b span = if b then Ok tt else Err (UnequalLists span)
+too_deep_by : (more : ℕ) (here : List Named) (repetition : Repetition)
+    → comes more here 0 (repeats_of repetition) ≡ Err (TooDeep repetition.body.now.span)
+too_deep_by zero here repetition = refl
+too_deep_by (suc more) here repetition = refl
 
-length_parses : (b : Bool) (span : Extent) (error : ParseError) → length_checked b span ≡ Err (Parse error) → ⊥
-length_parses true span error h = absurd (cc)
-length_parses false span error h = absurd (cc)
+pub too_deep : (holes : List Hole) (turns : List ℕ) (depth : ℕ) (repetition : Repetition) → depth ≡ 0
+    → gives holes turns depth (repeats_of repetition) ≡ Err (TooDeep repetition.body.now.span)
+too_deep holes turns depth repetition none =
+    ap (λ d. gives holes turns d (repeats_of repetition)) none
+    ∙ too_deep_by (depth_limit - length turns) (in_turns holes turns) repetition
+
+-- ---- an error of the check is an error of the template
+
+-- the check of a list's length, by whether it is the number of turns
+abbrev same_length : Bool → Extent → Check
+same_length b span = if b then Ok tt else Err (UnequalLists span)
+
+same_parses : (b : Bool) (span : Extent) (error : ParseError) → same_length b span ≡ Err (Parse error) → ⊥
+same_parses true span error h = absurd (cc)
+same_parses false span error h = absurd (cc)
+
+length_parses : (turns : ℕ) (span : Extent) (n : Option ℕ) (error : ParseError)
+    → length_checked turns span n ≡ Err (Parse error) → ⊥
+length_parses turns span None error h = absurd (cc)
+length_parses turns span (Some n) error h = same_parses (n == turns) span error h
 
 name_parses : (turns : ℕ) (span : Extent) (filling : Option Filling) (error : ParseError)
     → name_checked turns span filling ≡ Err (Parse error) → ⊥
 name_parses turns span None error h = absurd (cc)
-name_parses turns span (Some (One stream)) error h = absurd (cc)
-name_parses turns span (Some (Each streams)) error h = length_parses (length streams == turns) span error h
+name_parses turns span (Some filling) error h = length_parses turns span (list_length (Some filling)) error h
 
 interpolation_parses : (holes : List Named) (turns : ℕ) (s : Option Interpolation) (error : ParseError)
     → interpolation_checked holes turns s ≡ Err (Parse error) → ⊥
@@ -185,22 +231,17 @@ both_parse : (first more : Check) (error : ParseError) → (first ≡ Err (Parse
 both_parse (Err fault) more error first_parses more_parses h = first_parses h
 both_parse (Ok done) more error first_parses more_parses h = more_parses h
 
-body_parses : (holes : List Named) (depth turns passed : ℕ) (body : Forest) (error : ParseError)
-    → checked holes depth turns passed body ≡ Err (Parse error) → ⊥
-body_parses holes depth turns passed nil error h = absurd (cc)
-body_parses holes depth turns zero (leaf token lo hi rest) error h =
-    both_parse (interpolation_checked holes turns (interpolation token rest))
-    (checked holes depth turns (taken (interpolation token rest)) rest) error
+body_parses : (holes : List Named) (depth turns : ℕ) (body : Forest) (error : ParseError)
+    → checked holes depth turns body ≡ Err (Parse error) → ⊥
+body_parses holes depth turns nil error h = absurd (cc)
+body_parses holes depth turns (leaf token lo hi rest) error h =
+    both_parse (interpolation_checked holes turns (interpolation token rest)) (checked holes depth turns rest) error
     (interpolation_parses holes turns (interpolation token rest) error)
-    (body_parses holes depth turns (taken (interpolation token rest)) rest error) h
-body_parses holes depth turns (suc passed) (leaf token lo hi rest) error h =
-    body_parses holes depth turns passed rest error h
-body_parses holes depth turns (suc passed) (group d lo hi inside rest) error h =
-    body_parses holes depth turns passed rest error h
-body_parses holes zero turns zero (group d lo hi inside rest) error h = absurd (cc)
-body_parses holes (suc depth) turns zero (group d lo hi inside rest) error h =
-    both_parse (checked holes depth turns 0 inside) (checked holes (suc depth) turns 0 rest) error
-    (body_parses holes depth turns 0 inside error) (body_parses holes (suc depth) turns 0 rest error) h
+    (body_parses holes depth turns rest error) h
+body_parses holes zero turns (group d lo hi inside rest) error h = absurd (cc)
+body_parses holes (suc depth) turns (group d lo hi inside rest) error h =
+    both_parse (checked holes depth turns inside) (checked holes (suc depth) turns rest) error
+    (body_parses holes depth turns inside error) (body_parses holes (suc depth) turns rest error) h
 
 of_template : (fault : TemplateError) (P : Type 0) → ((error : ParseError) → fault ≡ Parse error → ⊥) → P
     → UnlessMemory fault P
@@ -208,18 +249,19 @@ of_template (NoHole span) P other h = h
 of_template (LoneList span) P other h = h
 of_template (NoList span) P other h = h
 of_template (UnequalLists span) P other h = h
-of_template (Nested span) P other h = h
+of_template (NotIdent span) P other h = h
+of_template (NotFinite span) P other h = h
 of_template (TooDeep span) P other h = h
 of_template (Parse error) P other h = absurd (other error refl)
 of_template (Memory error) P other h = tt
 
-pub checked_fault : (holes : List Hole) (turn : Option ℕ) (depth inner turns : ℕ) (repetition : Repetition)
+pub checked_fault : (holes : List Hole) (turns : List ℕ) (depth inner count : ℕ) (repetition : Repetition)
     (trees : Forest) (fault : TemplateError)
-    → is_some turn ≡ false → depth ≡ suc inner → trees ≡ repetition.body.now.stream
-    → turns_of (named_all holes) trees ≡ Some turns → checked (named_all holes) inner turns 0 trees ≡ Err fault
-    → UnlessMemory fault (gives holes turn depth (repeats_of repetition) ≡ Err fault)
-checked_fault holes turn depth inner turns repetition trees fault none deep whole counts checks =
-    of_template fault _ (λ error is. body_parses (named_all holes) inner turns 0 trees error (checks ∙ ap Err is))
-    (checked_turns holes turn depth inner turns repetition trees none deep whole counts
-    ∙ ap (unless_fault (named_all holes) inner repetition.body.now.stream (separator_of repetition.separator) turns)
+    → length turns + depth ≤ depth_limit → depth ≡ suc inner → trees ≡ repetition.body.now.stream
+    → turns_of (in_turns holes turns) trees ≡ Some count → checked (in_turns holes turns) inner count trees ≡ Err fault
+    → UnlessMemory fault (gives holes turns depth (repeats_of repetition) ≡ Err fault)
+checked_fault holes turns depth inner count repetition trees fault few deep whole counts checks =
+    of_template fault _ (λ error is. body_parses (in_turns holes turns) inner count trees error (checks ∙ ap Err is))
+    (checked_turns holes turns depth inner count repetition trees few deep whole counts
+    ∙ ap (unless_fault (turn_of holes turns inner repetition.body.now.stream) (separator_of repetition.separator) count)
     checks)

@@ -5,6 +5,10 @@ pub mod Choice
 pub mod Part
 pub mod Put
 pub mod Laws
+pub mod Items
+pub mod Kept
+pub mod InnerHeight
+pub mod Values
 pub mod Holes
 pub mod Interpolation
 pub mod Turns

@@ -1,4 +1,4 @@
--- A list of trees of which the first are respaced.
+-- A list of trees of which the first trees are respaced.
 use Rattle.std.specs.Prelude.{ℕ, ◌≡◌, refl, List, [], ◌∷◌, Option, Some, None, take}
 use Rattle.std.specs.Coded.{Coded, code_by, coded×, coded_list}
 use Rattle.proc_macro2.specs.Codec.{coded_forest}
@@ -11,36 +11,36 @@ use Rattle.proc_macro2.specs.declared.TokenTree.{TokenTree}
 use Rattle.proc_macro2.specs.declared.TokenTree.TheVariants.{Group, Ident, Punct, Literal}
 use Rattle.quoting.specs.Respaced.{respaced, respaced_token}
 
--- a list's trees as they were, those that are respaced, and those that are left as they were
+-- the trees of a list, its first trees after respacing, and the trees that are left
 pub record Part : Type 0 where
   pub whole : Forest
   pub done : Forest
   pub left : List TokenTree
 
--- as a pair of streams and a list
+-- the code of a `Part`, as a pair of streams and a list
 abbrev pub coded_part : Coded Part
 coded_part = code_by (Forest × (Forest × List TokenTree))
     (coded× coded_forest (coded× coded_forest (coded_list tree.the_row.coded)))
     (λ part. (part.whole, (part.done, part.left)))
     (λ fields. record { whole = fields.0; done = fields.1.0; left = fields.1.1 }) (λ _. refl)
 
--- the trees that are respaced: those that were changed, or else the first ones as they were
+-- the respaced trees: the changed ones, or else the first `count` trees
 abbrev pub done_of : Option Forest → ℕ → List TokenTree → Forest
 done_of None count trees = forest (take count trees)
 done_of (Some changed) count trees = changed
 
--- the list, once all of it is respaced
+-- the list when all of it is respaced
 abbrev pub ended : Part → Forest
 ended part = joined part.done (respaced (forest part.left))
 
--- a tree that is no group, respaced
+-- the respaced tree, if it is no group
 abbrev pub respaced_alone : TokenTree → Option Token → Forest
 respaced_alone (Group g) next = alone (Group g)
 respaced_alone (Ident i) next = alone (Ident i)
 respaced_alone (Punct p) next = leaf (respaced_token (mark_token p) next) p.span.lo p.span.hi nil
 respaced_alone (Literal l) next = alone (Literal l)
 
--- the first of the trees is a group of these
+-- whether the first tree is a group with the given contents
 abbrev pub IsOpen : List TokenTree → Forest → Type 0
 IsOpen [] inside = ⊥
 IsOpen (Group g ∷ after) inside = g.stream ≡ inside
@@ -48,7 +48,7 @@ IsOpen (Ident i ∷ after) inside = ⊥
 IsOpen (Punct p ∷ after) inside = ⊥
 IsOpen (Literal l ∷ after) inside = ⊥
 
--- these trees in the group that comes first
+-- the first tree, which is a group, with the given contents
 abbrev pub enclosed : List TokenTree → Forest → Forest
 enclosed [] inside = nil
 enclosed (Group g ∷ after) inside = group g.delimiter g.span.lo g.span.hi inside nil
@@ -61,7 +61,7 @@ abbrev pub others : List TokenTree → List TokenTree
 others [] = []
 others (tree ∷ trees) = trees
 
--- the first of the trees that were left is done, as these trees; nothing else changed
+-- the first tree that was left is done and became the given trees. Nothing else changed
 pub record Adds (old : Part) (first : Forest) (new : Part) : Type 0 where
   pub whole : new.whole ≡ old.whole
   pub done : new.done ≡ joined old.done first

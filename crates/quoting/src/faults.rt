@@ -1,4 +1,4 @@
-//! What no spacing of marks can mend, and whether any has to be mended.
+//! Checks whether a stream is well spaced, and finds errors that no choice of spacings can repair.
 ghost use Rattle.std.specs.Prelude.{◌≡◌, IfErr, IfOk, None};
 ghost use Rattle.proc_macro2.specs.Forest.{nil};
 ghost use Rattle.proc_macro2.specs.Leaf.{mark_token};
@@ -15,8 +15,8 @@ use proc_macro2::token_stream::{Step, Steps, may_be_joint};
 use proc_macro2::{Delimiter, Group, Punct, Spacing, TokenTree};
 use std::alloc::Global;
 
-/// Whether the trees are well spaced as they are. Fails with their first fault in reading order, a group coming before
-/// its contents, and where memory runs out.
+/// Returns whether the trees are well spaced. Fails with their first error in reading order, where a group comes before
+/// its contents, or if memory runs out.
 pub(crate) fn are_well_spaced(alloc: Global, trees: &[TokenTree]) -> Result<bool, QuoteError>
     ensures ok { IfOk result (λ spaced. (first_fault (forest trees.now) ≡ None)
         × (spaced ≡ well_spaced (forest trees.now))) }
@@ -25,7 +25,7 @@ pub(crate) fn are_well_spaced(alloc: Global, trees: &[TokenTree]) -> Result<bool
     let mut steps = Steps::new(alloc, trees);
     let mut spaced = true;
     while let Some(step) = steps.next()? {
-        // What fits as it is has no fault.
+        // A step that fits has no error.
         if !step_fits(step) {
             if let Some(fault) = step_fault(step) {
                 return Err(fault);
@@ -36,7 +36,7 @@ pub(crate) fn are_well_spaced(alloc: Global, trees: &[TokenTree]) -> Result<bool
     Ok(spaced)
 }
 
-/// What is wrong with the tree that the step comes to, whatever is inside it.
+/// Returns the error of the step's tree, without a look at its contents.
 fn step_fault(step: Step<'_>) -> Option<QuoteError>
     ensures { result ≡ step_fault (step_of step.entry) }
 {
@@ -47,7 +47,7 @@ fn step_fault(step: Step<'_>) -> Option<QuoteError>
     }
 }
 
-/// What is wrong with the group, whatever is inside it.
+/// Returns the error of the group, without a look at its contents.
 fn group_fault(group: &Group) -> Option<QuoteError>
     ensures { result ≡ tree_fault (GroupTree group.now) nil }
 {
@@ -57,7 +57,7 @@ fn group_fault(group: &Group) -> Option<QuoteError>
     }
 }
 
-/// What is wrong with the tree before these, whatever is inside it.
+/// Returns the error of the tree before the trees `after`, without a look at its contents.
 fn tree_fault(tree: &TokenTree, after: &[TokenTree]) -> Option<QuoteError>
     ensures { result ≡ tree_fault tree.now (forest after.now) }
 {
@@ -68,14 +68,14 @@ fn tree_fault(tree: &TokenTree, after: &[TokenTree]) -> Option<QuoteError>
     }
 }
 
-/// Whether the mark may come before these trees, whatever its spacing.
+/// Returns whether the mark may come before these trees with some spacing.
 fn may_stand(mark: &Punct, after: &[TokenTree]) -> bool
     ensures { result ≡ may_stand (mark_token mark.now) (next_token (forest after.now)) }
 {
     mark.as_char() != '\'' || may_be_joint('\'', after)
 }
 
-/// Whether the group that the step goes into is shown, or its token is spaced as it has to be there.
+/// Returns whether the step enters a group with delimiters, or comes to a token that is well spaced.
 fn step_fits(step: Step<'_>) -> bool
     ensures { result ≡ step_fits (step_of step.entry) }
 {
@@ -86,7 +86,7 @@ fn step_fits(step: Step<'_>) -> bool
     }
 }
 
-/// Whether the tree may come before these as it is, whatever is inside it.
+/// Returns whether the tree is well spaced before the trees `after`, without a look at its contents.
 fn tree_fits(tree: &TokenTree, after: &[TokenTree]) -> bool
     ensures { result ≡ tree_fits tree.now (forest after.now) }
 {
@@ -97,7 +97,7 @@ fn tree_fits(tree: &TokenTree, after: &[TokenTree]) -> bool
     }
 }
 
-/// Whether the mark may come before these trees with the spacing that it has.
+/// Returns whether the mark may come before these trees with its present spacing.
 fn mark_fits(mark: &Punct, after: &[TokenTree]) -> bool
     ensures { result ≡ fits (mark_token mark.now) (next_token (forest after.now)) }
 {

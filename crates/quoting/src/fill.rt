@@ -1,64 +1,68 @@
-//! Templates whose holes are filled.
+//! Fills the holes of a template that is shared.
 //!
-//! Groups nest no deeper in a template than a limit, so that the functions may call themselves for them.
-ghost use Rattle.std.specs.Prelude.{◌≡◌, All, IfErr, IfOk, Ok, Err, OnOk};
+//! The functions call themselves for groups. The stack is bounded, since templates with groups below a fixed depth are
+//! rejected.
+ghost use Rattle.std.specs.Prelude.{◌≡◌, ◌≤◌, ◌+◌, ◌++◌, ◌∷◌, [], All, IfErr, IfOk, Ok, Err, OnOk, length};
 ghost use Rattle.std.specs.List.{list_all};
 ghost use Rattle.proc_macro2.specs.Forest.{joined};
 ghost use Rattle.proc_macro2.specs.Trees.{forest, GoesInside};
-ghost use Rattle.quoting.specs.Filled.{before_turn, followed, has_meaning, filled_by};
+ghost use Rattle.quoting.specs.Filled.{before_turn, depth_limit, followed, has_meaning, filled_by};
 ghost use Rattle.quoting.specs.Given.{UnlessMemory, apart_before, gives, inside_at, is_fixed, repeats_of, separator_of};
 
 use crate::builder::StreamBuilder;
 use crate::errors::TemplateError;
 use crate::holes::Hole;
 use crate::interpolation::{FoundInterpolation, Repetition, interpolation_at};
+use crate::putting::put_name;
 use crate::respace::{regrouped, spaced};
 use crate::turns::{checked, turns_of};
 use proc_macro2::{Group, Punct, Spacing, TokenStream, TokenTree};
 use std::alloc::{AllocError, Global};
 
-/// The trees with the holes filled, where groups may nest so deep. In a turn of a repetition the turn's stream of each
-/// list comes.
+/// Returns the template with its holes filled in these turns of repetitions, the outermost first. Groups may nest up
+/// to `depth` deep.
 #[cycle(filled)]
 pub(crate) fn filled(
     alloc: Global,
     template: &TokenStream,
     holes: &[Hole<'_>],
-    turn: Option<usize>,
+    turns: &[usize],
     depth: usize,
 ) -> Result<TokenStream, TemplateError>
-    ensures ok { IfOk result (λ stream. filled_by (gives holes.now turn) depth 0 template.now ≡ Ok stream) }
+    requires { length turns.now + depth ≤ depth_limit }
+    ensures ok { IfOk result (λ stream. filled_by (gives holes.now turns.now) depth 0 template.now ≡ Ok stream) }
     ensures fault { IfErr result (λ fault.
-        UnlessMemory fault (filled_by (gives holes.now turn) depth 0 template.now ≡ Err fault)) }
+        UnlessMemory fault (filled_by (gives holes.now turns.now) depth 0 template.now ≡ Err fault)) }
 {
     let trees = template.trees();
     let mut out = StreamBuilder::new(alloc);
-    fill_onto(alloc, &mut out, trees, holes, turn, depth)?;
+    fill_onto(alloc, &mut out, trees, holes, turns, depth)?;
     Ok(out.finish()?)
 }
 
-/// Puts the trees with the holes filled after those of the stream, as `filled` does.
+/// Adds the trees of the template to the stream, with their holes filled as `filled` does.
 #[cycle(filled)]
 fn fill_onto(
     alloc: Global,
     out: &mut StreamBuilder,
     template: &[TokenTree],
     holes: &[Hole<'_>],
-    turn: Option<usize>,
+    turns: &[usize],
     depth: usize,
 ) -> Result<(), TemplateError>
-    requires { All GoesInside template.now }
+    requires inside { All GoesInside template.now }
+    requires few { length turns.now + depth ≤ depth_limit }
     ensures ok { OnOk result (followed (Ok out.old)
-        (filled_by (gives holes.now turn) depth 0 (forest template.now)) ≡ Ok out.new) }
+        (filled_by (gives holes.now turns.now) depth 0 (forest template.now)) ≡ Ok out.new) }
     ensures fault { IfErr result (λ fault.
-        UnlessMemory fault (filled_by (gives holes.now turn) depth 0 (forest template.now) ≡ Err fault)) }
+        UnlessMemory fault (filled_by (gives holes.now turns.now) depth 0 (forest template.now) ≡ Err fault)) }
 {
     let mut left = template;
     while let Some((tree, after)) = left.split_first() {
         match interpolation_at(tree, after) {
             None => {
                 if let TokenTree::Group(group) = tree {
-                    let inside = filled_inside(alloc, group, holes, turn, depth)?;
+                    let inside = filled_inside(alloc, group, holes, turns, depth)?;
                     out.put(TokenTree::Group(regrouped(group, inside)), after.len())?;
                 } else {
                     out.put(apart_before(tree, after)?, after.len())?;
@@ -66,11 +70,11 @@ fn fill_onto(
                 left = after;
             }
             Some(FoundInterpolation::Names(name, rest)) => {
-                out.append(name.put_in(holes, turn)?, rest.len())?;
+                put_name(alloc, out, &name, holes, turns, rest.len())?;
                 left = rest;
             }
             Some(FoundInterpolation::Repeats(repetition, rest)) => {
-                repeat_onto(alloc, out, &repetition, holes, turn, depth)?;
+                repeat_onto(alloc, out, &repetition, holes, turns, depth)?;
                 left = rest;
             }
         }
@@ -78,7 +82,7 @@ fn fill_onto(
     Ok(())
 }
 
-/// A copy of the tree before these, a mark Alone where what comes first there has a meaning.
+/// Returns a copy of the tree. A mark is Alone in the copy if a hole or a repetition begins right after it.
 fn apart_before(tree: &TokenTree, after: &[TokenTree]) -> Result<TokenTree, AllocError>
     ensures { IfOk result (λ copy. copy ≡ apart_before (forest after.now) tree.now) }
 {
@@ -91,7 +95,7 @@ fn apart_before(tree: &TokenTree, after: &[TokenTree]) -> Result<TokenTree, Allo
     }
 }
 
-/// Whether what comes first has a meaning.
+/// Returns whether the trees begin with a hole or a repetition.
 pub(crate) fn has_meaning(trees: &[TokenTree]) -> bool
     ensures { result ≡ has_meaning (forest trees.now) }
 {
@@ -101,31 +105,32 @@ pub(crate) fn has_meaning(trees: &[TokenTree]) -> bool
     }
 }
 
-/// The trees of the group with the holes filled, where it stands inside of such trees.
+/// Returns the contents of the group with their holes filled. Groups may nest up to `depth` deep, this group included.
 #[cycle(filled)]
 fn filled_inside(
     alloc: Global,
     group: &Group,
     holes: &[Hole<'_>],
-    turn: Option<usize>,
+    turns: &[usize],
     depth: usize,
 ) -> Result<TokenStream, TemplateError>
-    ensures ok { IfOk result (λ inside. inside_at (gives holes.now turn) depth group.now ≡ Ok inside) }
+    requires { length turns.now + depth ≤ depth_limit }
+    ensures ok { IfOk result (λ inside. inside_at (gives holes.now turns.now) depth group.now ≡ Ok inside) }
     ensures fault { IfErr result (λ fault.
-        UnlessMemory fault (inside_at (gives holes.now turn) depth group.now ≡ Err fault)) }
+        UnlessMemory fault (inside_at (gives holes.now turns.now) depth group.now ≡ Err fault)) }
 {
     let Some(inner) = depth.checked_sub(1) else {
         return Err(TemplateError::TooDeep(group.span()));
     };
     let template = group.stream_ref();
-    // Where nothing is to be filled the trees are shared.
+    // If there is nothing to fill, the trees are shared.
     if are_fixed(template.trees()) {
         return Ok(template.clone()?);
     }
-    filled(alloc, template, holes, turn, inner)
+    filled(alloc, template, holes, turns, inner)
 }
 
-/// Whether the trees are neither groups nor `#`, and so come out as they are.
+/// Returns whether no tree is a group or a `#`, so that filling changes nothing.
 pub(crate) fn are_fixed(trees: &[TokenTree]) -> bool
     ensures { result ≡ list_all is_fixed trees.now }
 {
@@ -137,7 +142,7 @@ pub(crate) fn are_fixed(trees: &[TokenTree]) -> bool
     true
 }
 
-/// Whether the tree is neither a group nor a `#`.
+/// Returns whether the tree is neither a group nor a `#`.
 fn is_fixed(tree: &TokenTree) -> bool
     ensures { result ≡ is_fixed tree.now }
 {
@@ -148,42 +153,77 @@ fn is_fixed(tree: &TokenTree) -> bool
     }
 }
 
-/// Puts the turns of a repetition after the trees of the stream, with the separator between them. That it names no list
-/// comes before what is wrong inside.
+/// Adds the turns of a repetition to the stream, with the separator between them. The error `NoList` comes before any
+/// error inside the repetition.
 #[cycle(filled)]
 pub(crate) fn repeat_onto(
     alloc: Global,
     out: &mut StreamBuilder,
     repetition: &Repetition<'_>,
     holes: &[Hole<'_>],
-    turn: Option<usize>,
+    turns: &[usize],
     depth: usize,
 ) -> Result<(), TemplateError>
+    requires { length turns.now + depth ≤ depth_limit }
     ensures ok { OnOk result (followed (Ok out.old)
-        (gives holes.now turn depth (repeats_of repetition.now)) ≡ Ok out.new) }
+        (gives holes.now turns.now depth (repeats_of repetition.now)) ≡ Ok out.new) }
     ensures fault { IfErr result (λ fault.
-        UnlessMemory fault (gives holes.now turn depth (repeats_of repetition.now) ≡ Err fault)) }
+        UnlessMemory fault (gives holes.now turns.now depth (repeats_of repetition.now) ≡ Err fault)) }
 {
     let body = repetition.body;
-    if turn.is_some() {
-        return Err(TemplateError::Nested(body.span()));
-    }
     let Some(inner) = depth.checked_sub(1) else {
         return Err(TemplateError::TooDeep(body.span()));
     };
     let trees = body.stream_ref().trees();
-    let Some(turns) = turns_of(alloc, trees, holes)? else {
+    let Some(count) = turns_of(alloc, trees, holes, turns)? else {
         return Err(TemplateError::NoList(body.span()));
     };
-    checked(trees, holes, inner, turns)?;
-    for turn in 0..turns {
+    checked(trees, holes, turns, inner, count)?;
+    for turn in 0..count {
         separate(out, repetition.separator, turn, trees.len())?;
-        fill_onto(alloc, out, trees, holes, Some(turn), inner)?;
+        fill_turn(alloc, out, trees, holes, turns, turn, inner)?;
     }
     Ok(())
 }
 
-/// Puts the separator at the end, Alone, before a turn that is not the first. So many more trees are expected.
+/// Adds the trees of one turn of a repetition to the stream, with their holes filled. `turns` are those of the
+/// repetitions around it.
+#[cycle(filled)]
+fn fill_turn(
+    alloc: Global,
+    out: &mut StreamBuilder,
+    template: &[TokenTree],
+    holes: &[Hole<'_>],
+    turns: &[usize],
+    turn: usize,
+    depth: usize,
+) -> Result<(), TemplateError>
+    requires inside { All GoesInside template.now }
+    requires few { length turns.now + (1 + depth) ≤ depth_limit }
+    ensures ok { OnOk result (followed (Ok out.old)
+        (filled_by (gives holes.now (turns.now ++ turn ∷ [])) depth 0 (forest template.now)) ≡ Ok out.new) }
+    ensures fault { IfErr result (λ fault. UnlessMemory fault
+        (filled_by (gives holes.now (turns.now ++ turn ∷ [])) depth 0 (forest template.now) ≡ Err fault)) }
+{
+    // Most repetitions are not inside another one. They need no list of turns.
+    if turns.is_empty() {
+        return fill_onto(alloc, out, template, holes, &[turn], depth);
+    }
+    let here = and_turn(alloc, turns, turn)?;
+    fill_onto(alloc, out, template, holes, here.as_slice(), depth)
+}
+
+/// Returns the turns of the outer repetitions, followed by this turn.
+fn and_turn(alloc: Global, turns: &[usize], turn: usize) -> Result<Vec<usize>, AllocError>
+    ensures { IfOk result (λ list. list.items ≡ turns.now ++ turn ∷ []) }
+{
+    let mut list = Vec::with_capacity(alloc, turns.len().saturating_add(1))?;
+    list.extend_from_slice(turns)?;
+    list.push(turn)?;
+    Ok(list)
+}
+
+/// Adds the separator, Alone, before every turn but the first. About `more` trees are expected after it.
 fn separate(
     out: &mut StreamBuilder,
     separator: Option<&Punct>,

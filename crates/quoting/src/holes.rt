@@ -1,32 +1,45 @@
-//! What the holes of a template stand for.
-ghost use Rattle.std.specs.Prelude.{◌≡◌, IfErr, IfOk, Ok, Err, nat_eq};
+//! The holes of a template and their values.
+ghost use Rattle.std.specs.Prelude.{◌≡◌, Some, nat_eq};
 ghost use Rattle.std.specs.Cmp.Lexicographic.{pointwise};
 ghost use Rattle.std.specs.Str.{chars};
-ghost use Rattle.quoting.specs.Given.{UnlessMemory, looked_up, named, named_all, span_of, text_of};
-ghost use Rattle.quoting.specs.Holes.{filling_of, put_in};
-ghost use Rattle.quoting.specs.Holes.{One as OneStream, Each as EachStream};
+ghost use Rattle.quoting.specs.Given.{filling_by, in_turns, looked_up, named, named_all, span_of, text_of};
+ghost use Rattle.quoting.specs.Holes.{filling_of, in_turn, list_length, value_at};
+ghost use Rattle.quoting.specs.Items.{each_of};
+ghost use Rattle.quoting.specs.Items.{One as OneStream, Each as EachStream};
+ghost use Rattle.quoting.specs.Kept.{kept};
+ghost use Rattle.quoting.specs.Values.{value_of};
 
-use crate::errors::TemplateError;
-use proc_macro2::{Ident, Literal, Span, TokenStream};
+use crate::values::{Item, Value};
+use proc_macro2::{Ident, Literal, Span, TokenStream, TokenTree};
 
-/// A name in templates, and what it stands for: one stream, or a list of streams.
+/// A name that templates can use, and its value: trees or a list.
 #[derive(Clone, Copy)]
 pub struct Hole<'a> {
     name: &'a str,
     filling: Filling<'a>,
 }
 
-/// What a hole stands for.
+/// The value of a hole, or of a list's element.
 #[derive(Clone, Copy)]
 pub(crate) enum Filling<'a> {
-    // One stream.
+    // The trees of one stream.
     One(&'a TokenStream),
-    // In each turn of a repetition the next stream.
+    // A list of streams, of which each turn of a repetition takes the next.
     Each(&'a [TokenStream]),
+    // A value of any kind.
+    Of(&'a Value<'a>),
+    // The elements of lists of trees, identifiers, literals and strings.
+    Tree(&'a TokenTree),
+    Ident(&'a Ident),
+    Literal(&'a Literal),
+    Text(&'a str),
+    Item(&'a Item),
 }
 
 impl<'a> Hole<'a> {
-    /// The hole `#name`, which stands for this stream. The name is the text of an identifier, or ASCII digits.
+    /// Returns a hole whose value is one stream: `#name` is replaced by its trees.
+    ///
+    /// The name is the text of an identifier, or ASCII digits.
     pub fn one(name: &'a str, stream: &'a TokenStream) -> Hole<'a>
         ensures { named result ≡ record { name = chars name.now; filling = OneStream stream.now } }
     {
@@ -36,18 +49,130 @@ impl<'a> Hole<'a> {
         }
     }
 
-    /// The hole `#name`, which stands for the next of these streams in each turn of a repetition.
+    /// Returns a hole whose value is a list of streams: each turn of a repetition takes the next one.
     pub fn each(name: &'a str, streams: &'a [TokenStream]) -> Hole<'a>
-        ensures { named result ≡ record { name = chars name.now; filling = EachStream streams.now } }
+        ensures { named result
+            ≡ record { name = chars name.now; filling = EachStream (each_of OneStream streams.now) } }
     {
         Hole {
             name,
             filling: Filling::Each(streams),
         }
     }
+
+    /// Returns a hole with a value of any kind.
+    ///
+    /// With `Value::Number(Number::U8(7))` for `count`, `[0; #count]` is `[0; 7u8]`.
+    pub fn of(name: &'a str, value: &'a Value<'a>) -> Hole<'a>
+        ensures { named result ≡ record { name = chars name.now; filling = value_of value.now } }
+    {
+        Hole {
+            name,
+            filling: Filling::Of(value),
+        }
+    }
 }
 
-/// What names a hole in a template.
+impl<'a> Filling<'a> {
+    /// Returns the list's value for a turn, counted from 0. Returns the filling itself if it is no list or has no value
+    /// for the turn.
+    fn in_turn(self, turn: usize) -> Filling<'a>
+        ensures { filling_by result ≡ in_turn turn (filling_by self.entry) }
+    {
+        match self.value_at(turn) {
+            Some(value) => value,
+            None => self,
+        }
+    }
+
+    /// Returns the list's value for a turn, or `None` if it is no list or has no value for the turn.
+    #[tactic(auto, using(crate::proofs::ItemLemmas::item_at_each))]
+    fn value_at(self, turn: usize) -> Option<Filling<'a>>
+        ensures { looked_up result ≡ value_at turn (filling_by self.entry) }
+    {
+        match self {
+            Filling::Each(streams) => Some(Filling::One(streams.get(turn)?)),
+            Filling::Of(value) => list_value(value, turn),
+            Filling::Item(item) => item_value(item, turn),
+            Filling::One(_)
+            | Filling::Tree(_)
+            | Filling::Ident(_)
+            | Filling::Literal(_)
+            | Filling::Text(_) => None,
+        }
+    }
+
+    /// Returns the number of values, if the filling is a list.
+    #[tactic(auto, using(crate::proofs::ItemLemmas::item_count_each))]
+    pub(crate) fn len(self) -> Option<usize>
+        ensures { result ≡ list_length (Some (filling_by self.entry)) }
+    {
+        match self {
+            Filling::Each(streams) => Some(streams.len()),
+            Filling::Of(value) => list_len(value),
+            Filling::Item(item) => item_len(item),
+            Filling::One(_)
+            | Filling::Tree(_)
+            | Filling::Ident(_)
+            | Filling::Literal(_)
+            | Filling::Text(_) => None,
+        }
+    }
+}
+
+/// Returns the list's value for a turn, or `None` if `value` is no list or has no value for the turn.
+#[tactic(auto, using(crate::proofs::ItemLemmas::item_at_each))]
+fn list_value<'a>(value: &'a Value<'a>, turn: usize) -> Option<Filling<'a>>
+    ensures { looked_up result ≡ value_at turn (value_of value.now) }
+{
+    match value {
+        Value::Streams(streams) => Some(Filling::One(streams.get(turn)?)),
+        Value::Trees(trees) => Some(Filling::Tree(trees.get(turn)?)),
+        Value::Idents(idents) => Some(Filling::Ident(idents.get(turn)?)),
+        Value::Literals(literals) => Some(Filling::Literal(literals.get(turn)?)),
+        Value::Strings(texts) => Some(Filling::Text(texts.get(turn)?)),
+        Value::List(values) => Some(Filling::Item(values.get(turn)?)),
+        _ => None,
+    }
+}
+
+/// Returns the number of values, if `value` is a list.
+#[tactic(auto, using(crate::proofs::ItemLemmas::item_count_each))]
+fn list_len(value: &Value<'_>) -> Option<usize>
+    ensures { result ≡ list_length (Some (value_of value.now)) }
+{
+    match value {
+        Value::Streams(streams) => Some(streams.len()),
+        Value::Trees(trees) => Some(trees.len()),
+        Value::Idents(idents) => Some(idents.len()),
+        Value::Literals(literals) => Some(literals.len()),
+        Value::Strings(texts) => Some(texts.len()),
+        Value::List(values) => Some(values.len()),
+        _ => None,
+    }
+}
+
+/// Returns the value of an item for a turn, or `None` if the item is no list or has no such value.
+fn item_value<'a>(item: &'a Item, turn: usize) -> Option<Filling<'a>>
+    ensures { looked_up result ≡ value_at turn (kept item.now) }
+{
+    match item {
+        Item::List(values) => Some(Filling::Item(values.get(turn)?)),
+        _ => None,
+    }
+}
+
+/// Returns how many values an item has, if it is a list.
+fn item_len(item: &Item) -> Option<usize>
+    ensures { result ≡ list_length (Some (kept item.now)) }
+{
+    match item {
+        Item::List(values) => Some(values.len()),
+        _ => None,
+    }
+}
+
+/// The tree that names a hole in a template.
 #[derive(Clone, Copy)]
 pub(crate) enum HoleName<'a> {
     Word(&'a Ident),
@@ -55,7 +180,7 @@ pub(crate) enum HoleName<'a> {
 }
 
 impl<'a> HoleName<'a> {
-    /// Where it stands.
+    /// Returns the span of the name in the template.
     pub(crate) fn span(&self) -> Span
         ensures { result ≡ span_of self.now }
     {
@@ -65,7 +190,7 @@ impl<'a> HoleName<'a> {
         }
     }
 
-    /// Whether its text is this one.
+    /// Returns whether the name has this text.
     fn is(&self, text: &str) -> bool
         ensures { result ≡ pointwise nat_eq (text_of self.now) (chars text.now) }
     {
@@ -75,8 +200,8 @@ impl<'a> HoleName<'a> {
         }
     }
 
-    /// What the first hole of this name stands for.
-    pub(crate) fn filling<'h>(&self, holes: &[Hole<'h>]) -> Option<Filling<'h>>
+    /// Returns the value of the first hole of this name.
+    fn found<'h>(&self, holes: &[Hole<'h>]) -> Option<Filling<'h>>
         ensures { looked_up result ≡ filling_of (named_all holes.now) (text_of self.now) }
     {
         for hole in holes {
@@ -87,30 +212,15 @@ impl<'a> HoleName<'a> {
         None
     }
 
-    /// The stream that comes in its place: in a turn of a repetition also that of a list.
-    pub(crate) fn put_in<'h>(
-        &self,
-        holes: &[Hole<'h>],
-        turn: Option<usize>,
-    ) -> Result<&'h TokenStream, TemplateError>
-        ensures ok { IfOk result (λ stream.
-            put_in turn (span_of self.now) (filling_of (named_all holes.now) (text_of self.now)) ≡ Ok stream.now) }
-        ensures fault { IfErr result (λ fault. UnlessMemory fault
-            (put_in turn (span_of self.now) (filling_of (named_all holes.now) (text_of self.now)) ≡ Err fault)) }
+    /// Returns the value of the first hole of this name in these turns of repetitions, the outermost first.
+    #[tactic(auto, using(crate::proofs::ItemLemmas::filling_begun))]
+    pub(crate) fn filling<'h>(&self, holes: &[Hole<'h>], turns: &[usize]) -> Option<Filling<'h>>
+        ensures { looked_up result ≡ filling_of (in_turns holes.now turns.now) (text_of self.now) }
     {
-        let stream = match self.filling(holes) {
-            None => return Err(TemplateError::NoHole(self.span())),
-            Some(Filling::One(stream)) => stream,
-            Some(Filling::Each(streams)) => {
-                let Some(turn) = turn else {
-                    return Err(TemplateError::LoneList(self.span()));
-                };
-                let Some(stream) = streams.get(turn) else {
-                    return Err(TemplateError::UnequalLists(self.span()));
-                };
-                stream
-            }
-        };
-        Ok(stream)
+        let mut filling = self.found(holes)?;
+        for turn in turns {
+            filling = filling.in_turn(*turn);
+        }
+        Some(filling)
     }
 }

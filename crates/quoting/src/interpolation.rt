@@ -1,4 +1,4 @@
-//! What has a meaning in a template.
+//! Finds the holes and repetitions of a template.
 ghost use Rattle.std.specs.Prelude.{◌≡◌, ◌∷◌, IfSome, drop};
 ghost use Rattle.std.specs.Char.{is_ascii_digit};
 ghost use Rattle.std.specs.List.{list_all};
@@ -11,7 +11,7 @@ ghost use Rattle.quoting.specs.Interpolation.{after_hash, taken};
 use crate::holes::HoleName;
 use proc_macro2::{Delimiter, Group, Punct, TokenTree};
 
-/// What has a meaning in a template, and the trees after it.
+/// A hole or a repetition in a template, and the trees after it.
 #[derive(Clone, Copy)]
 pub(crate) enum FoundInterpolation<'a> {
     // `#` and the name of a hole.
@@ -20,14 +20,14 @@ pub(crate) enum FoundInterpolation<'a> {
     Repeats(Repetition<'a>, &'a [TokenTree]),
 }
 
-/// What is repeated, and the mark that stands between the turns.
+/// The group that is repeated, and the mark between two turns.
 #[derive(Clone, Copy)]
 pub(crate) struct Repetition<'a> {
     pub(crate) body: &'a Group,
     pub(crate) separator: Option<&'a Punct>,
 }
 
-/// What the tree begins before these. `None` where it stands for itself.
+/// Returns the hole or the repetition that begins with the tree. Returns `None` if the tree is an ordinary one.
 #[inline(always)]
 pub(crate) fn interpolation_at<'a>(
     tree: &TokenTree,
@@ -42,7 +42,7 @@ pub(crate) fn interpolation_at<'a>(
     begun(after)
 }
 
-/// What a `#` before these trees begins.
+/// Returns the hole or the repetition that a `#` before these trees begins.
 #[inline(never)]
 fn begun(after: &[TokenTree]) -> Option<FoundInterpolation<'_>>
     ensures found { begun_as result ≡ after_hash (forest after.now) }
@@ -55,7 +55,7 @@ fn begun(after: &[TokenTree]) -> Option<FoundInterpolation<'_>>
     Some(FoundInterpolation::Names(name_of(first)?, rest))
 }
 
-/// The repetition of the group before these trees, where there is one.
+/// Returns the repetition of the group, if the trees after it are a `*`, or a mark and a `*`.
 fn repetition_of<'a>(body: &'a Group, after: &'a [TokenTree]) -> Option<FoundInterpolation<'a>>
     ensures found { begun_as result ≡ repeats body.now (forest after.now) }
     ensures rest { IfSome result (λ found.
@@ -80,7 +80,7 @@ fn repetition_of<'a>(body: &'a Group, after: &'a [TokenTree]) -> Option<FoundInt
     Some(FoundInterpolation::Repeats(Repetition { body, separator }, rest))
 }
 
-/// The name that the tree is: an identifier, or a literal of digits alone.
+/// Returns the tree as a hole's name: an identifier, or a literal of digits alone.
 fn name_of(tree: &TokenTree) -> Option<HoleName<'_>>
     ensures { named_by result ≡ tree_name tree.now }
 {
@@ -93,14 +93,14 @@ fn name_of(tree: &TokenTree) -> Option<HoleName<'_>>
     }
 }
 
-/// Whether there are ASCII digits alone.
+/// Returns whether the text has only ASCII digits.
 fn all_digits(text: &str) -> bool
     ensures { result ≡ list_all is_ascii_digit (chars text.now) }
 {
     text.chars().all(|c| c.is_ascii_digit())
 }
 
-/// Whether the tree is this mark, Joint or Alone.
+/// Returns whether the tree is this mark, with any spacing.
 #[inline(always)]
 fn is_mark(tree: &TokenTree, mark: char) -> bool
     ensures { result ≡ tree_is_mark mark tree.now }

@@ -1,10 +1,11 @@
-//! Templates that belong to no one else: their lists are filled where they stand.
+//! Fills the holes of a template that nobody else uses, and reuses its lists.
 //!
-//! Groups nest no deeper in a template than a limit, so that the functions may call themselves for them.
-ghost use Rattle.std.specs.Prelude.{◌≡◌, IfErr, IfOk, Ok, Err, None, OnOk};
+//! The functions call themselves for groups. The stack is bounded, since templates with groups below a fixed depth are
+//! rejected.
+ghost use Rattle.std.specs.Prelude.{◌≡◌, ◌≤◌, [], IfErr, IfOk, Ok, Err, OnOk};
 ghost use Rattle.proc_macro2.specs.Forest.{Forest, IsBuilt};
 ghost use Rattle.proc_macro2.specs.Trees.{alone, forest, GoesInside};
-ghost use Rattle.quoting.specs.Filled.{followed, filled_by};
+ghost use Rattle.quoting.specs.Filled.{depth_limit, followed, filled_by};
 ghost use Rattle.quoting.specs.Given.{Settles, UnlessMemory, apart, apart_before, gives, inside_at, inside_tree};
 
 use crate::builder::StreamBuilder;
@@ -12,13 +13,14 @@ use crate::errors::TemplateError;
 use crate::fill::{are_fixed, has_meaning, repeat_onto};
 use crate::holes::Hole;
 use crate::interpolation::{FoundInterpolation, interpolation_at};
+use crate::putting::put_name;
 use crate::respace::spaced;
 use pm_stream::parts;
 use proc_macro2::{Group, Spacing, TokenStream, TokenTree};
 use std::alloc::Global;
 
-/// The trees with the holes filled, where groups may nest so deep, as `filled` gives them outside of repetitions. What
-/// stands before the first hole stays where it is.
+/// Returns the template with its holes filled, as `filled` does outside of repetitions. The trees before the first hole
+/// keep their list. Groups may nest up to `depth` deep.
 #[cycle(filled_in_place)]
 pub(crate) fn filled_in_place(
     alloc: Global,
@@ -26,9 +28,10 @@ pub(crate) fn filled_in_place(
     holes: &[Hole<'_>],
     depth: usize,
 ) -> Result<TokenStream, TemplateError>
-    ensures ok { IfOk result (λ stream. filled_by (gives holes.now None) depth 0 template ≡ Ok stream) }
+    requires { depth ≤ depth_limit }
+    ensures ok { IfOk result (λ stream. filled_by (gives holes.now []) depth 0 template ≡ Ok stream) }
     ensures fault { IfErr result (λ fault.
-        UnlessMemory fault (filled_by (gives holes.now None) depth 0 template ≡ Err fault)) }
+        UnlessMemory fault (filled_by (gives holes.now []) depth 0 template ≡ Err fault)) }
 {
     let mut list = parts::into_trees(template)?;
     let mut done = 0;
@@ -50,7 +53,7 @@ pub(crate) fn filled_in_place(
     Ok(out.finish()?)
 }
 
-/// Puts the trees with the holes filled after those of the stream.
+/// Adds the trees of `rest` to the stream, with their holes filled.
 #[cycle(filled_in_place)]
 fn fill_rest(
     alloc: Global,
@@ -59,11 +62,12 @@ fn fill_rest(
     holes: &[Hole<'_>],
     depth: usize,
 ) -> Result<(), TemplateError>
-    requires { IsBuilt (forest rest.items) }
+    requires built { IsBuilt (forest rest.items) }
+    requires few { depth ≤ depth_limit }
     ensures ok { OnOk result (followed (Ok out.old)
-        (filled_by (gives holes.now None) depth 0 (forest rest.items)) ≡ Ok out.new) }
+        (filled_by (gives holes.now []) depth 0 (forest rest.items)) ≡ Ok out.new) }
     ensures fault { IfErr result (λ fault.
-        UnlessMemory fault (filled_by (gives holes.now None) depth 0 (forest rest.items) ≡ Err fault)) }
+        UnlessMemory fault (filled_by (gives holes.now []) depth 0 (forest rest.items) ≡ Err fault)) }
 {
     let mut list = rest;
     let mut done = 0;
@@ -78,12 +82,12 @@ fn fill_rest(
             }
             Some(FoundInterpolation::Names(name, left)) => {
                 let more = left.len();
-                out.append(name.put_in(holes, None)?, more)?;
+                put_name(alloc, out, &name, holes, &[], more)?;
                 done = list.len() - more;
             }
             Some(FoundInterpolation::Repeats(repetition, left)) => {
                 let more = left.len();
-                repeat_onto(alloc, out, &repetition, holes, None, depth)?;
+                repeat_onto(alloc, out, &repetition, holes, &[], depth)?;
                 done = list.len() - more;
             }
         }
@@ -91,7 +95,8 @@ fn fill_rest(
     Ok(())
 }
 
-/// Makes the tree, which begins nothing, what comes out in its place.
+/// Changes the tree, which begins neither a hole nor a repetition, into the tree of the result. It also proves that the
+/// new tree can be part of a stream.
 #[cycle(filled_in_place)]
 #[inline(always)]
 fn settle(
@@ -101,12 +106,13 @@ fn settle(
     holes: &[Hole<'_>],
     depth: usize,
 ) -> Result<(), TemplateError>
-    requires { GoesInside tree.old }
-    ensures ok { OnOk result (Settles (gives holes.now None) depth apart tree.old tree.new) }
+    requires inside { GoesInside tree.old }
+    requires few { depth ≤ depth_limit }
+    ensures ok { OnOk result (Settles (gives holes.now []) depth apart tree.old tree.new) }
     ensures inside { OnOk result (GoesInside tree.new) }
     ensures built { OnOk result (IsBuilt (alone tree.new)) }
     ensures fault { IfErr result (λ fault.
-        UnlessMemory fault (inside_tree (gives holes.now None) depth tree.old ≡ Err fault)) }
+        UnlessMemory fault (inside_tree (gives holes.now []) depth tree.old ≡ Err fault)) }
 {
     change(alloc, tree, apart, holes, depth)?;
     // It computes nothing: proofs learn what is true of every tree.
@@ -114,7 +120,7 @@ fn settle(
     Ok(())
 }
 
-/// Fills the group inside, or sets the mark Alone.
+/// Fills the contents of a group, or sets a mark Alone if `apart` is true.
 #[cycle(filled_in_place)]
 #[inline(always)]
 fn change(
@@ -124,11 +130,12 @@ fn change(
     holes: &[Hole<'_>],
     depth: usize,
 ) -> Result<(), TemplateError>
-    requires { GoesInside tree.old }
-    ensures ok { OnOk result (Settles (gives holes.now None) depth apart tree.old tree.new) }
+    requires inside { GoesInside tree.old }
+    requires few { depth ≤ depth_limit }
+    ensures ok { OnOk result (Settles (gives holes.now []) depth apart tree.old tree.new) }
     ensures inside { OnOk result (GoesInside tree.new) }
     ensures fault { IfErr result (λ fault.
-        UnlessMemory fault (inside_tree (gives holes.now None) depth tree.old ≡ Err fault)) }
+        UnlessMemory fault (inside_tree (gives holes.now []) depth tree.old ≡ Err fault)) }
 {
     match tree {
         TokenTree::Group(group) => fill_group(alloc, group, holes, depth),
@@ -142,7 +149,7 @@ fn change(
     }
 }
 
-/// Fills the group inside.
+/// Fills the contents of the group.
 #[cycle(filled_in_place)]
 fn fill_group(
     alloc: Global,
@@ -150,15 +157,16 @@ fn fill_group(
     holes: &[Hole<'_>],
     depth: usize,
 ) -> Result<(), TemplateError>
-    ensures ok { OnOk result ((inside : Forest) × (inside_at (gives holes.now None) depth group.old ≡ Ok inside)
+    requires { depth ≤ depth_limit }
+    ensures ok { OnOk result ((inside : Forest) × (inside_at (gives holes.now []) depth group.old ≡ Ok inside)
         × (group.new ≡ record group.old { stream = inside })) }
     ensures fault { IfErr result (λ fault.
-        UnlessMemory fault (inside_at (gives holes.now None) depth group.old ≡ Err fault)) }
+        UnlessMemory fault (inside_at (gives holes.now []) depth group.old ≡ Err fault)) }
 {
     let Some(inner) = depth.checked_sub(1) else {
         return Err(TemplateError::TooDeep(group.span()));
     };
-    // Where nothing is to be filled the trees stay.
+    // If there is nothing to fill, the trees stay in their list.
     if are_fixed(group.stream_ref().trees()) {
         return Ok(());
     }
@@ -167,7 +175,7 @@ fn fill_group(
     Ok(())
 }
 
-/// Whether the tree is a mark that comes out Alone before these trees.
+/// Returns whether the tree is a mark right before a hole or a repetition, which makes it Alone.
 #[inline(always)]
 fn comes_apart(tree: &TokenTree, after: &[TokenTree]) -> bool
     ensures { apart result tree.now ≡ apart_before (forest after.now) tree.now }

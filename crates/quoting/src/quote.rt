@@ -1,4 +1,4 @@
-//! The builder.
+//! The type `Quote`, which builds a stream.
 ghost use Rattle.std.specs.Prelude.{◌≡◌, IfErr, IfOk, None, OnErr, OnOk};
 ghost use Rattle.proc_macro2.specs.Building.{split};
 ghost use Rattle.proc_macro2.specs.Forest.{joined, nil};
@@ -15,7 +15,7 @@ use proc_macro2::{TokenStream, TokenTree};
 use std::alloc::{AllocError, Global};
 use std::marker::Model;
 
-/// Trees that are to become a stream. It is seen as the trees that were pushed, in order.
+/// A builder that collects trees and makes a stream of them. Contracts see it as the trees that were pushed, in order.
 #[derive(Drop)]
 pub struct Quote {
     alloc: Global,
@@ -34,7 +34,7 @@ impl Model for Quote {
 }
 
 impl Quote {
-    /// A quote to which nothing was pushed. It takes no memory.
+    /// Returns a quote without trees. It allocates nothing.
     pub fn new(alloc: Global) -> Quote
         ensures { result ≡ nil }
     {
@@ -44,15 +44,16 @@ impl Quote {
         }
     }
 
-    /// Where its memory comes from.
+    /// Returns the allocator of the quote.
     pub(crate) fn alloc(&self) -> Global {
         self.alloc
     }
 
-    /// Puts the tree after the others, by the rule `split`. Fails where memory runs out; then nothing is changed, and
-    /// the tree is dropped.
+    /// Adds the tree at the end; a negative literal becomes two trees (rule `split`).
     ///
-    /// The literal `-3i32` is put in as two trees, the mark `-` Alone and the literal `3i32`.
+    /// Fails if memory runs out. Then the quote is unchanged, and the tree is dropped.
+    ///
+    /// The literal `-3i32` is added as the mark `-`, Alone, and the literal `3i32`.
     pub fn push(&mut self, tree: TokenTree) -> Result<(), AllocError>
         ensures ok { OnOk result (self.new ≡ joined self.old (split tree)) }
         ensures err { OnErr result (self.new ≡ self.old) }
@@ -60,7 +61,9 @@ impl Quote {
         self.pushed.extend_trees([tree])
     }
 
-    /// Puts the trees of the stream after the others. Fails where memory runs out; then nothing is changed.
+    /// Adds the trees of the stream at the end.
+    ///
+    /// Fails if memory runs out. Then the quote is unchanged.
     pub fn push_stream(&mut self, stream: TokenStream) -> Result<(), AllocError>
         ensures ok { OnOk result (self.new ≡ joined self.old stream) }
         ensures err { OnErr result (self.new ≡ self.old) }
@@ -68,12 +71,13 @@ impl Quote {
         self.pushed.extend_streams([stream])
     }
 
-    /// The stream of exactly what was pushed: groups without delimiters stay, and so do all spacings and spans.
+    /// Returns the stream of exactly the trees that were pushed.
     ///
-    /// It takes no memory. It is the answer of a macro, which the compiler reads as trees, and need not come back from
-    /// its printed text; use `finish` for that.
+    /// Groups without delimiters, spacings and spans are kept. The call allocates nothing. Use it for the result of a
+    /// macro, which the compiler reads as trees. The stream need not read back from its printed text; use `finish` if
+    /// it must.
     ///
-    /// Of `+` Joint and the identifier `a` it is `+` Joint and `a`.
+    /// For `+` Joint and the identifier `a`, the result is `+` Joint and `a`.
     pub fn into_stream(self) -> TokenStream
         ensures { result ≡ self }
     {
@@ -81,29 +85,31 @@ impl Quote {
         pushed
     }
 
-    /// The stream of what was pushed, its marks respaced (`respaced`): each `'` is Joint, and each other mark keeps its
-    /// spacing where `well-spaced` allows it and is Alone where not. The quote stays as it was.
+    /// Returns what was pushed as a stream that reads back from its printed text.
     ///
-    /// The stream is well spaced, so it comes back from its printed text. `NoneGroup` and `LoneQuote` tell the first
-    /// fault in reading order, a group coming before its contents, and then no choice of spacings makes what was
-    /// pushed well spaced. `Memory` tells that memory ran out. It takes time in proportion to the number of trees, and
-    /// no list of trees is copied that needs no change.
+    /// Marks are respaced (rule `respaced`). Each `'` is Joint. Any other mark keeps its spacing if `well-spaced`
+    /// allows it, and is Alone otherwise. The quote is unchanged. The call takes time in proportion to the number of
+    /// trees, and copies no list that needs no change.
     ///
-    /// Of `+` Joint and the identifier `a`, which would print `+a` and come back as `+` Alone, it is `+` Alone and `a`.
+    /// Fails with `NoneGroup` or `LoneQuote` at the first such error in reading order, where a group comes before its
+    /// contents. Then no choice of spacings makes what was pushed well spaced. Fails with `Memory` if memory runs out.
+    ///
+    /// `+` Joint before the identifier `a` would print as `+a` and read back as `+` Alone. So the result is `+` Alone
+    /// and `a`.
     pub fn finish(&self) -> Result<TokenStream, QuoteError>
         ensures ok { IfOk result (λ stream. (stream ≡ respaced self.now) × (first_fault self.now ≡ None)) }
         ensures spaced { IfOk result IsWellSpaced }
 
-        // A mark keeps its spacing wherever it may, and so what was well spaced comes out unchanged.
+        // A mark keeps its spacing wherever it may. So a stream that was well spaced is unchanged.
         ensures keeps { IfOk result (KeepsAllItMay self.now) }
         ensures unchanged { IfOk result (λ stream. IsWellSpaced self.now → stream ≡ self.now) }
 
-        // A named fault is the first, and no choice of spacings is well spaced.
+        // An error other than `Memory` is the first one. Then no choice of spacings is well spaced.
         ensures fault { IfErr result (IsFaultOf self.now) }
         ensures hopeless { IfErr result (HopelessIfNamed self.now) }
     {
         laws::respacing();
-        // What is well spaced comes out unchanged, so its trees are shared.
+        // A well spaced stream does not change, so its trees are shared.
         if are_well_spaced(self.alloc, self.pushed.trees())? {
             return Ok(self.pushed.clone()?);
         }

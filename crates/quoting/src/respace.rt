@@ -1,7 +1,7 @@
-//! The same trees with their marks spaced so that the printed text can be read back.
+//! Changes the spacings of a stream's marks so that its printed text reads back.
 //!
-//! Groups may nest as deep as memory reaches, so the lists that groups stand in are kept in a list and not on the
-//! stack. A list in which nothing changes is not copied: it stays shared with the stream that it comes from.
+//! Groups may nest as deep as memory allows. So the lists of open groups are kept in a list and not on the stack. A
+//! list in which nothing changes is not copied. It stays shared with the stream that it comes from.
 ghost use Rattle.std.specs.Prelude.{◌≡◌, ◌<◌, [], ◌∷◌, All, IfOk, MatchOption, OnOk, length};
 ghost use Rattle.proc_macro2.specs.Forest.{joined, nil};
 ghost use Rattle.proc_macro2.specs.Leaf.{is_joint, mark_token};
@@ -15,7 +15,7 @@ use proc_macro2::{Group, Punct, Spacing, TokenStream, TokenTree, laws};
 use std::alloc::{AllocError, Global};
 use std::marker::Model;
 
-/// The stream with its marks respaced, at any depth. Fails where memory runs out.
+/// Returns the stream with its marks respaced at any depth. Fails if memory runs out.
 pub(crate) fn respaced(alloc: Global, stream: &TokenStream) -> Result<TokenStream, AllocError>
     ensures { IfOk result (λ new. new ≡ respaced stream.now) }
 {
@@ -39,15 +39,15 @@ pub(crate) fn respaced(alloc: Global, stream: &TokenStream) -> Result<TokenStrea
     }
 }
 
-/// The trees of one list, of which the first are respaced.
+/// One list of trees, of which the first `done` trees are respaced.
 #[derive(Drop)]
 struct RespacedList<'a> {
-    // The list as it was.
+    // The list without changes.
     stream: &'a TokenStream,
     trees: &'a [TokenTree],
-    // How many of its trees are done.
+    // The number of trees that are respaced.
     done: usize,
-    // These, if one of them was changed.
+    // The respaced trees, if one of them was changed.
     changed: Option<TokenStream>,
 }
 
@@ -71,7 +71,7 @@ impl<'a> Model for RespacedList<'a> {
 }
 
 impl<'a> RespacedList<'a> {
-    /// A list of which nothing is done.
+    /// Returns the list of the stream, of which no tree is respaced.
     fn new(stream: &'a TokenStream) -> RespacedList<'a>
         ensures whole { result.whole ≡ stream.now }
         ensures done { result.done ≡ nil }
@@ -85,14 +85,14 @@ impl<'a> RespacedList<'a> {
         }
     }
 
-    /// The first tree that is left, and those after it.
+    /// Returns the first tree that is left, and the trees after it.
     fn next(&self) -> Option<(&'a TokenTree, &'a [TokenTree])>
         ensures { MatchOption result (self.now.left ≡ []) (λ next. self.now.left ≡ next.0.now ∷ next.1.now) }
     {
         self.trees[self.done..].split_first()
     }
 
-    /// Respaces the first tree that is left, which is no group.
+    /// Respaces the first tree that is left. It must not be a group.
     fn step(
         &mut self,
         alloc: Global,
@@ -111,7 +111,8 @@ impl<'a> RespacedList<'a> {
         self.keep(tree)
     }
 
-    /// Puts the group of this list, all of which is done, in the place of the group that the list comes from.
+    /// Replaces the first tree that is left by the same group with the respaced list `inner`. It must be the group that
+    /// `inner` comes from, and all of `inner` must be respaced.
     fn close(&mut self, alloc: Global, inner: RespacedList<'_>) -> Result<(), AllocError>
         requires open { IsOpen self.old.left inner.whole }
         requires all_done { inner.left ≡ [] }
@@ -130,7 +131,7 @@ impl<'a> RespacedList<'a> {
         }
     }
 
-    /// Keeps the first tree that is left as it is.
+    /// Keeps the first tree that is left without a change.
     fn keep(&mut self, tree: &TokenTree) -> Result<(), AllocError>
         requires { self.old.left ≡ tree.now ∷ others self.old.left }
         ensures { OnOk result (Adds self.old (alone tree.now) self.new) }
@@ -142,7 +143,7 @@ impl<'a> RespacedList<'a> {
         Ok(())
     }
 
-    /// Puts this tree in the place of the first one that is left. What was done is copied at the first such call.
+    /// Replaces the first tree that is left. The first call copies the trees that are done.
     fn replace(&mut self, alloc: Global, tree: TokenTree) -> Result<(), AllocError>
         requires left { 0 < length self.old.left }
         requires inside { GoesInside tree }
@@ -158,7 +159,7 @@ impl<'a> RespacedList<'a> {
         Ok(())
     }
 
-    /// The list, all of which is done.
+    /// Returns the respaced list. All of its trees must be done.
     fn finish(self) -> Result<TokenStream, AllocError>
         requires { self.left ≡ [] }
         ensures { IfOk result (λ stream. stream ≡ self.entry.done) }
@@ -175,7 +176,7 @@ impl<'a> RespacedList<'a> {
     }
 }
 
-/// The stream of copies of these trees. Groups share what is inside them.
+/// Returns a stream of copies of the trees. A copy of a group shares its contents.
 fn copied(alloc: Global, trees: &[TokenTree]) -> Result<TokenStream, AllocError>
     requires { All GoesInside trees.now }
     ensures { IfOk result (λ stream. stream ≡ forest trees.now) }
@@ -187,7 +188,7 @@ fn copied(alloc: Global, trees: &[TokenTree]) -> Result<TokenStream, AllocError>
     Ok(stream)
 }
 
-/// Puts a tree of a stream at the end of another.
+/// Adds the tree at the end of the stream.
 fn put(stream: &mut TokenStream, tree: TokenTree) -> Result<(), AllocError>
     requires { GoesInside tree }
     ensures { OnOk result (stream.new ≡ joined stream.old (alone tree)) }
@@ -196,7 +197,7 @@ fn put(stream: &mut TokenStream, tree: TokenTree) -> Result<(), AllocError>
     stream.extend_trees([tree])
 }
 
-/// How the mark is spaced before these trees: `'` is Joint, any other mark Joint where it was and may be.
+/// Returns the spacing of the mark before these trees. A `'` is Joint. Any other mark is Joint if it was and may be.
 fn kept_spacing(mark: &Punct, after: &[TokenTree]) -> Spacing
     ensures { is_joint result
         ≡ is_kept_joint mark.now.mark (is_joint mark.now.spacing) (next_token (forest after.now)) }
@@ -209,7 +210,7 @@ fn kept_spacing(mark: &Punct, after: &[TokenTree]) -> Spacing
     }
 }
 
-/// The same mark with this spacing.
+/// Returns the mark with this spacing and the same span.
 pub(crate) fn spaced(mark: &Punct, spacing: Spacing) -> Punct
     ensures { result ≡ record mark.now { spacing = spacing } }
 {
@@ -219,7 +220,7 @@ pub(crate) fn spaced(mark: &Punct, spacing: Spacing) -> Punct
     spaced
 }
 
-/// The same group with these trees.
+/// Returns the group with these contents, and with the same delimiters and span.
 pub(crate) fn regrouped(group: &Group, stream: TokenStream) -> Group
     ensures { result ≡ record group.now { stream = stream } }
 {

@@ -1,4 +1,4 @@
-//! Templates that are filled and pushed.
+//! The calls of `Quote` that fill a template.
 ghost use Rattle.std.specs.Prelude.{◌≡◌, ◌↔◌, IfErr, Ok, Err, OnErr, OnOk, length};
 ghost use Rattle.std.specs.Str.{chars};
 ghost use Rattle.proc_macro2.specs.Files.{Fits, next_lo};
@@ -15,22 +15,24 @@ use crate::owned::filled_in_place;
 use crate::quote::Quote;
 use proc_macro2::{ParseError, SourceMap, TokenStream};
 
-/// How many groups may stand one inside the other in a template.
+/// The number of groups that may be nested in a template.
 const DEPTH_LIMIT: usize = 64;
 
 impl Quote {
-    /// Puts the template after the other trees, its holes filled (`filled`).
+    /// Fills the holes of the template and adds its trees at the end of the quote (rule `filled`).
     ///
-    /// `#name` and `#0` stand for the stream of the first hole of that name, `#( .. )*` for as many turns as the
-    /// lists named inside have streams, and `#( .. ),*` for the same with the mark between the turns. Any other `#`
-    /// stands for itself. All other trees are kept, with their spans; groups are filled inside. A mark right before a
-    /// hole or a repetition comes out Alone, so that it doesn't join what comes there.
+    /// `#name` and `#0` are replaced by the value of the first hole of that name. `#( .. )*` is replaced by one turn
+    /// for each value of the lists that are named inside. `#( .. ),*` also puts the mark between two turns. In a turn
+    /// each list is its value for the turn, also in the repetitions inside. So a list is used up by the outermost
+    /// repetition that names it, and a repetition inside needs a list of lists.
     ///
-    /// Fails with the template's first fault (`TemplateError`), and where memory runs out. The quote then stays as it
-    /// was.
+    /// All other trees are kept with their spans, any other `#` too. Groups are filled inside. A mark right before a
+    /// hole or a repetition becomes Alone, so that it does not join with the trees that replace it.
     ///
-    /// With the lists `x` of `a` and `y` of `b`, `#( #x: #y ),*` is `a : b`. Without `y` it has the fault `NoHole` at
-    /// `y`, and with neither `NoList` at the parentheses.
+    /// Fails with the template's first error (`TemplateError`), or if memory runs out. Then the quote is unchanged.
+    ///
+    /// With the lists `x` of `a` and `y` of `b`, `#( #x: #y ),*` gives `a : b`. Without a hole `y` the error is
+    /// `NoHole` at `y`. Without both holes it is `NoList` at the parentheses.
     pub fn fill(&mut self, template: &TokenStream, holes: &[Hole<'_>]) -> Result<(), TemplateError>
         ensures ok { OnOk result ((stream : Forest) × (filled (named_all holes.now) template.now ≡ Ok stream)
             × (self.new ≡ joined self.old stream)) }
@@ -38,20 +40,21 @@ impl Quote {
             UnlessMemory fault (filled (named_all holes.now) template.now ≡ Err fault)) }
         ensures kept { OnErr result (self.new ≡ self.old) }
     {
-        let stream = filled(self.alloc(), template, holes, None, DEPTH_LIMIT)?;
+        let stream = filled(self.alloc(), template, holes, &[], DEPTH_LIMIT)?;
         self.push_stream(stream)?;
         Ok(())
     }
 
-    /// Puts the template that the text parses to after the other trees, its holes filled, as `fill` does. The text
-    /// becomes the next file of the map, and the spans of the template lie in it.
+    /// Parses the text of a template, fills its holes, and adds its trees at the end of the quote, as `fill` does.
     ///
-    /// `Parse` tells why the text was not parsed: `Lex` where it has a fault, `MapFull` exactly where it would end
-    /// past the map's limit, and `Memory` where memory for that ran out. Any other error is one of filling. The quote
-    /// is then as it was. So is the map after `Parse(MapFull)` and `Parse(Memory)`; after any other answer, the
-    /// `Memory` of filling among them, the text is its next file.
+    /// The text becomes the next file of the map, and the template's spans are in that file.
     ///
-    /// With `x` for `name`, `fn #name() {}` is `fn x() {}`.
+    /// Fails with `Parse(Lex)` if the text has a syntax error. It fails with `Parse(MapFull)` exactly if the text would
+    /// end past the map's limit, and with `Parse(Memory)` if memory runs out during parsing. Any other error is one of
+    /// `fill`. After an error the quote is unchanged. The map is unchanged only after `Parse(MapFull)` and
+    /// `Parse(Memory)`; otherwise the text is its next file.
+    ///
+    /// If the hole `name` has the value `x`, `fn #name() {}` gives `fn x() {}`.
     pub fn parse(
         &mut self,
         template: &str,

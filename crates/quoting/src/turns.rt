@@ -1,103 +1,123 @@
-//! How many turns a repetition has, and what is wrong inside of it.
+//! Counts the turns of a repetition, and checks the names inside it.
 ghost use Rattle.std.specs.Prelude.{◌≡◌, IfOk};
 ghost use Rattle.proc_macro2.specs.Steps.{step_of};
 ghost use Rattle.proc_macro2.specs.Trees.{forest};
-ghost use Rattle.quoting.specs.Given.{named_all, span_of, interpolation_of, text_of};
+ghost use Rattle.quoting.specs.Given.{in_turns, span_of, interpolation_of, text_of};
 ghost use Rattle.quoting.specs.Holes.{filling_of};
 ghost use Rattle.quoting.specs.Searched.{step_turns};
-ghost use Rattle.quoting.specs.Turns.{checked, name_checked, named_length, turns_of};
+ghost use Rattle.quoting.specs.Turns.{checked, interpolation_checked, name_checked, named_length, turns_of};
 
 use crate::errors::TemplateError;
-use crate::holes::{Filling, Hole, HoleName};
+use crate::holes::{Hole, HoleName};
 use crate::interpolation::{FoundInterpolation, interpolation_at};
 use proc_macro2::TokenTree;
 use proc_macro2::token_stream::{Step, Steps};
 use std::alloc::{AllocError, Global};
 
-/// How many turns a repetition of these trees has: as many as the first list that is named in them has streams. `None`
-/// where they name no list at any depth. Fails where memory runs out.
+/// Returns the number of turns of a repetition of these trees, inside the turns `turns` of outer repetitions. It is the
+/// length of the first list that the trees name. Returns `None` if they name no list at any depth. Fails if memory runs
+/// out.
 pub(crate) fn turns_of(
     alloc: Global,
     trees: &[TokenTree],
     holes: &[Hole<'_>],
+    turns: &[usize],
 ) -> Result<Option<usize>, AllocError>
-    ensures { IfOk result (λ turns. turns ≡ turns_of (named_all holes.now) (forest trees.now)) }
+    ensures { IfOk result (λ count. count ≡ turns_of (in_turns holes.now turns.now) (forest trees.now)) }
 {
     let mut steps = Steps::new(alloc, trees);
     while let Some(step) = steps.next()? {
-        if let Some(turns) = step_turns(step, holes) {
-            return Ok(Some(turns));
+        if let Some(count) = step_turns(step, holes, turns) {
+            return Ok(Some(count));
         }
     }
     Ok(None)
 }
 
-/// How many streams the list has that is named where the step comes to its `#`.
-fn step_turns(step: Step<'_>, holes: &[Hole<'_>]) -> Option<usize>
-    ensures { result ≡ step_turns (named_all holes.now) (step_of step.entry) }
+/// Returns the length of the list that is named at the step, if the step comes to the `#` of a list.
+fn step_turns(step: Step<'_>, holes: &[Hole<'_>], turns: &[usize]) -> Option<usize>
+    ensures { result ≡ step_turns (in_turns holes.now turns.now) (step_of step.entry) }
 {
     match step {
-        Step::Token(tree, after) => named_length(tree, after, holes),
+        Step::Token(tree, after) => named_length(tree, after, holes, turns),
         Step::Enter(..) | Step::Leave(..) => None,
     }
 }
 
-/// How many streams the list has that the tree before these names, if it is the `#` of a list.
-fn named_length(tree: &TokenTree, after: &[TokenTree], holes: &[Hole<'_>]) -> Option<usize>
-    ensures { result ≡ named_length (named_all holes.now) (interpolation_of tree.now (forest after.now)) }
+/// Returns the length of the list that is named at the tree, if the tree is the `#` of a list.
+fn named_length(
+    tree: &TokenTree,
+    after: &[TokenTree],
+    holes: &[Hole<'_>],
+    turns: &[usize],
+) -> Option<usize>
+    ensures { result
+        ≡ named_length (in_turns holes.now turns.now) (interpolation_of tree.now (forest after.now)) }
 {
     let Some(FoundInterpolation::Names(name, _)) = interpolation_at(tree, after) else {
         return None;
     };
-    match name.filling(holes) {
-        Some(Filling::Each(streams)) => Some(streams.len()),
-        Some(Filling::One(_)) | None => None,
-    }
+    name.filling(holes, turns)?.len()
 }
 
-/// Checks the trees of a repetition of so many turns, where groups may nest so deep. Fails with their first fault in
-/// reading order.
+/// Checks the names in a repetition of `count` turns, also in the repetitions inside it. Groups may nest up to `depth`
+/// deep. Fails with the first error in reading order.
 pub(crate) fn checked(
     trees: &[TokenTree],
     holes: &[Hole<'_>],
+    turns: &[usize],
     depth: usize,
-    turns: usize,
+    count: usize,
 ) -> Result<(), TemplateError>
-    ensures { result ≡ checked (named_all holes.now) depth turns 0 (forest trees.now) }
+    ensures { result ≡ checked (in_turns holes.now turns.now) depth count (forest trees.now) }
 {
     let mut left = trees;
     while let Some((tree, after)) = left.split_first() {
-        match interpolation_at(tree, after) {
-            None => {
-                if let TokenTree::Group(group) = tree {
-                    let Some(inner) = depth.checked_sub(1) else {
-                        return Err(TemplateError::TooDeep(group.span()));
-                    };
-                    checked(group.stream_ref().trees(), holes, inner, turns)?;
-                }
-                left = after;
-            }
-            Some(FoundInterpolation::Names(name, rest)) => {
-                name_checked(&name, holes, turns)?;
-                left = rest;
-            }
-            Some(FoundInterpolation::Repeats(repetition, _)) => {
-                return Err(TemplateError::Nested(repetition.body.span()));
-            }
+        if let TokenTree::Group(group) = tree {
+            let Some(inner) = depth.checked_sub(1) else {
+                return Err(TemplateError::TooDeep(group.span()));
+            };
+            checked(group.stream_ref().trees(), holes, turns, inner, count)?;
+        } else {
+            interpolation_checked(tree, after, holes, turns, count)?;
         }
+        left = after;
     }
     Ok(())
 }
 
-/// Checks that the name has a hole, and a list as many streams as there are turns.
-fn name_checked(name: &HoleName<'_>, holes: &[Hole<'_>], turns: usize) -> Result<(), TemplateError>
-    ensures { result ≡ name_checked turns (span_of name.now) (filling_of (named_all holes.now) (text_of name.now)) }
+/// Checks the name of a hole, if the tree is the `#` before one.
+fn interpolation_checked(
+    tree: &TokenTree,
+    after: &[TokenTree],
+    holes: &[Hole<'_>],
+    turns: &[usize],
+    count: usize,
+) -> Result<(), TemplateError>
+    ensures { result ≡ interpolation_checked (in_turns holes.now turns.now) count
+        (interpolation_of tree.now (forest after.now)) }
 {
-    match name.filling(holes) {
-        None => Err(TemplateError::NoHole(name.span())),
-        Some(Filling::Each(streams)) if streams.len() != turns => Err(TemplateError::UnequalLists(
-            name.span(),
-        )),
-        Some(Filling::One(_) | Filling::Each(_)) => Ok(()),
+    match interpolation_at(tree, after) {
+        Some(FoundInterpolation::Names(name, _)) => name_checked(&name, holes, turns, count),
+        Some(FoundInterpolation::Repeats(..)) | None => Ok(()),
+    }
+}
+
+/// Checks that the name has a hole, and that a list has as many values as there are turns.
+fn name_checked(
+    name: &HoleName<'_>,
+    holes: &[Hole<'_>],
+    turns: &[usize],
+    count: usize,
+) -> Result<(), TemplateError>
+    ensures { result
+        ≡ name_checked count (span_of name.now) (filling_of (in_turns holes.now turns.now) (text_of name.now)) }
+{
+    let Some(filling) = name.filling(holes, turns) else {
+        return Err(TemplateError::NoHole(name.span()));
+    };
+    match filling.len() {
+        Some(len) if len != count => Err(TemplateError::UnequalLists(name.span())),
+        _ => Ok(()),
     }
 }

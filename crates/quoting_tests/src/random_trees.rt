@@ -1,4 +1,4 @@
-// Short lists of random trees: a quote gives a stream exactly where some choice of spacings is well spaced. All
+// Short lists of random trees: `finish` returns a stream exactly if some choice of spacings is well spaced. All
 // choices are tried.
 ghost use Rattle.std.specs.Prelude.{◌<◌};
 
@@ -10,10 +10,10 @@ use std::alloc::Global;
 use std::process::Abort;
 use std::test::Fail;
 
-/// How many lists are made.
+/// The number of lists.
 const LISTS: u32 = 600;
 
-/// Six leaves by their kinds, and what stands around two of them.
+/// The kinds of six leaves, and the delimiter of the group around two of them.
 #[derive(Clone, Copy, Debug)]
 struct Case {
     first: u64,
@@ -25,7 +25,7 @@ struct Case {
     delimiter: u64,
 }
 
-/// Which of six leaves are Joint, if they are marks.
+/// Whether each of the six leaves is Joint, if it is a mark.
 #[derive(Clone, Copy)]
 struct Choice {
     first: bool,
@@ -39,12 +39,12 @@ struct Choice {
 /// A source of random numbers.
 #[derive(Drop)]
 struct Random {
-    /// The last number, which isn't 0.
+    /// The last number, which is not 0.
     state: u64,
 }
 
 impl Random {
-    /// A number below the bound, which isn't 0.
+    /// Returns a number below the bound, which must not be 0.
     fn below(&mut self, bound: u64) -> u64
         requires { 0 < bound }
         ensures { result < bound }
@@ -68,7 +68,7 @@ impl Random {
     }
 }
 
-/// The choice of this number below 64.
+/// Returns the choice with this number below 64.
 fn choice_of(number: u32) -> Choice {
     Choice {
         first: number & 1 != 0,
@@ -80,7 +80,7 @@ fn choice_of(number: u32) -> Choice {
     }
 }
 
-/// A leaf of this kind, Joint or Alone if it is a mark.
+/// Returns a leaf of this kind, Joint or Alone if it is a mark.
 fn leaf(alloc: Global, kind: u64, joint: bool) -> Result<TokenTree, Fail> {
     let spacing = if joint {
         Spacing::Joint
@@ -101,7 +101,7 @@ fn leaf(alloc: Global, kind: u64, joint: bool) -> Result<TokenTree, Fail> {
     })
 }
 
-/// The trees of the case, in this choice of spacings: three leaves, a group of two, and a leaf.
+/// Returns the trees of the case with this choice of spacings: three leaves, a group of two, and a leaf.
 fn trees(alloc: Global, case: Case, joint: Choice) -> Result<Vec<TokenTree>, Fail> {
     let delimiter = match case.delimiter {
         0 => Delimiter::None,
@@ -123,7 +123,7 @@ fn trees(alloc: Global, case: Case, joint: Choice) -> Result<Vec<TokenTree>, Fai
     ]?)
 }
 
-/// Whether some choice of spacings is well spaced.
+/// Returns whether some choice of spacings is well spaced.
 fn has_a_choice(alloc: Global, case: Case) -> Result<bool, Fail> {
     for number in 0..64 {
         let trees = trees(alloc, case, choice_of(number))?;
@@ -134,7 +134,7 @@ fn has_a_choice(alloc: Global, case: Case) -> Result<bool, Fail> {
     Ok(false)
 }
 
-/// The quote of the case in the choice of this number.
+/// Returns the quote of the case with the choice of this number.
 fn quoted(alloc: Global, case: Case, number: u32) -> Result<Quote, Fail> {
     let mut quote = Quote::new(alloc);
     for tree in trees(alloc, case, choice_of(number))? {
@@ -143,7 +143,7 @@ fn quoted(alloc: Global, case: Case, number: u32) -> Result<Quote, Fail> {
     Ok(quote)
 }
 
-/// Whether the printed text parses to the same tokens.
+/// Returns whether the printed text parses to the same tokens.
 fn comes_back(alloc: Global, stream: &TokenStream) -> Result<bool, Fail> {
     let text = format!(in alloc; "{stream}")?;
     let back = TokenStream::from_str(text.as_str(), &mut SourceMap::new(alloc))?;
@@ -169,7 +169,7 @@ fn a_stream_is_given_exactly_where_some_choice_is_well_spaced(rt: HostRuntime) -
             Err(_) => assert!(rt; !may, "of {case:?}"),
         }
     }
-    // Both answers came.
+    // Both results occurred.
     assert!(rt; given > 100 && given < 500, "{given}");
     Ok(())
 }

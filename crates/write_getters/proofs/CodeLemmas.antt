@@ -13,7 +13,8 @@ use Rattle.declarations.specs.declared.field.Field.{Field}
 use Rattle.declarations.specs.declared.item.TypeItem.{TypeItem}
 use Rattle.quoting.specs.Filled.{filled}
 use Rattle.quoting.specs.Given.{named, named_all}
-use Rattle.quoting.specs.Holes.{Named, One, Each}
+use Rattle.quoting.specs.Holes.{Named}
+use Rattle.quoting.specs.Items.{One, Each, each_of}
 use Rattle.quoting.specs.Respaced.{respaced}
 use Rattle.quoting.specs.declared.holes.Hole.{Hole}
 use Rattle.write_getters.specs.Copies.{copied}
@@ -52,10 +53,10 @@ kind_chars = refl
 -- ---- the holes
 
 pub each_hole : (it : Named) (text name : List ℕ) (slice items streams : List Forest)
-    → it ≡ record { name = text; filling = Each slice } → text ≡ name → slice ≡ items → items ≡ streams
-    → it ≡ hole name (Each streams)
+    → it ≡ record { name = text; filling = Each (each_of One slice) } → text ≡ name → slice ≡ items → items ≡ streams
+    → it ≡ hole name (Each (each_of One streams))
 each_hole it text name slice items streams is spells lends are =
-    is ∙ ap₂ (λ n s. record { name = n; filling = Each s }) spells (lends ∙ are)
+    is ∙ ap₂ (λ n s. record { name = n; filling = Each (each_of One s) }) spells (lends ∙ are)
 
 pub one_hole : (it : Named) (text name : List ℕ) (given stream : Forest)
     → it ≡ record { name = text; filling = One given } → text ≡ name → given ≡ stream → it ≡ hole name (One stream)
@@ -63,12 +64,12 @@ one_hole it text name given stream is spells same =
     is ∙ ap₂ (λ n s. record { name = n; filling = One s }) spells same
 
 pub all_holes : (item : TypeItem) (params : List ParamTrees) (fields : List Field) (a b c d e f : Hole)
-    → named a ≡ hole (codes "parameter") (Each (map parameter params))
+    → named a ≡ hole (codes "parameter") (Each (each_of One (map parameter params)))
     → named b ≡ hole (codes "name") (One (alone (Ident item.name.now)))
-    → named c ≡ hole (codes "argument") (Each (map argument params))
+    → named c ≡ hole (codes "argument") (Each (each_of One (map argument params)))
     → named d ≡ hole (codes "bounds") (One (copied item.where_clause.now))
-    → named e ≡ hole (codes "field") (Each (map name_of fields))
-    → named f ≡ hole (codes "kind") (Each (map type_of fields))
+    → named e ≡ hole (codes "field") (Each (each_of One (map name_of fields)))
+    → named f ≡ hole (codes "kind") (Each (each_of One (map type_of fields)))
     → named_all (a ∷ b ∷ c ∷ d ∷ e ∷ f ∷ []) ≡ holes_of item params fields
 all_holes item params fields a b c d e f is_a is_b is_c is_d is_e is_f =
     ap₂ (λ h hs. h ∷ hs) is_a (ap₂ (λ h hs. h ∷ hs) is_b (ap₂ (λ h hs. h ∷ hs) is_c (ap₂ (λ h hs. h ∷ hs) is_d

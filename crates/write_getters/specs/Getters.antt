@@ -9,7 +9,8 @@ use Rattle.declarations.specs.Param.{ParamTrees}
 use Rattle.declarations.specs.declared.field.Field.{Field}
 use Rattle.declarations.specs.declared.item.TypeItem.{TypeItem}
 use Rattle.quoting.specs.Filled.{filled}
-use Rattle.quoting.specs.Holes.{Filling, Named, One, Each}
+use Rattle.quoting.specs.Holes.{Named}
+use Rattle.quoting.specs.Items.{Filling, One, Each, each_of}
 use Rattle.quoting.specs.Respaced.{respaced}
 use Rattle.write_getters.specs.Copies.{copied}
 use Rattle.write_getters.specs.Fields.{chosen, name_of, type_of}
@@ -23,12 +24,12 @@ hole name filling = record { name = name; filling = filling }
 -- what fills the holes of a template
 abbrev pub holes_of : TypeItem → List ParamTrees → List Field → List Named
 holes_of item params fields =
-    hole (codes "parameter") (Each (map parameter params))
+    hole (codes "parameter") (Each (each_of One (map parameter params)))
     ∷ hole (codes "name") (One (alone (Ident item.name.now)))
-    ∷ hole (codes "argument") (Each (map argument params))
+    ∷ hole (codes "argument") (Each (each_of One (map argument params)))
     ∷ hole (codes "bounds") (One (copied item.where_clause.now))
-    ∷ hole (codes "field") (Each (map name_of fields))
-    ∷ hole (codes "kind") (Each (map type_of fields)) ∷ []
+    ∷ hole (codes "field") (Each (each_of One (map name_of fields)))
+    ∷ hole (codes "kind") (Each (each_of One (map type_of fields))) ∷ []
 
 -- the code of a struct with these trees in its braces: a getter for each chosen field, in order, and nothing else
 pub record IsCodeOf (templates : Templates) (item : TypeItem) (trees : List TokenTree) (code : Forest) : Type 0 where

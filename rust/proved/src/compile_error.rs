@@ -181,6 +181,8 @@ errors! {
     crate::quoting::QuoteError;
     #[cfg(feature = "quoting")]
     crate::quoting::TemplateError, error => error.span();
+    #[cfg(feature = "quoting")]
+    crate::quote::TemplateFault;
     #[cfg(feature = "token_buffer")]
     crate::token_buffer::BufferError, error => error.span();
     #[cfg(feature = "explain")]

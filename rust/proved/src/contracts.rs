@@ -293,28 +293,30 @@
 //!
 //! # Words of `item_headers`
 //!
-//! - <a id="item_headers.Fault.HasNoParams"></a>**HasNoParams**: the trees aren't the generic parameters of an
-//!   item
-//! - <a id="item_headers.Fault.HasNoPredicates"></a>**HasNoPredicates**: the trees aren't the where clause of
-//!   an item
-//! - <a id="item_headers.Fault.HasNotBoth"></a>**HasNotBoth**: the trees aren't the generic parameters and the
-//!   where clause of an item
-//! - <a id="item_headers.Header.HasParams"></a>**HasParams**: these are all the parameters in the brackets
-//! - <a id="item_headers.Header.HasPredicates"></a>**HasPredicates**: these are all the predicates of the
-//!   clause
-//! - <a id="item_headers.Fault.IfFault"></a>**IfFault**: if the error is a fault of the item, this holds
+//! - <a id="item_headers.Fault.HasNoParams"></a>**HasNoParams**: whether the trees are not the generic
+//!   parameters of an item
+//! - <a id="item_headers.Fault.HasNoPredicates"></a>**HasNoPredicates**: whether the trees are not the where
+//!   clause of an item
+//! - <a id="item_headers.Fault.HasNotBoth"></a>**HasNotBoth**: whether the trees are not the generic parameters
+//!   and the where clause of an item
+//! - <a id="item_headers.Header.HasParams"></a>**HasParams**: whether the parameters are all that are in the
+//!   brackets
+//! - <a id="item_headers.Header.HasPredicates"></a>**HasPredicates**: whether the predicates are all that are
+//!   in the where clause
+//! - <a id="item_headers.Fault.IfFault"></a>**IfFault**: if the error is `Fault`, the statement holds
 //! - <a id="item_headers.Header.bounds_on_types"></a>**bounds_on_types**: `T: bound` for each parameter that is
 //!   a type
 //! - <a id="item_headers.Header.header"></a>**header**: `impl<'a, T> Trait for Name<'a, T>` and a where clause
-//! - <a id="item_headers.Message.header_span"></a>**header_span**: the span of the fault
+//! - <a id="item_headers.Message.header_span"></a>**header_span**: the span of the error, if it is `Fault` and
+//!   has one
 //! - <a id="item_headers.Header.impl_generics"></a>**impl_generics**: `<'a, T: A, const N: usize>`: the
-//!   parameters without defaults; nothing where there are none
+//!   parameters without defaults, or nothing if there are none
 //! - <a id="item_headers.Header.turbofish"></a>**turbofish**: `::<'a, T, N>`: the parameters' names, as in an
 //!   expression
 //! - <a id="item_headers.Header.type_generics"></a>**type_generics**: `<'a, T, N>`: the parameters' names, as
 //!   in a type
-//! - <a id="item_headers.Header.where_with"></a>**where_with**: `where` and the predicates, the written ones
-//!   and then more; nothing where there are none
+//! - <a id="item_headers.Header.where_with"></a>**where_with**: `where`, the predicates of the item and then
+//!   more predicates, or nothing if there are none
 //!
 //! # Words of `layout`
 //!
@@ -818,41 +820,45 @@
 //! # Words of `quoting`
 //!
 //! - <a id="quoting.Laws.AFaultIsHopeless"></a>**AFaultIsHopeless**: no choice of spacings makes a stream with
-//!   a fault well spaced
-//! - <a id="quoting.Holes.Each"></a>**Each**: what a hole stands for: one stream, or in each turn of a
-//!   repetition the next stream of a list
-//! - <a id="quoting.Choice.HopelessIfNamed"></a>**HopelessIfNamed**: if the error names a fault, no choice of
+//!   a `first-fault` well spaced
+//! - <a id="quoting.Items.Each"></a>**Each**: the filling of a hole: trees, the reason why it has none, or a
+//!   list of which each turn takes the next value
+//! - <a id="quoting.Choice.HopelessIfNamed"></a>**HopelessIfNamed**: the error is `Memory`, or no choice of
 //!   spacings makes the stream well spaced
-//! - <a id="quoting.Fault.IsFaultOf"></a>**IsFaultOf**: a fault that is named is the stream's first; an error
-//!   of memory says nothing of the stream
-//! - <a id="quoting.TextFault.IsTextFault"></a>**IsTextFault**: a fault of the template; or of its text, with
-//!   its span. Want of memory in filling says that the text parses, and in parsing nothing
-//! - <a id="quoting.Choice.KeepsAllItMay"></a>**KeepsAllItMay**: the new stream keeps the spacing of each mark
-//!   that keeps it in some choice of spacings that is well spaced
-//! - <a id="quoting.Laws.KeepsWhatItMay"></a>**KeepsWhatItMay**: each mark keeps its spacing that keeps it in
-//!   some choice of spacings that is well spaced
-//! - <a id="quoting.TextFault.LeavesMap"></a>**LeavesMap**: the map after the call: with the text as its next
-//!   file, but as it was where the text didn't fit and where memory for parsing it ran out
-//! - <a id="quoting.Laws.NothingToDo"></a>**NothingToDo**: a stream that was well spaced comes out unchanged
-//! - <a id="quoting.Holes.One"></a>**One**: what a hole stands for: one stream, or in each turn of a repetition
-//!   the next stream of a list
-//! - <a id="quoting.Laws.OnlySpacing"></a>**OnlySpacing**: respacing is a choice of spacings
-//! - <a id="quoting.Given.UnlessMemory"></a>**UnlessMemory**: this holds of the error if it is a fault of the
-//!   template, not of a text, and memory did not run out
-//! - <a id="quoting.Laws.WellSpacedWithoutFault"></a>**WellSpacedWithoutFault**: a stream without a fault is
-//!   well spaced once it is respaced
+//! - <a id="quoting.Fault.IsFaultOf"></a>**IsFaultOf**: the error is the `first-fault` of the stream, unless it
+//!   is `Memory`
+//! - <a id="quoting.TextFault.IsTextFault"></a>**IsTextFault**: the error is that of the template, or the
+//!   syntax error of its text. After `Memory` the text parses; after `Parse(Memory)` nothing is known
+//! - <a id="quoting.Choice.KeepsAllItMay"></a>**KeepsAllItMay**: if some well spaced choice of spacings keeps
+//!   the spacing of a mark, the new stream keeps it too
+//! - <a id="quoting.Laws.KeepsWhatItMay"></a>**KeepsWhatItMay**: a mark keeps its spacing if some well spaced
+//!   choice of spacings keeps it
+//! - <a id="quoting.TextFault.LeavesMap"></a>**LeavesMap**: the map after the call. It has the text as its next
+//!   file, unless the text did not fit or memory ran out during parsing
+//! - <a id="quoting.Laws.NothingToDo"></a>**NothingToDo**: respacing does not change a well spaced stream
+//! - <a id="quoting.Items.One"></a>**One**: the filling of a hole: trees, the reason why it has none, or a list
+//!   of which each turn takes the next value
+//! - <a id="quoting.Laws.OnlySpacing"></a>**OnlySpacing**: respacing changes only spacings
+//! - <a id="quoting.Given.UnlessMemory"></a>**UnlessMemory**: the statement holds, unless memory ran out. The
+//!   error is not one of parsing a text
+//! - <a id="quoting.Laws.WellSpacedWithoutFault"></a>**WellSpacedWithoutFault**: a respaced stream without a
+//!   `first-fault` is well spaced
+//! - <a id="quoting.Items.and_last"></a>**and_last**: the list with one more value at the end
+//! - <a id="quoting.Items.each_of"></a>**each_of**: the list of the values of `xs`
+//! - <a id="quoting.Items.end"></a>**end**: the values of a list, in order. Each is trees, or the reason why it
+//!   has none, or a list
 //! - <a id="quoting.Filled.filled"></a>**filled**: `filled`: the template with its holes filled, or its first
-//!   fault in reading order, a group coming before its contents. So a repetition that names no list is the
-//!   fault, whatever is wrong inside of it. Of the faults at one pair of parentheses `Nested` comes first, then
-//!   `TooDeep`, then `NoList`
-//! - <a id="quoting.Fault.first_fault"></a>**first_fault**: `first-fault`: the first fault of the stream in
-//!   reading order that no choice of spacings mends
-//! - <a id="quoting.Given.named"></a>**named**: a hole's name, with what the hole stands for
-//! - <a id="quoting.Given.named_all"></a>**named_all**: the names of the holes, each with what the hole stands
-//!   for
-//! - <a id="quoting.Respaced.respaced"></a>**respaced**: `respaced`: the same trees with the same spans, at any
-//!   depth, but for the spacing of marks
-//! - <a id="quoting.Message.template_span"></a>**template_span**: the span of the fault
+//!   error in reading order, where a group comes before its contents. So `NoList` comes before any error inside
+//!   the repetition. At one pair of parentheses `TooDeep` comes before `NoList`. In a repetition the errors of
+//!   the names come first, and then those of its turns in order
+//! - <a id="quoting.Fault.first_fault"></a>**first_fault**: `first-fault`: the first error of the stream in
+//!   reading order that no choice of spacings repairs
+//! - <a id="quoting.Given.named"></a>**named**: the hole's name and its filling
+//! - <a id="quoting.Given.named_all"></a>**named_all**: the names and the fillings of the holes
+//! - <a id="quoting.Respaced.respaced"></a>**respaced**: `respaced`: the same trees with the same spans at any
+//!   depth, in which each mark is respaced
+//! - <a id="quoting.Message.template_span"></a>**template_span**: the span of the error, if it has one
+//! - <a id="quoting.Values.value_of"></a>**value_of**: the filling that a value stands for
 //!
 //! # Words of `relayout`
 //!

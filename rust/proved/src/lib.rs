@@ -18,7 +18,7 @@
 //! build a stream, by `collect`, `extend` or `from` | – | [`TokenStream`], [`Ident`], [`Literal`], [`Group`], [`Punct`]
 //! read comments and white space, or what a literal stands for | – | [`text`]
 //! tell errors apart | – | [`error`]
-//! write code by templates | `quote` | [`quote`](quote/index.html)
+//! write code by `quote!`, or by templates that are read at run time | `quote` | [`quote`](quote/index.html)
 //! read files, functions, structs and enums, or write a derive | `items` | [`items`](items/index.html)
 //! print code for people, or change white space alone | `print` | [`print`](print/index.html)
 //! say why a text does not parse | `check` | [`check`](check/index.html)
@@ -103,7 +103,8 @@
 //! heading Contract; the page [`contracts`] says how to read it. For example, [`TokenStream::from_str`] returns a
 //! stream only for a text without a fault, and every stream that is read from a text is read again, up to spans, from
 //! what it prints. A call that meets what its contract requires does not panic. Written by hand, and only tested, are
-//! the impls of std's traits, each a line over a proved call, and the calls of Rust's `std` below the bodies.
+//! the impls of std's traits, each a line over a proved call, the calls of Rust's `std` below the bodies,
+//! [`CompileError`](error/index.html), and the macros and templates of `quote`, which fill by the proved `Quote::fill`.
 //!
 //! # Memory
 //!

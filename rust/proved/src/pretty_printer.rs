@@ -2,8 +2,8 @@
 //! Prints streams on lines for people.
 //!
 //! [`to_pretty_string`] writes a stream's tokens on lines of at most 100 columns where that is possible. The text reads
-//! back to the stream with its marks respaced, whatever gaps the rules here choose. The crate `layout` promises this of
-//! every layout.
+//! back to the stream with its marks respaced, whatever gaps the rules here choose. The crate `layout` promises this
+//! for every layout.
 
 use crate::shim::prelude::TryClone;
 
@@ -84,7 +84,7 @@ pub fn to_pretty_string(stream: &TokenStream) -> Result<String, QuoteError>
     }
 }
 
-/// The tokens of a stream as text for people, if it is well spaced.
+/// Returns the tokens of the stream as text for people, or `NotWellSpaced` if the stream is not well spaced.
 fn lay_out(stream: &TokenStream) -> Result<String, LayoutError>
 {
     let mut printer = Printer::new(stream)?;

@@ -1,5 +1,7 @@
 // Made from crates/quoting/src/lib.rt by rust/erase: change that file, not this one.
-//! A builder of streams that are faithful in print: what it answers comes back from its printed text.
+//! A builder of streams from trees and from templates with holes.
+//!
+//! The stream of `Quote::finish` reads back from its printed text as the same tokens.
 
 mod builder;
 mod errors;
@@ -8,12 +10,17 @@ mod fill;
 mod holes;
 mod interpolation;
 pub mod laws;
+mod lists;
+mod making;
 mod owned;
+mod putting;
 mod quote;
 mod respace;
 mod template;
 mod turns;
+mod values;
 
 pub use errors::{QuoteError, TemplateError};
 pub use holes::Hole;
 pub use quote::Quote;
+pub use values::{Number, Value, Values};

@@ -15,9 +15,9 @@ use proved_tokens::items::{
     ItemKind, ParamKind, ParameterKind, Parameters,
 };
 use proved_tokens::print::to_pretty_string;
-use proved_tokens::quote::{Hole, Quote};
+use proved_tokens::quote::{Hole, Holes, Quote, Template};
 use proved_tokens::text::{pieces, reprint, unescape_str, PieceKind};
-use proved_tokens::{Delimiter, Ident, Literal, SourceMap, Span, TokenStream, TokenTree};
+use proved_tokens::{format_ident, quote, Delimiter, Ident, Literal, SourceMap, Span, TokenStream, TokenTree};
 use std::error::Error;
 
 type Outcome = Result<(), Box<dyn Error>>;
@@ -111,6 +111,14 @@ fn calls_in_place_of_quotes() -> Outcome {
     quote.parse("fn #name() {}", &mut map, &[Hole::one("name", &name)])?;
     assert_eq!(quote.finish()?.to_string(), "fn g () { }");
     assert_eq!(quote.into_stream().to_string(), "fn g () { }");
+    assert_eq!(quote! { fn #name() {} }.to_string(), "fn g () { }");
+    let (template, ident) = ("fn #name() {}", format_ident!("{}", "g"));
+    let mut stream = {
+        let text = template;
+        Template::parse(text)?.fill(&Holes::new().with("name", &name))?
+    };
+    stream.extend([ident]);
+    assert_eq!(stream.to_string(), "fn g () { } g");
 
     assert!(TokenBuffer::new(text)?.begin().ident().is_some());
     let buffer = TokenBuffer::new(text)?;

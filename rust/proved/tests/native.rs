@@ -9,7 +9,7 @@ use proved_tokens::items::{
     parse_type_item, type_generics, where_clause, where_clause_with_bound, Attributes, Body, Fields,
 };
 use proved_tokens::print::{to_pretty_string, with_doc_comments};
-use proved_tokens::quote::{Hole, Quote};
+use proved_tokens::quote::{Hole, Holes, Quote, Template};
 use proved_tokens::text::{pieces, place_trees, reprint, unescape_str};
 use proved_tokens::walk::Step;
 use proved_tokens::{Delimiter, Group, Ident, Literal, Punct, SourceMap, Spacing, Span, TokenStream, TokenTree};
@@ -209,11 +209,12 @@ fn every_error_becomes_a_compile_error_at_its_place() -> Outcome {
             3 => drop(TokenBuffer::new("(")?),
             4 => drop(to_pretty_string(&Punct::new('\'', Spacing::Joint).into())?),
             5 => drop("(".parse::<TokenStream>()?),
+            6 => drop(Template::parse("#a")?.fill(&Holes::new())?),
             _ => drop(unescape_str("\\").next().expect("a unit").1?),
         }
         Ok(TokenStream::new())
     }
-    for row in 0..7 {
+    for row in 0..8 {
         let told = in_a_macro(row).expect_err("it is an error").to_compile_error();
         assert_eq!(told.trees().len(), 8, "row {row}");
     }

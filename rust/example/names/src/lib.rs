@@ -6,16 +6,7 @@ use proved_macros::proved_tokens::items::{
     impl_generics, parse_type_item, type_generics, where_clause, AttributeArgs, Attributes, Body, Fields, Variant,
     VariantList,
 };
-use proved_macros::proved_tokens::quote::{Hole, Quote};
-use proved_macros::proved_tokens::{Delimiter, Literal, SourceMap, TokenStream, TokenTree};
-
-const CODE: &str = "
-    impl #header {
-        /// The name of the variant.
-        pub fn name(&self) -> &'static str {
-            match self { #( Self::#variant => #text ),* }
-        }
-    }";
+use proved_macros::proved_tokens::{quote, Delimiter, Literal, TokenStream, TokenTree};
 
 /// Gives an enum the function `name`, which answers the name of a value's variant, or the text of its attribute
 /// `#[name = "text"]`. No variant has fields.
@@ -36,15 +27,19 @@ fn names(item: &TokenStream) -> Result<TokenStream, CompileError> {
         if let Fields::Named(fields) | Fields::Tuple(fields) = variant.fields {
             return Err(CompileError::new(fields.span(), "a variant has a name alone"));
         }
-        texts.push(TokenStream::from(text(&variant)?));
-        variants.push(TokenStream::from(variant.name.clone()));
+        texts.push(text(&variant)?);
+        variants.push(variant.name);
     }
-    let mut header = impl_generics(&item)?;
-    header.extend([TokenStream::from(item.name.clone()), type_generics(&item)?, where_clause(&item)?]);
-    let holes = [Hole::one("header", &header), Hole::each("variant", &variants), Hole::each("text", &texts)];
-    let mut quote = Quote::new();
-    quote.parse(CODE, &mut SourceMap::new(), &holes)?;
-    Ok(quote.into_stream())
+    let (parameters, arguments, clause) = (impl_generics(&item)?, type_generics(&item)?, where_clause(&item)?);
+    let name = item.name;
+    Ok(quote! {
+        impl #parameters #name #arguments #clause {
+            /// The name of the variant.
+            pub fn name(&self) -> &'static str {
+                match self { #( Self::#variants => #texts ),* }
+            }
+        }
+    })
 }
 
 /// The text of a variant: that of its attribute, or its name. An attribute that is passed on as `$m:meta` isn't seen.

@@ -3,21 +3,7 @@
 use proved_macros::expand_attribute;
 use proved_macros::proved_tokens::error::CompileError;
 use proved_macros::proved_tokens::items::{parse_item, split_inner_attributes, AnyItem, ItemKind};
-use proved_macros::proved_tokens::quote::{Hole, Quote};
-use proved_macros::proved_tokens::{Delimiter, Group, Ident, Literal, SourceMap, Span, TokenStream, TokenTree};
-
-/// The body, whose statements see no name of what stands before them. The guard speaks however the body is left.
-const CODE: &str = "
-    #attributes
-    #log(#text, true);
-    let #guard = {
-        struct Left;
-        impl ::core::ops::Drop for Left {
-            fn drop(&mut self) { #log(#text, false) }
-        }
-        Left
-    };
-    #inside";
+use proved_macros::proved_tokens::{format_ident, quote, Delimiter, Group, Ident, Span, TokenStream, TokenTree};
 
 /// `#[traced(log)]` calls `log(name, true)` when the function begins, and `log(name, false)` when it is left: at its
 /// end, by `return`, by `?` or by a panic.
@@ -32,23 +18,10 @@ fn wrapped(log: &TokenStream, item: &TokenStream, own: Span) -> Result<TokenStre
     let (name, head, body) = function(parse_item(item.trees())?)?;
     let (attributes, statements) = split_inner_attributes(body.stream_ref().trees())?;
     let inside = if attributes.is_empty() { body.clone() } else { Group::new(Delimiter::Brace, statements.into()) };
-    let mut quote = Quote::new();
-    quote.parse(
-        CODE,
-        &mut SourceMap::new(),
-        &[
-            Hole::one("attributes", &attributes.into()),
-            Hole::one("log", log),
-            Hole::one("text", &Literal::from(name.to_string().as_str()).into()),
-            Hole::one("guard", &Ident::new("_guard", own)?.into()),
-            Hole::one("inside", &inside.into()),
-        ],
-    )?;
-    let mut braces = Group::new(Delimiter::Brace, quote.into_stream());
+    let prologue = prologue(log, name, own);
+    let mut braces = Group::new(Delimiter::Brace, quote! { #attributes #prologue #inside });
     braces.set_span(body.span());
-    let mut whole = TokenStream::from(head);
-    whole.extend([braces]);
-    Ok(whole)
+    Ok(quote! { #head #braces })
 }
 
 /// A function's name, its trees before the body, and the body.
@@ -56,5 +29,20 @@ fn function(item: AnyItem<'_>) -> Result<(&Ident, &[TokenTree], &Group), Compile
     match (item.kind, item.name, item.trees) {
         (ItemKind::Function, Some(name), [head @ .., TokenTree::Group(body)]) => Ok((name, head, body)),
         (_, _, trees) => Err(CompileError::new_spanned(trees, "only a function with a body is traced")),
+    }
+}
+
+/// What comes before the old statements, which see none of its names. The guard speaks however the body is left.
+fn prologue(log: &TokenStream, name: &Ident, own: Span) -> TokenStream {
+    let (text, guard) = (name.to_string(), format_ident!("_guard", span = own));
+    quote! {
+        #log(#text, true);
+        let #guard = {
+            struct Left;
+            impl ::core::ops::Drop for Left {
+                fn drop(&mut self) { #log(#text, false) }
+            }
+            Left
+        };
     }
 }

@@ -1,5 +1,5 @@
 // Made from crates/item_headers/src/errors.rt by rust/erase: change that file, not this one.
-//! Why no header is written.
+//! The error of the calls.
 
 use crate::declarations::Fault;
 use crate::proc_macro2::{IdentError, Span};
@@ -7,7 +7,7 @@ use crate::quoting::QuoteError;
 use crate::shim::alloc::AllocError;
 use crate::shim::fmt;
 
-/// Why no header is written.
+/// The error of a call: the item's parameters or predicates are wrong, or memory ran out.
 #[derive(Debug, PartialEq)]
 #[non_exhaustive]
 pub enum HeaderError {
@@ -17,12 +17,14 @@ pub enum HeaderError {
     Fault(Fault),
     /// A keyword or a mark could not be written, because memory ran out.
     Keyword(IdentError),
-    /// Memory ran out. No call gives another error of a quote.
+    /// Memory ran out. No call returns any other error of a quote.
     Quote(QuoteError),
 }
 
 impl HeaderError {
-    /// Returns the span of the tree that does not fit, or `None` if trees are missing at the end or for another error.
+    /// Returns the span of the tree that does not fit.
+    ///
+    /// Returns `None` if trees are missing at the end, and for any error but `Fault`.
     ///
     /// # Contract
     ///

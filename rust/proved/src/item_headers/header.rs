@@ -1,5 +1,5 @@
 // Made from crates/item_headers/src/header.rt by rust/erase: change that file, not this one.
-//! The front of an `impl`.
+//! The header of an `impl`.
 
 use crate::shim::prelude::TryClone;
 
@@ -47,7 +47,7 @@ pub fn impl_header(
     Ok(quote.into_stream())
 }
 
-/// Returns the header of an `impl` as [`impl_header`] does, but with this where clause instead of the item's.
+/// Returns the header of an `impl` as [`impl_header`] does, but with another where clause instead of the item's.
 ///
 /// Take the clause from a call such as `where_clause_with`. An empty stream is no where clause. For
 /// `struct S<'a, T: A = B> where T: C { .. }`, `D<T>` and `where T: C, T: D<T>` the header is
@@ -82,7 +82,7 @@ pub fn impl_header_where(
     Ok(quote.into_stream())
 }
 
-/// Returns the header up to the where clause.
+/// Returns a quote with the header up to the where clause.
 fn front(item: &TypeItem<'_>, trait_path: &TokenStream) -> Result<Quote, HeaderError>
 {
     let mut quote = Quote::new();

@@ -1,5 +1,5 @@
 // Made from crates/item_headers/src/lists.rt by rust/erase: change that file, not this one.
-//! Words, marks and trees put into a quote, and what stands before each element of a list.
+//! Adds words, marks and trees to a quote, and the marks and words before each element of a list.
 
 use crate::shim::prelude::TryClone;
 
@@ -7,7 +7,7 @@ use crate::proc_macro2::{Ident, IdentError, Punct, Spacing, Span, TokenTree};
 use crate::quoting::Quote;
 use crate::shim::alloc::AllocError;
 
-/// What stands before the first element of a list.
+/// The marks or the word before the first element of a list.
 #[derive(Clone, Copy)]
 pub(crate) enum Lead {
     /// `<`
@@ -18,13 +18,13 @@ pub(crate) enum Lead {
     Where,
 }
 
-/// Puts a mark that is Alone at the end.
+/// Adds a mark that is Alone at the end of the quote.
 pub(crate) fn push_mark(quote: &mut Quote, character: char) -> Result<(), AllocError>
 {
     quote.push(TokenTree::Punct(Punct::new(character, Spacing::Alone)))
 }
 
-/// Puts a word at the end.
+/// Adds a word at the end of the quote.
 pub(crate) fn push_word(quote: &mut Quote, name: &str) -> Result<(), IdentError>
 {
     let ident = Ident::new(name, Span::call_site())?;
@@ -32,7 +32,7 @@ pub(crate) fn push_word(quote: &mut Quote, name: &str) -> Result<(), IdentError>
     Ok(())
 }
 
-/// Puts copies of these trees at the end.
+/// Adds copies of the trees at the end of the quote.
 pub(crate) fn push_trees(quote: &mut Quote, trees: &[TokenTree]) -> Result<(), AllocError>
 {
     let mut left = trees;
@@ -44,7 +44,7 @@ pub(crate) fn push_trees(quote: &mut Quote, trees: &[TokenTree]) -> Result<(), A
     Ok(())
 }
 
-/// Puts `:` and copies of these trees at the end, if there are any.
+/// Adds `:` and copies of the trees at the end of the quote, or nothing if there are no trees.
 pub(crate) fn push_led(quote: &mut Quote, trees: &[TokenTree]) -> Result<(), AllocError>
 {
     if trees.is_empty() {
@@ -55,7 +55,7 @@ pub(crate) fn push_led(quote: &mut Quote, trees: &[TokenTree]) -> Result<(), All
     Ok(())
 }
 
-/// Puts what stands before an element at the end: the first, or one after others.
+/// Adds the marks or the word before an element of a list: `,` if `any` elements come before it, or else `lead`.
 pub(crate) fn push_lead(
     quote: &mut Quote,
     lead: Lead,
@@ -68,6 +68,7 @@ pub(crate) fn push_lead(
     push_first_lead(quote, lead)
 }
 
+/// Adds the marks or the word before the first element of a list.
 fn push_first_lead(quote: &mut Quote, lead: Lead) -> Result<(), IdentError>
 {
     match lead {
@@ -77,7 +78,7 @@ fn push_first_lead(quote: &mut Quote, lead: Lead) -> Result<(), IdentError>
     }
 }
 
-/// Puts `::<` at the end.
+/// Adds `::<` at the end of the quote.
 fn push_turbofish(quote: &mut Quote) -> Result<(), AllocError>
 {
     push_joint_colon(quote)?;
@@ -86,7 +87,7 @@ fn push_turbofish(quote: &mut Quote) -> Result<(), AllocError>
     Ok(())
 }
 
-/// Puts a `:` that is Joint at the end.
+/// Adds a `:` that is Joint at the end of the quote.
 fn push_joint_colon(quote: &mut Quote) -> Result<(), AllocError>
 {
     quote.push(TokenTree::Punct(Punct::new(':', Spacing::Joint)))

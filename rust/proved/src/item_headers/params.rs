@@ -1,5 +1,5 @@
 // Made from crates/item_headers/src/params.rt by rust/erase: change that file, not this one.
-//! Generic parameters, without their defaults or by their names.
+//! The generic parameters and arguments of an item.
 
 use crate::item_headers::errors::HeaderError;
 use crate::item_headers::lists::{Lead, push_lead, push_led, push_mark, push_trees, push_word};
@@ -12,11 +12,11 @@ use crate::quoting::Quote;
 pub(crate) enum Form {
     /// The parameter without its default.
     Declared,
-    /// Its name.
+    /// Only the name of the parameter.
     Named,
 }
 
-/// Returns the generic parameters of an `impl` for the item: the item's own with attributes and without defaults.
+/// Returns the generic parameters of an `impl` for the item: the item's own, with attributes but without defaults.
 ///
 /// For `struct S<'a, T: A = B, const N: usize = 3>` they are `<'a, T: A, const N: usize>`. The stream is empty if the
 /// item has none. The error is `Fault` if the trees are not the generic parameters of an item.
@@ -106,7 +106,7 @@ pub fn turbofish(item: &TypeItem<'_>) -> Result<TokenStream, HeaderError>
     Ok(quote.into_stream())
 }
 
-/// Writes the parameters in angle brackets at the end of the quote.
+/// Writes the parameters in angle brackets at the end of the quote, or nothing if there are none.
 pub(crate) fn push_generics(
     quote: &mut Quote,
     trees: &[TokenTree],
@@ -129,6 +129,7 @@ pub(crate) fn push_generics(
     Ok(())
 }
 
+/// Writes a parameter in the given form at the end of the quote.
 fn push_param(
     quote: &mut Quote,
     param: &Param<'_>,

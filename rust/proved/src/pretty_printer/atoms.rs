@@ -7,10 +7,10 @@ use crate::pm_token::parts::{is_raw, name_of};
 use crate::proc_macro2::{Delimiter, Ident, Punct, Spacing, TokenTree};
 use crate::shim::alloc::AllocError;
 
-/// What an atom is.
+/// The kind of an atom.
 #[derive(Clone, Copy)]
 pub enum Kind {
-    /// No atom: what stands before the first of a list, and after the last.
+    /// No atom. It is before the first atom of a list and after the last.
     Nothing,
     Word(Word),
     Sign(Sign),
@@ -21,7 +21,7 @@ pub enum Kind {
 #[derive(Clone, Copy, PartialEq)]
 pub enum Word {
     Name,
-    /// The name of a kind of fragment in a macro's matcher, as `expr`.
+    /// The name of a kind of fragment in a macro's matcher, such as `expr`.
     Fragment,
     /// The name of a macro that formats text: the number of its arguments up to the format string.
     Format1,
@@ -30,7 +30,7 @@ pub enum Word {
     Literal,
     String,
     Lifetime,
-    /// A keyword that no rule names.
+    /// A keyword that no rule mentions.
     Keyword,
     As,
     Await,
@@ -73,22 +73,22 @@ pub enum Sign {
     Or,
     /// `..`, `..=` and `...`
     Range,
-    /// Any other, as `+=`.
+    /// Any other operator, such as `+=`.
     Other,
 }
 
-/// What an atom means where it stands.
+/// The role of an atom among the atoms around it.
 #[derive(Clone, Copy, PartialEq)]
 pub enum Role {
     Plain,
     /// `<` and `>` around types.
     Less,
     Greater,
-    /// An operator between two sides.
+    /// An operator between two operands.
     Between,
-    /// An operator before its only side.
+    /// An operator before its only operand.
     Before,
-    /// An operator after its only side.
+    /// An operator after its only operand.
     After,
     Path,
     Range,
@@ -96,7 +96,7 @@ pub enum Role {
     Hash,
     /// The `!` of a macro's call.
     Bang,
-    /// What stands between the repetitions of a macro.
+    /// The separator of a repetition in a macro.
     Separator,
     Comma,
     Semicolon,
@@ -109,50 +109,50 @@ pub enum Role {
     Repeated,
     /// The brackets of an attribute.
     Attribute,
-    /// Parentheses that call nothing.
+    /// Parentheses that are not a call's.
     Tuple,
     /// The braces of a `use`.
     Use,
-    /// A branch of an `if` that gives a value.
+    /// A branch of an `if` whose value is used.
     Branch,
     /// Statements, items or fields.
     Block,
-    /// The fields of a struct's literal.
+    /// The fields of a struct literal.
     Fields,
-    /// Braces that are something else.
+    /// Any other braces.
     Expression,
 }
 
-/// The column of no line.
+/// The column of a line that does not exist.
 pub const NO_LINE: usize = usize::MAX;
 
-/// A word, an operator or a group. Its fields stand in the order of their sizes, so that none is padded.
+/// A word, an operator or a group. The fields are in the order of their sizes, so that there is no padding.
 #[derive(Clone, Copy)]
 pub struct Atom {
-    /// How many tokens it has. A group counts as its opener.
+    /// The number of tokens. A group counts as its opener.
     pub tokens: usize,
-    /// How many characters it has, where a group is on one line.
+    /// The number of characters, if a group is on one line.
     pub width: usize,
-    /// The characters before it in its list, where the list is on one line.
+    /// The number of characters before it in its list, if the list is on one line.
     pub offset: usize,
-    /// How many before it in its list need several lines.
+    /// The number of atoms before it in its list that need several lines.
     pub tall_before: usize,
-    /// Where a part of a list begins, the index after its last atom, and `plain`, whether it is on one line if it is
-    /// short. Else 0 and false.
+    /// If a part of a list begins here: the index after its last atom, and `plain`, whether a short part stays on one
+    /// line. Otherwise 0 and false.
     pub part_end: usize,
-    /// Of a group: the indexes of its first atom and after its last.
+    /// Of a group: the index of its first atom and the one after its last.
     pub first: usize,
     pub end: usize,
-    /// Of a group: how many parts it has.
+    /// Of a group: the number of its parts.
     pub parts: usize,
-    /// Of an operator before which a line breaks, the column at which that line begins: what comes later in the
-    /// expression stands as far in. Else `NO_LINE`.
+    /// Of an operator before which a line breaks: the column at which that line begins, and to which later lines of the
+    /// expression are indented. Otherwise `NO_LINE`.
     pub line: usize,
     pub kind: Kind,
     pub role: Role,
     /// Whether its last mark is Joint, so that no gap may follow.
     pub glued: bool,
-    /// Whether a space stands before it, where its list is on one line.
+    /// Whether a space is before it, if its list is on one line.
     pub spaced: bool,
     /// Whether it needs several lines.
     pub tall: bool,
@@ -160,7 +160,7 @@ pub struct Atom {
     /// Of a group in braces: whether it has `;` or `=>`, and whether it has `..`.
     pub statements: bool,
     pub rest: bool,
-    /// Whether an `if` begins here that gives a value.
+    /// Whether an `if` whose value is used begins here.
     pub begins_branches: bool,
 }
 
@@ -190,7 +190,7 @@ impl Atom {
     /// An atom with no role yet.
     #[cfg_attr(not(debug_assertions), inline(always))]
     pub fn new(kind: Kind, tokens: usize, glued: bool, width: usize) -> Atom {
-        // Each field is set once, where the atom is to stand.
+        // Each field is set once, in the atom's slot.
         Atom {
             tokens,
             width,
@@ -272,7 +272,7 @@ impl Atom {
         matches!(self.kind, Kind::Group(Delimiter::Parenthesis))
     }
 
-    /// A group that is no brace.
+    /// Returns whether it is a group, but not in braces.
     pub fn is_list(&self) -> bool {
         match self.kind {
             Kind::Group(_) => !self.is_brace(),
@@ -313,7 +313,7 @@ impl Atom {
     }
 }
 
-/// A group whose atoms aren't there yet.
+/// A group whose atoms are not read yet.
 #[derive(Clone, Copy)]
 pub struct Unread<'a> {
     /// The index of its own atom.
@@ -321,7 +321,7 @@ pub struct Unread<'a> {
     pub trees: &'a [TokenTree],
 }
 
-/// The atoms of these trees, after the others, and their groups after the others.
+/// Adds the atoms of these trees at the end of the atoms, and their groups at the end of the groups.
 pub fn push_list<'a>(
     atoms: &mut Vec<Atom>,
     groups: &mut Vec<Unread<'a>>,
@@ -369,10 +369,10 @@ pub fn push_list<'a>(
     Ok(())
 }
 
-/// The group of these trees.
+/// Returns the atom of a group with these trees.
 fn group_atom(delimiter: Delimiter, trees: &[TokenTree]) -> Atom {
     let mut atom = Atom::new(Kind::Group(delimiter), 1, false, 2);
-    // Only of braces it is asked.
+    // Only braces need it.
     if delimiter != Delimiter::Brace {
         return atom;
     }
@@ -395,9 +395,9 @@ fn group_atom(delimiter: Delimiter, trees: &[TokenTree]) -> Atom {
     atom
 }
 
-/// How many characters a text has.
+/// Returns the number of characters of a text.
 fn char_count(text: &str) -> usize {
-    // Most texts are of ASCII, whose bytes are its characters.
+    // Most texts are ASCII, where each byte is a character.
     if text.is_ascii() {
         text.len()
     } else {
@@ -405,13 +405,13 @@ fn char_count(text: &str) -> usize {
     }
 }
 
-/// How many characters an identifier has.
+/// Returns the number of characters of an identifier.
 fn width_of(ident: &Ident) -> usize {
     let front: usize = if is_raw(ident) { 2 } else { 0 };
     char_count(name_of(ident)).saturating_add(front)
 }
 
-/// How many characters stand on the first line of a text.
+/// Returns the number of characters on the first line of a text.
 fn first_line(text: &str) -> usize {
     match text.split_once('\n') {
         Some((line, _)) => char_count(line),
@@ -419,7 +419,7 @@ fn first_line(text: &str) -> usize {
     }
 }
 
-/// The lifetime or the operator that begins with this mark, which is the tree of this index.
+/// Returns the lifetime or the operator that begins with this mark, which is the tree at this index.
 fn mark_atom(punct: &Punct, trees: &[TokenTree], index: usize) -> Atom {
     if punct.as_char() != '\'' {
         let own = operator(punct, trees, index);
@@ -434,7 +434,7 @@ fn mark_atom(punct: &Punct, trees: &[TokenTree], index: usize) -> Atom {
     }
 }
 
-/// An operator, of how many marks it is, and whether the last is Joint.
+/// An operator, the number of its marks, and whether the last mark is Joint.
 #[derive(Clone, Copy)]
 struct Marks {
     sign: Sign,
@@ -442,7 +442,7 @@ struct Marks {
     glued: bool,
 }
 
-/// The operator that begins with this mark, which is the tree of this index.
+/// Returns the operator that begins with this mark, which is the tree at this index.
 #[cfg_attr(not(debug_assertions), inline(always))]
 fn operator(punct: &Punct, trees: &[TokenTree], index: usize) -> Marks {
     let second_index = index.saturating_add(1);
@@ -483,7 +483,7 @@ fn operator(punct: &Punct, trees: &[TokenTree], index: usize) -> Marks {
     }
 }
 
-/// The operator of two marks.
+/// Returns the operator of two marks.
 fn pair(first: char, second: char) -> Option<Sign> {
     match (first, second) {
         (':', ':') => Some(Sign::Path),
@@ -506,7 +506,7 @@ fn is_joint(punct: &Punct) -> bool {
     punct.spacing() == Spacing::Joint
 }
 
-/// The mark of this index, if it is one that an operator may go on with.
+/// Returns the mark at this index, if an operator can go on with it.
 fn mark_at<'a>(trees: &'a [TokenTree], index: usize) -> Option<&'a Punct> {
     match trees.get(index) {
         Some(TokenTree::Punct(punct)) if punct.as_char() != '\'' => Some(punct),
@@ -514,9 +514,9 @@ fn mark_at<'a>(trees: &'a [TokenTree], index: usize) -> Option<&'a Punct> {
     }
 }
 
-/// What an identifier of this text is.
+/// Returns the kind of word that an identifier with this text is.
 fn word_of(text: &str) -> Word {
-    // Few words begin alike, and most names are as long as none of these.
+    // Each first letter has few words, and most comparisons end at the length.
     let Some(first) = text.as_bytes().first() else {
         return Word::Name;
     };

@@ -1,5 +1,5 @@
 // Made from crates/pretty_printer/src/chains.rt by rust/erase: change that file, not this one.
-//! Chains of calls: how far each goes, and before which of its dots lines are broken.
+//! Chains of calls: the end of each chain, and the dots before which its lines break.
 
 use crate::shim::prelude::Grow;
 
@@ -7,27 +7,27 @@ use crate::pretty_printer::atoms::{Atom, NOTHING, Role};
 use crate::pretty_printer::lists::{atom, before};
 use crate::shim::alloc::AllocError;
 
-/// No index.
+/// The index of a missing atom.
 pub const NOWHERE: usize = usize::MAX;
 
-/// A chain of calls: the indexes of what it has, or `NOWHERE`. A dot is loose if a line may break before it.
+/// The indexes of a chain of calls, each `NOWHERE` if it is missing. A dot is loose if a line may break before it.
 #[derive(Clone, Copy)]
 pub struct Chain {
-    /// After its last atom.
+    /// The index after the last atom.
     pub end: usize,
-    /// Its first and its last dot.
+    /// The first dot and the last dot.
     pub first: usize,
     pub last: usize,
-    /// Its first and its second loose dot.
+    /// The first and the second loose dot.
     pub loose: usize,
     pub next_loose: usize,
     /// The first group after the last dot.
     pub call: usize,
-    /// Whether a loose dot stands after an operator such as `?`.
+    /// Whether a loose dot follows an operator such as `?`.
     pub after: bool,
 }
 
-/// The chain of calls that begins at this index, in a part that ends before `until`.
+/// Returns the chain of calls that begins at this index, in a part that ends before `until`.
 pub fn chain_at(atoms: &[Atom], index: usize, until: usize) -> Chain {
     let mut chain = Chain {
         end: index,
@@ -60,7 +60,7 @@ pub fn chain_at(atoms: &[Atom], index: usize, until: usize) -> Chain {
 }
 
 impl Chain {
-    /// Goes on with the dot of this index.
+    /// Adds the dot at this index to the chain.
     fn take_dot(&mut self, dot: usize, previous: &Atom) {
         if self.first == NOWHERE {
             self.first = dot;
@@ -79,7 +79,7 @@ impl Chain {
     }
 }
 
-/// Whether the atom goes on with a chain of calls.
+/// Returns whether a chain of calls goes on with the atom.
 fn goes_on(own: &Atom, previous: &Atom) -> bool {
     if matches!(
         own.role,
@@ -99,21 +99,21 @@ fn goes_on(own: &Atom, previous: &Atom) -> bool {
     own.is_group() && (previous.is_nothing() || !own.is_brace() || previous.role == Role::Bang)
 }
 
-/// What is found from an atom on within a chain, whatever atom before it a chain begins at: indexes, or `NOWHERE`.
+/// The indexes of a chain from one atom on, or `NOWHERE`. They do not depend on the atom at which the chain begins.
 #[derive(Clone, Copy)]
 struct Link {
-    // Where a chain ends that goes on to here, with no `<` open that stands before.
+    // The end of a chain that goes on to this atom, if no `<` before it is open.
     end: usize,
-    // The last dot before it.
+    // The last dot before this atom.
     last: usize,
-    // From it on: the first dot, loose dot, loose dot after an operator such as `?`, and group.
+    // From this atom on: the first dot, loose dot, loose dot after an operator such as `?`, and group.
     dot: usize,
     loose: usize,
     after: usize,
     group: usize,
 }
 
-/// The link of nothing.
+/// A link without indexes.
 const NO_LINK: Link = Link {
     end: NOWHERE,
     last: NOWHERE,
@@ -126,12 +126,12 @@ const NO_LINK: Link = Link {
 /// A chain whose atoms have links.
 #[derive(Clone, Copy)]
 struct Linked {
-    // Where the atoms of its list begin, which stand after those of each list around it.
+    // The index of the first atom of its list. Atoms of a list are after those of each list around it.
     list: usize,
-    // Its atoms that have links.
+    // The atoms in `from..until` have links.
     from: usize,
     until: usize,
-    // Where the links are.
+    // The index of the first link in `links`.
     at: usize,
 }
 
@@ -139,23 +139,23 @@ struct Linked {
 #[derive(Clone, Copy)]
 struct Broken {
     list: usize,
-    // Lines break before its loose dots from here on, and begin at this column.
+    // Lines break before the loose dots in `from..until`, and begin at this column.
     from: usize,
     until: usize,
     column: usize,
 }
 
-/// What is kept of the chains of the lists that are written, so that each atom is looked at a few times only, however
-/// many chains it is in: one that begins within another ends there too, or before.
+/// The known chains of the lists that are written. They keep the time linear: each atom is looked at a few times only,
+/// however many chains it is in. A chain that begins within another one ends with it or before.
 pub struct Chains {
     linked: Vec<Linked>,
     links: Vec<Link>,
-    // Those that end last first.
+    // The chains that end last come first.
     broken: Vec<Broken>,
 }
 
 impl Chains {
-    /// Of no lists.
+    /// Returns an empty list of chains.
     pub fn new() -> Chains {
         Chains {
             linked: Vec::new(),
@@ -164,15 +164,15 @@ impl Chains {
         }
     }
 
-    /// Forgets all.
+    /// Removes all chains.
     pub fn clear(&mut self) {
         self.linked.clear();
         self.links.clear();
         self.broken.clear();
     }
 
-    /// The chain that begins at this index, within one that has dots and ends before `until`. `list` is where the atoms
-    /// of its list begin, and `opens` is for indexes.
+    /// Returns the chain that begins at this index, within a chain that has dots and ends before `until`. `list` is the
+    /// index of the first atom of its list, and `opens` is scratch memory.
     pub fn inner(
         &mut self,
         atoms: &[Atom],
@@ -201,7 +201,7 @@ impl Chains {
         Ok(self.linked_chain(atoms, index))
     }
 
-    /// Gives links to the atoms from `from` on and before `until`, and to what stands there.
+    /// Makes links for the atoms in `from..until`, and one for the end.
     fn link(
         &mut self,
         atoms: &[Atom],
@@ -260,7 +260,7 @@ impl Chains {
         Ok(())
     }
 
-    /// The link of this index.
+    /// Returns the link of the atom at this index.
     fn link_at(&self, index: usize) -> Link {
         let Some(top) = self.linked.last() else {
             return NO_LINK;
@@ -269,7 +269,7 @@ impl Chains {
         self.links.get(place).copied().unwrap_or(NO_LINK)
     }
 
-    /// Sets all of a link but for `last`.
+    /// Sets all fields of a link but `last`.
     fn set_link(&mut self, index: usize, link: Link) {
         let Some(top) = self.linked.last() else {
             return;
@@ -282,7 +282,7 @@ impl Chains {
         }
     }
 
-    /// The chain that begins at this index, by the links.
+    /// Returns the chain that begins at this index, from the links.
     fn linked_chain(&self, atoms: &[Atom], index: usize) -> Chain {
         let own = atom(atoms, index);
         let next = self.link_at(index.saturating_add(1));
@@ -312,8 +312,8 @@ impl Chains {
         }
     }
 
-    /// Breaks the lines before the loose dots from `from` on of a chain that ends before `until`: they begin at this
-    /// column. `index` is where it begins.
+    /// Breaks the lines before the loose dots in `from..until` of the chain that begins at `index`. The lines begin at
+    /// this column.
     pub fn break_dots(
         &mut self,
         list: usize,
@@ -331,7 +331,7 @@ impl Chains {
         Ok(())
     }
 
-    /// Forgets the chains of lists that are closed, and those that end before this index.
+    /// Removes the chains of closed lists, and those that end before this index.
     fn pass(&mut self, list: usize, index: usize) {
         for _ in 0..self.broken.len() {
             match self.broken.last() {
@@ -343,8 +343,8 @@ impl Chains {
         }
     }
 
-    /// The column at which the line of the loose dot of this index begins, if a chain's line breaks there. Of several
-    /// chains that which began last says so: only if it keeps the dot on its line, those around it are asked.
+    /// Returns the column of the line that begins with the loose dot at this index, if a chain's line breaks there. The
+    /// innermost chain decides. If it keeps the dot on its line, the chain around it decides.
     pub fn line_at(&mut self, list: usize, index: usize) -> Option<usize> {
         self.pass(list, index);
         let count = self.broken.len();

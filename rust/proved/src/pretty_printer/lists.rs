@@ -1,9 +1,9 @@
 // Made from crates/pretty_printer/src/lists.rt by rust/erase: change that file, not this one.
-//! Looks at atoms by index. What is past the ends of a list is no atom.
+//! Access to atoms by index. An index outside of a list gives `NOTHING`.
 
 use crate::pretty_printer::atoms::{Atom, NOTHING, Role};
 
-/// The atom of this index.
+/// Returns the atom at this index.
 pub fn atom(atoms: &[Atom], index: usize) -> &Atom {
     match atoms.get(index) {
         Some(atom) => atom,
@@ -11,7 +11,7 @@ pub fn atom(atoms: &[Atom], index: usize) -> &Atom {
     }
 }
 
-/// The atom before this index in the list that begins at `first`.
+/// Returns the atom before this index in the list that begins at `first`.
 pub fn before(atoms: &[Atom], first: usize, index: usize) -> &Atom {
     if index > first {
         atom(atoms, index - 1)
@@ -20,7 +20,7 @@ pub fn before(atoms: &[Atom], first: usize, index: usize) -> &Atom {
     }
 }
 
-/// The atom after this index in the list that ends before `end`.
+/// Returns the atom after this index in the list that ends before `end`.
 pub fn after(atoms: &[Atom], end: usize, index: usize) -> &Atom {
     let next = index.saturating_add(1);
     if next < end {
@@ -30,14 +30,14 @@ pub fn after(atoms: &[Atom], end: usize, index: usize) -> &Atom {
     }
 }
 
-/// Gives the atom this role.
+/// Sets the role of the atom at this index.
 pub fn set_role(atoms: &mut Vec<Atom>, index: usize, role: Role) {
     if let Some(atom) = atoms.get_mut(index) {
         atom.role = role;
     }
 }
 
-/// How many characters the atoms from `from` on and before `end` take on one line.
+/// Returns the number of characters that the atoms in `from..end` take on one line.
 pub fn width(atoms: &[Atom], from: usize, end: usize) -> usize {
     if end <= from {
         return 0;
@@ -48,7 +48,7 @@ pub fn width(atoms: &[Atom], from: usize, end: usize) -> usize {
         .saturating_sub(atom(atoms, from).offset)
 }
 
-/// Whether one of them needs several lines.
+/// Returns whether an atom in `from..end` needs several lines.
 pub fn is_tall(atoms: &[Atom], from: usize, end: usize) -> bool {
     if end <= from {
         return false;

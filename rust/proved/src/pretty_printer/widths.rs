@@ -1,17 +1,17 @@
 // Made from crates/pretty_printer/src/widths.rt by rust/erase: change that file, not this one.
-//! The parts of lists, and how wide all is on one line.
+//! Finds the parts of lists, and the widths of atoms and lists on one line.
 
 use crate::pretty_printer::atoms::{Atom, Role, Word};
 use crate::pretty_printer::lists::{after, atom, before, is_tall, width};
 
-/// No `if` that gives a value is wider on one line.
+/// The largest width in characters of an `if` on one line whose value is used.
 const BRANCHES: usize = 50;
 
-/// No struct's literal that takes the rest of another is wider on one line.
+/// The largest width in characters of a struct literal with `..` on one line.
 const FIELDS: usize = 18;
 
-/// Finds the parts of a list, and answers how many there are: each to a comma outside of angles, and in braces also to
-/// a semicolon, an attribute and the end of a block.
+/// Finds the parts of a list and returns their number. A part ends with a comma outside of angles. In braces it also
+/// ends with a semicolon, an attribute and the end of a block.
 pub fn find_parts(atoms: &mut Vec<Atom>, first: usize, end: usize, block: bool) -> usize {
     let mut start = first;
     let mut count: usize = 0;
@@ -60,7 +60,7 @@ fn set_part(atoms: &mut Vec<Atom>, start: usize, end: usize, plain: bool) {
     }
 }
 
-/// Whether a statement or an attribute ends with the atom. `signs_only` says that only operators stand before it.
+/// Returns whether a statement or an attribute ends with the atom. `signs_only` is whether only operators precede it.
 fn ends_statement(own: &Atom, next: &Atom, signs_only: bool) -> bool {
     if own.is_brace() && matches!(own.role, Role::Block | Role::Branch | Role::Expression) {
         let goes_on = matches!(
@@ -80,8 +80,8 @@ fn ends_statement(own: &Atom, next: &Atom, signs_only: bool) -> bool {
     own.role == Role::Semicolon || own.role == Role::Attribute && signs_only
 }
 
-/// Whether a space looks well before the atom of this index, which is to have this role, and which isn't the first of
-/// its list.
+/// Returns whether a space should be before the atom `next` at this index, which gets this role. The atom is not the
+/// first of its list.
 #[cfg_attr(not(debug_assertions), inline(always))]
 pub fn wants_space(
     atoms: &[Atom],
@@ -146,13 +146,13 @@ pub fn wants_space(
     true
 }
 
-/// Measures a list all of whose groups are measured.
+/// Measures a list whose groups are all measured.
 pub fn measure(atoms: &mut Vec<Atom>, first: usize, end: usize) {
     if !place(atoms, first, end) {
         return;
     }
     let mut changed = false;
-    // The branches of an `if` among those of another end there too. They are no wider, so nothing is left to do for it.
+    // An `if` in a branch of another ends where that one does. It is not wider, so there is nothing to do for it.
     let mut past = first;
     for index in first..end {
         if index >= past && atom(atoms.as_slice(), index).begins_branches {
@@ -168,7 +168,7 @@ pub fn measure(atoms: &mut Vec<Atom>, first: usize, end: usize) {
     }
 }
 
-/// Sets what stands before each atom, on one line. Answers whether an `if` begins that gives a value.
+/// Sets the offset of each atom in the list on one line. Returns whether an `if` whose value is used begins in it.
 fn place(atoms: &mut Vec<Atom>, first: usize, end: usize) -> bool {
     let mut offset: usize = 0;
     let mut tall: usize = 0;
@@ -190,7 +190,7 @@ fn place(atoms: &mut Vec<Atom>, first: usize, end: usize) -> bool {
     branches
 }
 
-/// Where the branches of the `if` of this index end. Where it has none, no `if` after it has any.
+/// Returns the index after the branches of the `if` at this index. If it has none, no later `if` has any.
 fn branches_end(atoms: &[Atom], index: usize, end: usize) -> Option<usize> {
     for later in index..end {
         let own = atom(atoms, later);
@@ -202,8 +202,8 @@ fn branches_end(atoms: &[Atom], index: usize, end: usize) -> Option<usize> {
     None
 }
 
-/// Makes blocks of the branches of the `if` of this index, which end before `past`, where they are too wide for one
-/// line. Answers whether it did.
+/// Makes blocks of the branches of the `if` at this index, which end before `past`, if they are too wide for one line.
+/// Returns whether it did.
 fn spread(atoms: &mut Vec<Atom>, index: usize, past: usize) -> bool {
     if !is_tall(atoms.as_slice(), index, past) && width(atoms.as_slice(), index, past) <= BRANCHES {
         return false;
@@ -219,7 +219,7 @@ fn spread(atoms: &mut Vec<Atom>, index: usize, past: usize) -> bool {
     true
 }
 
-/// Measures a group whose list is measured.
+/// Measures the group at this index, whose list is measured.
 pub fn measure_group(atoms: &mut Vec<Atom>, index: usize) {
     let group = atom(atoms.as_slice(), index);
     if group.is_empty() {

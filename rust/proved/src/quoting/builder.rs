@@ -1,5 +1,5 @@
 // Made from crates/quoting/src/builder.rt by rust/erase: change that file, not this one.
-//! Streams that are put together.
+//! A builder of streams that shares a stream while it is the only one that was added.
 
 use crate::shim::prelude::{Grow, GrowList, TryClone};
 
@@ -7,30 +7,30 @@ use crate::pm_stream::parts;
 use crate::proc_macro2::{TokenStream, TokenTree};
 use crate::shim::alloc::AllocError;
 
-/// For how many trees a list has room at most before they come: those of most templates.
+/// The largest capacity, in trees, that a list gets in advance. Most templates have fewer trees.
 const MOST_ROOM: usize = 64;
 
-/// For how many trees a list has room at least. It would grow to it by the first.
+/// The smallest capacity of a list, in trees. The first push would grow the list to it anyway.
 const LEAST_ROOM: usize = 4;
 
-/// For so many trees a list may have room that holds fewer.
+/// Up to this capacity, in trees, a list is not shrunk.
 const FEW_TREES: usize = 8;
 
-/// A stream that is put together. It is seen as the trees that were put in, in order.
+/// A stream under construction. Contracts see it as the trees that were added, in order.
 pub(crate) struct StreamBuilder {
     trees: Trees,
 }
 
-/// Trees that are put together.
+/// The trees of a stream under construction.
 pub(crate) enum Trees {
-    // Those of a stream, or none: nothing came after it, so that it is shared.
+    // The trees of one stream, or none. Nothing was added after it, so it is shared.
     Shared(TokenStream),
-    // A list that becomes a stream as it is.
+    // A list that becomes a stream without a copy.
     Listed(Vec<TokenTree>),
 }
 
 impl StreamBuilder {
-    /// No trees. It takes no memory.
+    /// Returns a builder without trees. It allocates nothing.
     pub(crate) fn new() -> StreamBuilder
     {
         StreamBuilder {
@@ -38,7 +38,8 @@ impl StreamBuilder {
         }
     }
 
-    /// The first so many trees of the list, and the others. With none, what is put in first may still be shared.
+    /// Returns a builder of the first `count` trees of the list, and the other trees. If `count` is 0, the builder can
+    /// still share the first stream that is added.
     pub(crate) fn of_first(
         list: Vec<TokenTree>,
         count: usize,
@@ -55,7 +56,7 @@ impl StreamBuilder {
         Ok((builder, rest))
     }
 
-    /// Puts the tree at the end. So many more are expected.
+    /// Adds the tree at the end. About `more` trees are expected after it.
     #[cfg_attr(not(debug_assertions), inline(always))]
     pub(crate) fn put(&mut self, tree: TokenTree, more: usize) -> Result<(), AllocError>
     {
@@ -70,7 +71,7 @@ impl StreamBuilder {
         Ok(())
     }
 
-    /// Puts a copy of the tree at the end. So many more are expected.
+    /// Adds a copy of the tree at the end. About `more` trees are expected after it.
     #[cfg_attr(not(debug_assertions), inline(always))]
     pub(crate) fn put_copy(&mut self, tree: &TokenTree, more: usize) -> Result<(), AllocError>
     {
@@ -85,13 +86,13 @@ impl StreamBuilder {
         Ok(())
     }
 
-    /// Puts copies of the trees at the end. So many more are expected.
+    /// Adds copies of the trees at the end. About `more` trees are expected after them.
     #[inline(never)]
     fn copy(&mut self, trees: &[TokenTree], more: usize) -> Result<(), AllocError>
     {
         match &mut self.trees {
             Trees::Listed(list) => {
-                // Room for what is expected too, so that the list grows once.
+                // The expected trees are counted too, so that the list grows only once.
                 list.reserve_fallibly(trees.len().saturating_add(more.min(MOST_ROOM)))?;
                 push_copies(list, trees)?;
             }
@@ -104,7 +105,7 @@ impl StreamBuilder {
         Ok(())
     }
 
-    /// Puts the trees of the stream at the end. So many more are expected.
+    /// Adds the trees of the stream at the end. About `more` trees are expected after them.
     pub(crate) fn append(&mut self, stream: &TokenStream, more: usize) -> Result<(), AllocError>
     {
         if let Trees::Shared(first) = &self.trees {
@@ -116,14 +117,14 @@ impl StreamBuilder {
         self.copy(stream.trees(), more)
     }
 
-    /// The stream.
+    /// Returns the stream of all trees that were added.
     pub(crate) fn finish(self) -> Result<TokenStream, AllocError>
     {
         let StreamBuilder { trees } = self;
         match trees {
             Trees::Shared(stream) => Ok(stream),
             Trees::Listed(mut list) => {
-                // Fewer trees may have come than were expected. A list that grew by them would be more than half full.
+                // Fewer trees may have been added than expected. A list that grew by pushes is more than half full.
                 if list.capacity() > FEW_TREES && list.len() <= list.capacity() / 2 {
                     list.shrink_to_fit();
                 }
@@ -133,7 +134,7 @@ impl StreamBuilder {
     }
 }
 
-/// A list of copies of the stream's trees, with room for so many more.
+/// Returns a list of copies of the stream's trees, with room for `more` trees but at most `MOST_ROOM` in all.
 #[inline(never)]
 fn listed(stream: &TokenStream, more: usize) -> Result<Vec<TokenTree>, AllocError>
 {
@@ -144,7 +145,7 @@ fn listed(stream: &TokenStream, more: usize) -> Result<Vec<TokenTree>, AllocErro
     Ok(list)
 }
 
-/// Puts the tree at the end of the list.
+/// Adds the tree at the end of the list.
 #[cfg_attr(not(debug_assertions), inline(always))]
 fn push(list: &mut Vec<TokenTree>, tree: TokenTree) -> Result<(), AllocError>
 {
@@ -155,7 +156,7 @@ fn push(list: &mut Vec<TokenTree>, tree: TokenTree) -> Result<(), AllocError>
     Ok(())
 }
 
-/// Puts a copy of the tree at the end of the list.
+/// Adds a copy of the tree at the end of the list, and proves that the list can become a stream.
 #[cfg_attr(not(debug_assertions), inline(always))]
 fn copy_onto(list: &mut Vec<TokenTree>, tree: &TokenTree) -> Result<(), AllocError>
 {
@@ -165,7 +166,7 @@ fn copy_onto(list: &mut Vec<TokenTree>, tree: &TokenTree) -> Result<(), AllocErr
     Ok(())
 }
 
-/// Puts copies of the trees at the end of the list. Groups share what is inside them.
+/// Adds copies of the trees at the end of the list. A copy of a group shares its contents.
 #[cfg_attr(not(debug_assertions), inline(always))]
 fn push_copies(list: &mut Vec<TokenTree>, trees: &[TokenTree]) -> Result<(), AllocError>
 {
@@ -176,7 +177,7 @@ fn push_copies(list: &mut Vec<TokenTree>, trees: &[TokenTree]) -> Result<(), All
     Ok(())
 }
 
-/// Puts a copy of the tree at the end of the list. Room is asked for first, so that the copy is made where it stands.
+/// Adds a copy of the tree at the end of the list. Room is reserved first, so that the copy is made in its slot.
 #[cfg_attr(not(debug_assertions), inline(always))]
 fn push_copy(list: &mut Vec<TokenTree>, tree: &TokenTree) -> Result<(), AllocError>
 {
@@ -184,7 +185,7 @@ fn push_copy(list: &mut Vec<TokenTree>, tree: &TokenTree) -> Result<(), AllocErr
     put_copy(list, tree)
 }
 
-/// Puts a copy of the tree at the end of the list, which has room for it. Each kind has a line.
+/// Adds a copy of the tree at the end of the list, which must have room for it.
 #[cfg_attr(not(debug_assertions), inline(always))]
 fn put_copy(list: &mut Vec<TokenTree>, tree: &TokenTree) -> Result<(), AllocError>
 {

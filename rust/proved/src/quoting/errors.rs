@@ -1,20 +1,20 @@
 // Made from crates/quoting/src/errors.rt by rust/erase: change that file, not this one.
-//! Why a quote gives no stream, and why a template is not filled.
+//! The errors of quotes and of templates.
 
 use crate::proc_macro2::{ParseError, Span};
 use crate::shim::alloc::AllocError;
 use crate::shim::fmt;
 
-/// Why a quote gives no stream: it has a tree whose printed text does not read back, or memory ran out.
+/// The error of a stream that cannot be made well spaced, or out of memory. `Quote::finish` returns it.
 ///
-/// The error is about the first such tree in reading order. A group comes before its contents.
+/// It is the error of the first tree in reading order that has one. A group comes before its contents.
 #[derive(Debug, PartialEq, Eq)]
 #[non_exhaustive]
 pub enum QuoteError {
-    /// A group has no delimiters, so that its printed text does not show it.
+    /// A group has no delimiters, so its printed text does not show it.
     NoneGroup,
-    /// A `'` has nothing after it that it belongs to: neither an identifier nor a literal that begins with
-    /// `b"`, `c"`, `r"`, `br"` or `cr"` is next in its list.
+    /// A `'` is not followed by anything that it belongs to. The next tree in its list is neither an identifier nor a
+    /// literal that begins with `b"`, `c"`, `r"`, `br"` or `cr"`.
     LoneQuote,
     /// Memory ran out.
     Memory(AllocError),
@@ -38,31 +38,34 @@ impl From<AllocError> for QuoteError {
     }
 }
 
-/// Why a template is not filled: its first error with the span in the template, that its text was not parsed, or that
-/// memory ran out.
+/// The error of `fill` and `parse`: a template's first error, the error of parsing its text, or out of memory.
 ///
-/// The first error is the first in reading order, a group coming before its contents. So of `#( #missing )*` it is
-/// `NoList` at the parentheses, and `NoHole` at `missing` only where a list is named beside it. Of the faults at one
-/// pair of parentheses `Nested` comes first, then `TooDeep`, then `NoList`.
+/// The first error is the first in reading order, where a group comes before its contents. So `#( #missing )*` gives
+/// `NoList` at the parentheses, and gives `NoHole` at `missing` only if it also names a list. At one pair of
+/// parentheses `TooDeep` comes before `NoList`. In a repetition the errors `NoHole`, `UnequalLists` and `TooDeep` of
+/// its trees come first, in reading order. Then come the errors of its first turn, of its second, and so on.
 #[derive(Debug)]
 #[non_exhaustive]
 pub enum TemplateError {
-    /// No hole has the name that stands here, after a `#`.
+    /// A name after a `#` is not the name of any hole. The span is that of the name.
     NoHole(Span),
-    /// The name of a list stands here, outside of repetitions.
+    /// A list is named outside of repetitions. The span is that of the name.
     LoneList(Span),
-    /// The parentheses of a repetition that names no list, at any depth inside of it.
+    /// A repetition names no list at any depth. The span is that of its parentheses.
     NoList(Span),
-    /// The name of a list stands here whose length isn't that of the first list named in the repetition.
+    /// A list and the first list named in the repetition have different lengths. The span is that of the list's name.
     UnequalLists(Span),
-    /// The parentheses of a repetition inside a repetition.
-    Nested(Span),
-    /// A group inside of 64 others.
+    /// The value of a hole is a `Name` whose text is not an identifier, or is a raw one. The span is that of the hole's
+    /// name.
+    NotIdent(Span),
+    /// The value of a hole is a float that is infinite or not a number. The span is that of the hole's name.
+    NotFinite(Span),
+    /// A group is nested inside 64 other groups. The span is that of the group.
     TooDeep(Span),
-    /// The text of the template was not parsed: it has a fault, the map has no room for it, or memory ran out before it
-    /// was parsed.
+    /// The text of the template was not parsed. It has a syntax error, the map has no room for it, or memory ran out
+    /// during parsing.
     Parse(ParseError),
-    /// Memory ran out where the template was filled.
+    /// Memory ran out while the template was filled.
     Memory(AllocError),
 }
 
@@ -83,7 +86,8 @@ impl TemplateError {
             | TemplateError::LoneList(span)
             | TemplateError::NoList(span)
             | TemplateError::UnequalLists(span)
-            | TemplateError::Nested(span)
+            | TemplateError::NotIdent(span)
+            | TemplateError::NotFinite(span)
             | TemplateError::TooDeep(span) => Some(*span),
             TemplateError::Parse(error) => error.span(),
             TemplateError::Memory(_) => None,
@@ -92,14 +96,16 @@ impl TemplateError {
 }
 
 impl PartialEq for TemplateError {
-    /// Whether both are of one kind, and have the same span or none.
+    /// Returns whether both errors are of one kind, with the same span or both without one. Two `Parse` errors are
+    /// equal exactly if their inner errors are.
     fn eq(&self, other: &TemplateError) -> bool {
         match (self, other) {
             (TemplateError::NoHole(span), TemplateError::NoHole(other))
             | (TemplateError::LoneList(span), TemplateError::LoneList(other))
             | (TemplateError::NoList(span), TemplateError::NoList(other))
             | (TemplateError::UnequalLists(span), TemplateError::UnequalLists(other))
-            | (TemplateError::Nested(span), TemplateError::Nested(other))
+            | (TemplateError::NotIdent(span), TemplateError::NotIdent(other))
+            | (TemplateError::NotFinite(span), TemplateError::NotFinite(other))
             | (TemplateError::TooDeep(span), TemplateError::TooDeep(other)) => span.eq(other),
             (TemplateError::Parse(error), TemplateError::Parse(other)) => error == other,
             (TemplateError::Memory(_), TemplateError::Memory(_)) => true,
@@ -115,7 +121,8 @@ impl fmt::Display for TemplateError {
             TemplateError::LoneList(_) => f.write_str("a list outside of a repetition"),
             TemplateError::NoList(_) => f.write_str("a repetition that names no list"),
             TemplateError::UnequalLists(_) => f.write_str("lists of different lengths"),
-            TemplateError::Nested(_) => f.write_str("a repetition inside a repetition"),
+            TemplateError::NotIdent(_) => f.write_str("no name of an identifier"),
+            TemplateError::NotFinite(_) => f.write_str("a float that is not finite"),
             TemplateError::TooDeep(_) => f.write_str("groups nested too deep"),
             TemplateError::Parse(error) => error.fmt(f),
             TemplateError::Memory(_) => f.write_str("no memory"),

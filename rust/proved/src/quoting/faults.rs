@@ -1,18 +1,18 @@
 // Made from crates/quoting/src/faults.rt by rust/erase: change that file, not this one.
-//! What no spacing of marks can mend, and whether any has to be mended.
+//! Checks whether a stream is well spaced, and finds errors that no choice of spacings can repair.
 
 use crate::quoting::errors::QuoteError;
 use crate::proc_macro2::token_stream::{Step, Steps, may_be_joint};
 use crate::proc_macro2::{Delimiter, Group, Punct, Spacing, TokenTree};
 
-/// Whether the trees are well spaced as they are. Fails with their first fault in reading order, a group coming before
-/// its contents, and where memory runs out.
+/// Returns whether the trees are well spaced. Fails with their first error in reading order, where a group comes before
+/// its contents, or if memory runs out.
 pub(crate) fn are_well_spaced(trees: &[TokenTree]) -> Result<bool, QuoteError>
 {
     let mut steps = Steps::new(trees);
     let mut spaced = true;
     while let Some(step) = steps.try_next()? {
-        // What fits as it is has no fault.
+        // A step that fits has no error.
         if !step_fits(step) {
             if let Some(fault) = step_fault(step) {
                 return Err(fault);
@@ -23,7 +23,7 @@ pub(crate) fn are_well_spaced(trees: &[TokenTree]) -> Result<bool, QuoteError>
     Ok(spaced)
 }
 
-/// What is wrong with the tree that the step comes to, whatever is inside it.
+/// Returns the error of the step's tree, without a look at its contents.
 fn step_fault(step: Step<'_>) -> Option<QuoteError>
 {
     match step {
@@ -33,7 +33,7 @@ fn step_fault(step: Step<'_>) -> Option<QuoteError>
     }
 }
 
-/// What is wrong with the group, whatever is inside it.
+/// Returns the error of the group, without a look at its contents.
 fn group_fault(group: &Group) -> Option<QuoteError>
 {
     match group.delimiter() {
@@ -42,7 +42,7 @@ fn group_fault(group: &Group) -> Option<QuoteError>
     }
 }
 
-/// What is wrong with the tree before these, whatever is inside it.
+/// Returns the error of the tree before the trees `after`, without a look at its contents.
 fn tree_fault(tree: &TokenTree, after: &[TokenTree]) -> Option<QuoteError>
 {
     match tree {
@@ -52,13 +52,13 @@ fn tree_fault(tree: &TokenTree, after: &[TokenTree]) -> Option<QuoteError>
     }
 }
 
-/// Whether the mark may come before these trees, whatever its spacing.
+/// Returns whether the mark may come before these trees with some spacing.
 fn may_stand(mark: &Punct, after: &[TokenTree]) -> bool
 {
     mark.as_char() != '\'' || may_be_joint('\'', after)
 }
 
-/// Whether the group that the step goes into is shown, or its token is spaced as it has to be there.
+/// Returns whether the step enters a group with delimiters, or comes to a token that is well spaced.
 fn step_fits(step: Step<'_>) -> bool
 {
     match step {
@@ -68,7 +68,7 @@ fn step_fits(step: Step<'_>) -> bool
     }
 }
 
-/// Whether the tree may come before these as it is, whatever is inside it.
+/// Returns whether the tree is well spaced before the trees `after`, without a look at its contents.
 fn tree_fits(tree: &TokenTree, after: &[TokenTree]) -> bool
 {
     match tree {
@@ -78,7 +78,7 @@ fn tree_fits(tree: &TokenTree, after: &[TokenTree]) -> bool
     }
 }
 
-/// Whether the mark may come before these trees with the spacing that it has.
+/// Returns whether the mark may come before these trees with its present spacing.
 fn mark_fits(mark: &Punct, after: &[TokenTree]) -> bool
 {
     match mark.spacing() {

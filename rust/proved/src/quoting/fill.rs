@@ -1,40 +1,42 @@
 // Made from crates/quoting/src/fill.rt by rust/erase: change that file, not this one.
-//! Templates whose holes are filled.
+//! Fills the holes of a template that is shared.
 //!
-//! Groups nest no deeper in a template than a limit, so that the functions may call themselves for them.
+//! The functions call themselves for groups. The stack is bounded, since templates with groups below a fixed depth are
+//! rejected.
 
-use crate::shim::prelude::TryClone;
+use crate::shim::prelude::{Grow, GrowList, TryClone};
 
 use crate::quoting::builder::StreamBuilder;
 use crate::quoting::errors::TemplateError;
 use crate::quoting::holes::Hole;
 use crate::quoting::interpolation::{FoundInterpolation, Repetition, interpolation_at};
+use crate::quoting::putting::put_name;
 use crate::quoting::respace::{regrouped, spaced};
 use crate::quoting::turns::{checked, turns_of};
 use crate::proc_macro2::{Group, Punct, Spacing, TokenStream, TokenTree};
 use crate::shim::alloc::AllocError;
 
-/// The trees with the holes filled, where groups may nest so deep. In a turn of a repetition the turn's stream of each
-/// list comes.
+/// Returns the template with its holes filled in these turns of repetitions, the outermost first. Groups may nest up
+/// to `depth` deep.
 pub(crate) fn filled(
     template: &TokenStream,
     holes: &[Hole<'_>],
-    turn: Option<usize>,
+    turns: &[usize],
     depth: usize,
 ) -> Result<TokenStream, TemplateError>
 {
     let trees = template.trees();
     let mut out = StreamBuilder::new();
-    fill_onto(&mut out, trees, holes, turn, depth)?;
+    fill_onto(&mut out, trees, holes, turns, depth)?;
     Ok(out.finish()?)
 }
 
-/// Puts the trees with the holes filled after those of the stream, as `filled` does.
+/// Adds the trees of the template to the stream, with their holes filled as `filled` does.
 fn fill_onto(
     out: &mut StreamBuilder,
     template: &[TokenTree],
     holes: &[Hole<'_>],
-    turn: Option<usize>,
+    turns: &[usize],
     depth: usize,
 ) -> Result<(), TemplateError>
 {
@@ -43,7 +45,7 @@ fn fill_onto(
         match interpolation_at(tree, after) {
             None => {
                 if let TokenTree::Group(group) = tree {
-                    let inside = filled_inside(group, holes, turn, depth)?;
+                    let inside = filled_inside(group, holes, turns, depth)?;
                     out.put(TokenTree::Group(regrouped(group, inside)), after.len())?;
                 } else {
                     out.put(apart_before(tree, after)?, after.len())?;
@@ -51,11 +53,11 @@ fn fill_onto(
                 left = after;
             }
             Some(FoundInterpolation::Names(name, rest)) => {
-                out.append(name.put_in(holes, turn)?, rest.len())?;
+                put_name(out, &name, holes, turns, rest.len())?;
                 left = rest;
             }
             Some(FoundInterpolation::Repeats(repetition, rest)) => {
-                repeat_onto(out, &repetition, holes, turn, depth)?;
+                repeat_onto(out, &repetition, holes, turns, depth)?;
                 left = rest;
             }
         }
@@ -63,7 +65,7 @@ fn fill_onto(
     Ok(())
 }
 
-/// A copy of the tree before these, a mark Alone where what comes first there has a meaning.
+/// Returns a copy of the tree. A mark is Alone in the copy if a hole or a repetition begins right after it.
 fn apart_before(tree: &TokenTree, after: &[TokenTree]) -> Result<TokenTree, AllocError>
 {
     match tree {
@@ -75,7 +77,7 @@ fn apart_before(tree: &TokenTree, after: &[TokenTree]) -> Result<TokenTree, Allo
     }
 }
 
-/// Whether what comes first has a meaning.
+/// Returns whether the trees begin with a hole or a repetition.
 pub(crate) fn has_meaning(trees: &[TokenTree]) -> bool
 {
     match trees.split_first() {
@@ -84,11 +86,11 @@ pub(crate) fn has_meaning(trees: &[TokenTree]) -> bool
     }
 }
 
-/// The trees of the group with the holes filled, where it stands inside of such trees.
+/// Returns the contents of the group with their holes filled. Groups may nest up to `depth` deep, this group included.
 fn filled_inside(
     group: &Group,
     holes: &[Hole<'_>],
-    turn: Option<usize>,
+    turns: &[usize],
     depth: usize,
 ) -> Result<TokenStream, TemplateError>
 {
@@ -96,14 +98,14 @@ fn filled_inside(
         return Err(TemplateError::TooDeep(group.span()));
     };
     let template = group.stream_ref();
-    // Where nothing is to be filled the trees are shared.
+    // If there is nothing to fill, the trees are shared.
     if are_fixed(template.trees()) {
         return Ok(template.try_clone()?);
     }
-    filled(template, holes, turn, inner)
+    filled(template, holes, turns, inner)
 }
 
-/// Whether the trees are neither groups nor `#`, and so come out as they are.
+/// Returns whether no tree is a group or a `#`, so that filling changes nothing.
 pub(crate) fn are_fixed(trees: &[TokenTree]) -> bool
 {
     for tree in trees {
@@ -114,7 +116,7 @@ pub(crate) fn are_fixed(trees: &[TokenTree]) -> bool
     true
 }
 
-/// Whether the tree is neither a group nor a `#`.
+/// Returns whether the tree is neither a group nor a `#`.
 fn is_fixed(tree: &TokenTree) -> bool
 {
     match tree {
@@ -124,36 +126,61 @@ fn is_fixed(tree: &TokenTree) -> bool
     }
 }
 
-/// Puts the turns of a repetition after the trees of the stream, with the separator between them. That it names no list
-/// comes before what is wrong inside.
+/// Adds the turns of a repetition to the stream, with the separator between them. The error `NoList` comes before any
+/// error inside the repetition.
 pub(crate) fn repeat_onto(
     out: &mut StreamBuilder,
     repetition: &Repetition<'_>,
     holes: &[Hole<'_>],
-    turn: Option<usize>,
+    turns: &[usize],
     depth: usize,
 ) -> Result<(), TemplateError>
 {
     let body = repetition.body;
-    if turn.is_some() {
-        return Err(TemplateError::Nested(body.span()));
-    }
     let Some(inner) = depth.checked_sub(1) else {
         return Err(TemplateError::TooDeep(body.span()));
     };
     let trees = body.stream_ref().trees();
-    let Some(turns) = turns_of(trees, holes)? else {
+    let Some(count) = turns_of(trees, holes, turns)? else {
         return Err(TemplateError::NoList(body.span()));
     };
-    checked(trees, holes, inner, turns)?;
-    for turn in 0..turns {
+    checked(trees, holes, turns, inner, count)?;
+    for turn in 0..count {
         separate(out, repetition.separator, turn, trees.len())?;
-        fill_onto(out, trees, holes, Some(turn), inner)?;
+        fill_turn(out, trees, holes, turns, turn, inner)?;
     }
     Ok(())
 }
 
-/// Puts the separator at the end, Alone, before a turn that is not the first. So many more trees are expected.
+/// Adds the trees of one turn of a repetition to the stream, with their holes filled. `turns` are those of the
+/// repetitions around it.
+fn fill_turn(
+    out: &mut StreamBuilder,
+    template: &[TokenTree],
+    holes: &[Hole<'_>],
+    turns: &[usize],
+    turn: usize,
+    depth: usize,
+) -> Result<(), TemplateError>
+{
+    // Most repetitions are not inside another one. They need no list of turns.
+    if turns.is_empty() {
+        return fill_onto(out, template, holes, &[turn], depth);
+    }
+    let here = and_turn(turns, turn)?;
+    fill_onto(out, template, holes, here.as_slice(), depth)
+}
+
+/// Returns the turns of the outer repetitions, followed by this turn.
+fn and_turn(turns: &[usize], turn: usize) -> Result<Vec<usize>, AllocError>
+{
+    let mut list = Vec::with_capacity_fallibly(turns.len().saturating_add(1))?;
+    list.extend_from_slice_fallibly(turns)?;
+    list.push_fallibly(turn)?;
+    Ok(list)
+}
+
+/// Adds the separator, Alone, before every turn but the first. About `more` trees are expected after it.
 fn separate(
     out: &mut StreamBuilder,
     separator: Option<&Punct>,

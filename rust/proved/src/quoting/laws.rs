@@ -1,7 +1,7 @@
 // Made from crates/quoting/src/laws.rt by rust/erase: change that file, not this one.
-//! What is proved of the definitions that the contracts cite. The function computes nothing.
+//! Laws of the definitions that the contracts cite. Their functions compute nothing.
 
-/// A respaced stream is well spaced, unless it has a `first-fault`: then no choice of spacings makes it well spaced.
+/// States that a respaced stream is well spaced unless it has a `first-fault`.
 ///
 /// Respacing changes spacings only. A mark keeps its spacing if some well spaced choice of spacings keeps it, so a
 /// stream that is well spaced is unchanged. A stream has a `first-fault` exactly if no choice of spacings is well

@@ -1,19 +1,21 @@
 // Made from crates/quoting/src/owned.rt by rust/erase: change that file, not this one.
-//! Templates that belong to no one else: their lists are filled where they stand.
+//! Fills the holes of a template that nobody else uses, and reuses its lists.
 //!
-//! Groups nest no deeper in a template than a limit, so that the functions may call themselves for them.
+//! The functions call themselves for groups. The stack is bounded, since templates with groups below a fixed depth are
+//! rejected.
 
 use crate::quoting::builder::StreamBuilder;
 use crate::quoting::errors::TemplateError;
 use crate::quoting::fill::{are_fixed, has_meaning, repeat_onto};
 use crate::quoting::holes::Hole;
 use crate::quoting::interpolation::{FoundInterpolation, interpolation_at};
+use crate::quoting::putting::put_name;
 use crate::quoting::respace::spaced;
 use crate::pm_stream::parts;
 use crate::proc_macro2::{Group, Spacing, TokenStream, TokenTree};
 
-/// The trees with the holes filled, where groups may nest so deep, as `filled` gives them outside of repetitions. What
-/// stands before the first hole stays where it is.
+/// Returns the template with its holes filled, as `filled` does outside of repetitions. The trees before the first hole
+/// keep their list. Groups may nest up to `depth` deep.
 pub(crate) fn filled_in_place(
     template: TokenStream,
     holes: &[Hole<'_>],
@@ -40,7 +42,7 @@ pub(crate) fn filled_in_place(
     Ok(out.finish()?)
 }
 
-/// Puts the trees with the holes filled after those of the stream.
+/// Adds the trees of `rest` to the stream, with their holes filled.
 fn fill_rest(
     out: &mut StreamBuilder,
     rest: Vec<TokenTree>,
@@ -61,12 +63,12 @@ fn fill_rest(
             }
             Some(FoundInterpolation::Names(name, left)) => {
                 let more = left.len();
-                out.append(name.put_in(holes, None)?, more)?;
+                put_name(out, &name, holes, &[], more)?;
                 done = list.len() - more;
             }
             Some(FoundInterpolation::Repeats(repetition, left)) => {
                 let more = left.len();
-                repeat_onto(out, &repetition, holes, None, depth)?;
+                repeat_onto(out, &repetition, holes, &[], depth)?;
                 done = list.len() - more;
             }
         }
@@ -74,7 +76,8 @@ fn fill_rest(
     Ok(())
 }
 
-/// Makes the tree, which begins nothing, what comes out in its place.
+/// Changes the tree, which begins neither a hole nor a repetition, into the tree of the result. It also proves that the
+/// new tree can be part of a stream.
 #[cfg_attr(not(debug_assertions), inline(always))]
 fn settle(
     tree: &mut TokenTree,
@@ -89,7 +92,7 @@ fn settle(
     Ok(())
 }
 
-/// Fills the group inside, or sets the mark Alone.
+/// Fills the contents of a group, or sets a mark Alone if `apart` is true.
 #[cfg_attr(not(debug_assertions), inline(always))]
 fn change(
     tree: &mut TokenTree,
@@ -110,7 +113,7 @@ fn change(
     }
 }
 
-/// Fills the group inside.
+/// Fills the contents of the group.
 fn fill_group(
     group: &mut Group,
     holes: &[Hole<'_>],
@@ -120,7 +123,7 @@ fn fill_group(
     let Some(inner) = depth.checked_sub(1) else {
         return Err(TemplateError::TooDeep(group.span()));
     };
-    // Where nothing is to be filled the trees stay.
+    // If there is nothing to fill, the trees stay in their list.
     if are_fixed(group.stream_ref().trees()) {
         return Ok(());
     }
@@ -129,7 +132,7 @@ fn fill_group(
     Ok(())
 }
 
-/// Whether the tree is a mark that comes out Alone before these trees.
+/// Returns whether the tree is a mark right before a hole or a repetition, which makes it Alone.
 #[cfg_attr(not(debug_assertions), inline(always))]
 fn comes_apart(tree: &TokenTree, after: &[TokenTree]) -> bool
 {

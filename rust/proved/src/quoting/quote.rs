@@ -1,5 +1,5 @@
 // Made from crates/quoting/src/quote.rt by rust/erase: change that file, not this one.
-//! The builder.
+//! The type `Quote`, which builds a stream.
 
 use crate::shim::prelude::TryClone;
 
@@ -10,13 +10,13 @@ use crate::quoting::respace::respaced;
 use crate::proc_macro2::{TokenStream, TokenTree};
 use crate::shim::alloc::AllocError;
 
-/// Trees that are to become a stream. It is seen as the trees that were pushed, in order.
+/// A builder that collects trees and makes a stream of them. Contracts see it as the trees that were pushed, in order.
 pub struct Quote {
     pushed: TokenStream,
 }
 
 impl Quote {
-    /// A quote to which nothing was pushed. It takes no memory.
+    /// Returns a quote without trees. It allocates nothing.
     ///
     /// # Contract
     ///
@@ -30,10 +30,11 @@ impl Quote {
         }
     }
 
-    /// Puts the tree after the others, by the rule `split`. Fails where memory runs out; then nothing is changed, and
-    /// the tree is dropped.
+    /// Adds the tree at the end; a negative literal becomes two trees (rule `split`).
     ///
-    /// The literal `-3i32` is put in as two trees, the mark `-` Alone and the literal `3i32`.
+    /// Fails if memory runs out. Then the quote is unchanged, and the tree is dropped.
+    ///
+    /// The literal `-3i32` is added as the mark `-`, Alone, and the literal `3i32`.
     ///
     /// # Contract
     ///
@@ -49,7 +50,9 @@ impl Quote {
         self.pushed.extend_trees([tree])
     }
 
-    /// Puts the trees of the stream after the others. Fails where memory runs out; then nothing is changed.
+    /// Adds the trees of the stream at the end.
+    ///
+    /// Fails if memory runs out. Then the quote is unchanged.
     ///
     /// # Contract
     ///
@@ -64,12 +67,13 @@ impl Quote {
         self.pushed.extend_streams([stream])
     }
 
-    /// The stream of exactly what was pushed: groups without delimiters stay, and so do all spacings and spans.
+    /// Returns the stream of exactly the trees that were pushed.
     ///
-    /// It takes no memory. It is the answer of a macro, which the compiler reads as trees, and need not come back from
-    /// its printed text; use `finish` for that.
+    /// Groups without delimiters, spacings and spans are kept. The call allocates nothing. Use it for the result of a
+    /// macro, which the compiler reads as trees. The stream need not read back from its printed text; use `finish` if
+    /// it must.
     ///
-    /// Of `+` Joint and the identifier `a` it is `+` Joint and `a`.
+    /// For `+` Joint and the identifier `a`, the result is `+` Joint and `a`.
     ///
     /// # Contract
     ///
@@ -80,15 +84,17 @@ impl Quote {
         pushed
     }
 
-    /// The stream of what was pushed, its marks respaced (`respaced`): each `'` is Joint, and each other mark keeps its
-    /// spacing where `well-spaced` allows it and is Alone where not. The quote stays as it was.
+    /// Returns what was pushed as a stream that reads back from its printed text.
     ///
-    /// The stream is well spaced, so it comes back from its printed text. `NoneGroup` and `LoneQuote` tell the first
-    /// fault in reading order, a group coming before its contents, and then no choice of spacings makes what was
-    /// pushed well spaced. `Memory` tells that memory ran out. It takes time in proportion to the number of trees, and
-    /// no list of trees is copied that needs no change.
+    /// Marks are respaced (rule `respaced`). Each `'` is Joint. Any other mark keeps its spacing if `well-spaced`
+    /// allows it, and is Alone otherwise. The quote is unchanged. The call takes time in proportion to the number of
+    /// trees, and copies no list that needs no change.
     ///
-    /// Of `+` Joint and the identifier `a`, which would print `+a` and come back as `+` Alone, it is `+` Alone and `a`.
+    /// Fails with `NoneGroup` or `LoneQuote` at the first such error in reading order, where a group comes before its
+    /// contents. Then no choice of spacings makes what was pushed well spaced. Fails with `Memory` if memory runs out.
+    ///
+    /// `+` Joint before the identifier `a` would print as `+a` and read back as `+` Alone. So the result is `+` Alone
+    /// and `a`.
     ///
     /// # Contract
     ///
@@ -111,12 +117,12 @@ impl Quote {
     /// [HopelessIfNamed]: crate::contracts#quoting.Choice.HopelessIfNamed
     pub fn finish(&self) -> Result<TokenStream, QuoteError>
 
-        // A mark keeps its spacing wherever it may, and so what was well spaced comes out unchanged.
+        // A mark keeps its spacing wherever it may. So a stream that was well spaced is unchanged.
 
-        // A named fault is the first, and no choice of spacings is well spaced.
+        // An error other than `Memory` is the first one. Then no choice of spacings is well spaced.
     {
         laws::respacing();
-        // What is well spaced comes out unchanged, so its trees are shared.
+        // A well spaced stream does not change, so its trees are shared.
         if are_well_spaced(self.pushed.trees())? {
             return Ok(self.pushed.try_clone()?);
         }

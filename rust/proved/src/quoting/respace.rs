@@ -1,8 +1,8 @@
 // Made from crates/quoting/src/respace.rt by rust/erase: change that file, not this one.
-//! The same trees with their marks spaced so that the printed text can be read back.
+//! Changes the spacings of a stream's marks so that its printed text reads back.
 //!
-//! Groups may nest as deep as memory reaches, so the lists that groups stand in are kept in a list and not on the
-//! stack. A list in which nothing changes is not copied: it stays shared with the stream that it comes from.
+//! Groups may nest as deep as memory allows. So the lists of open groups are kept in a list and not on the stack. A
+//! list in which nothing changes is not copied. It stays shared with the stream that it comes from.
 
 use crate::shim::prelude::{Grow, TryClone};
 
@@ -10,7 +10,7 @@ use crate::proc_macro2::token_stream::may_be_joint;
 use crate::proc_macro2::{Group, Punct, Spacing, TokenStream, TokenTree, laws};
 use crate::shim::alloc::AllocError;
 
-/// The stream with its marks respaced, at any depth. Fails where memory runs out.
+/// Returns the stream with its marks respaced at any depth. Fails if memory runs out.
 pub(crate) fn respaced(stream: &TokenStream) -> Result<TokenStream, AllocError>
 {
     let mut outer: Vec<RespacedList<'_>> = Vec::new();
@@ -33,19 +33,19 @@ pub(crate) fn respaced(stream: &TokenStream) -> Result<TokenStream, AllocError>
     }
 }
 
-/// The trees of one list, of which the first are respaced.
+/// One list of trees, of which the first `done` trees are respaced.
 struct RespacedList<'a> {
-    // The list as it was.
+    // The list without changes.
     stream: &'a TokenStream,
     trees: &'a [TokenTree],
-    // How many of its trees are done.
+    // The number of trees that are respaced.
     done: usize,
-    // These, if one of them was changed.
+    // The respaced trees, if one of them was changed.
     changed: Option<TokenStream>,
 }
 
 impl<'a> RespacedList<'a> {
-    /// A list of which nothing is done.
+    /// Returns the list of the stream, of which no tree is respaced.
     fn new(stream: &'a TokenStream) -> RespacedList<'a>
     {
         RespacedList {
@@ -56,13 +56,13 @@ impl<'a> RespacedList<'a> {
         }
     }
 
-    /// The first tree that is left, and those after it.
+    /// Returns the first tree that is left, and the trees after it.
     fn next(&self) -> Option<(&'a TokenTree, &'a [TokenTree])>
     {
         self.trees[self.done..].split_first()
     }
 
-    /// Respaces the first tree that is left, which is no group.
+    /// Respaces the first tree that is left. It must not be a group.
     fn step(
         &mut self,
         tree: &TokenTree,
@@ -78,7 +78,8 @@ impl<'a> RespacedList<'a> {
         self.keep(tree)
     }
 
-    /// Puts the group of this list, all of which is done, in the place of the group that the list comes from.
+    /// Replaces the first tree that is left by the same group with the respaced list `inner`. It must be the group that
+    /// `inner` comes from, and all of `inner` must be respaced.
     fn close(&mut self, inner: RespacedList<'_>) -> Result<(), AllocError>
     {
         let Some((tree, _)) = self.next() else {
@@ -94,7 +95,7 @@ impl<'a> RespacedList<'a> {
         }
     }
 
-    /// Keeps the first tree that is left as it is.
+    /// Keeps the first tree that is left without a change.
     fn keep(&mut self, tree: &TokenTree) -> Result<(), AllocError>
     {
         if let Some(changed) = &mut self.changed {
@@ -104,7 +105,7 @@ impl<'a> RespacedList<'a> {
         Ok(())
     }
 
-    /// Puts this tree in the place of the first one that is left. What was done is copied at the first such call.
+    /// Replaces the first tree that is left. The first call copies the trees that are done.
     fn replace(&mut self, tree: TokenTree) -> Result<(), AllocError>
     {
         let mut changed = match self.changed.take() {
@@ -117,7 +118,7 @@ impl<'a> RespacedList<'a> {
         Ok(())
     }
 
-    /// The list, all of which is done.
+    /// Returns the respaced list. All of its trees must be done.
     fn finish(self) -> Result<TokenStream, AllocError>
     {
         let RespacedList {
@@ -132,7 +133,7 @@ impl<'a> RespacedList<'a> {
     }
 }
 
-/// The stream of copies of these trees. Groups share what is inside them.
+/// Returns a stream of copies of the trees. A copy of a group shares its contents.
 fn copied(trees: &[TokenTree]) -> Result<TokenStream, AllocError>
 {
     let mut stream = TokenStream::new();
@@ -142,14 +143,14 @@ fn copied(trees: &[TokenTree]) -> Result<TokenStream, AllocError>
     Ok(stream)
 }
 
-/// Puts a tree of a stream at the end of another.
+/// Adds the tree at the end of the stream.
 fn put(stream: &mut TokenStream, tree: TokenTree) -> Result<(), AllocError>
 {
     laws::trees_stand_whole();
     stream.extend_trees([tree])
 }
 
-/// How the mark is spaced before these trees: `'` is Joint, any other mark Joint where it was and may be.
+/// Returns the spacing of the mark before these trees. A `'` is Joint. Any other mark is Joint if it was and may be.
 fn kept_spacing(mark: &Punct, after: &[TokenTree]) -> Spacing
 {
     let c = mark.as_char();
@@ -160,7 +161,7 @@ fn kept_spacing(mark: &Punct, after: &[TokenTree]) -> Spacing
     }
 }
 
-/// The same mark with this spacing.
+/// Returns the mark with this spacing and the same span.
 pub(crate) fn spaced(mark: &Punct, spacing: Spacing) -> Punct
 {
     let span = mark.span();
@@ -169,7 +170,7 @@ pub(crate) fn spaced(mark: &Punct, spacing: Spacing) -> Punct
     spaced
 }
 
-/// The same group with these trees.
+/// Returns the group with these contents, and with the same delimiters and span.
 pub(crate) fn regrouped(group: &Group, stream: TokenStream) -> Group
 {
     let mut regrouped = Group::new(group.delimiter(), stream);

@@ -1,5 +1,5 @@
 // Made from crates/quoting_tests/src/lib.rt by rust/erase: change that file, not this one.
-//! Tests of quotes: what is printed of each kind of trees, with the uses of the README, templates, and trees at random.
+//! Tests of quotes: printed texts of each kind of tree, the examples of the README, templates, and random trees.
 
 #[cfg(test)]
 mod random_trees;
@@ -9,3 +9,5 @@ mod rows;
 mod templates;
 #[cfg(test)]
 mod trees;
+#[cfg(test)]
+mod values;

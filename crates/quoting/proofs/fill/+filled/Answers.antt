@@ -6,74 +6,74 @@ use Rattle.proc_macro2.specs.Trees.{forest}
 use Rattle.std.proofs.lemmas.Result.{err_from_is_err_and}
 use Rattle.quoting.proofs.TurnLemmas.{all_turns, checked_fault, turn_fault, turn_more, turn_of, turns_begun}
 use Rattle.quoting.proofs.TurnLemmas.{turns_ended}
-use Rattle.quoting.proofs.FillLemmas.{IsUpTo, copy_inside, ended, follows_fault, followed_by, found_onto, found_step}
-use Rattle.quoting.proofs.FillLemmas.{gives_name, group_step, token_step, unless_weaker}
+use Rattle.quoting.proofs.FillLemmas.{IsUpTo, copy_inside, ended, follows_fault, followed_by, found_onto}
+use Rattle.quoting.proofs.FillLemmas.{group_step, token_step, unless_weaker}
 use Rattle.quoting.proofs.FixedLemmas.{inside_stays}
 use Rattle.quoting.proofs.fill.+filled.Goals as goal
 
 pub repeat_onto-loop-turn-init : goal.repeat_onto-loop-turn-init
 repeat_onto-loop-turn-init t c =
-    turns_begun (turn_of c.args.holes.now c.in-Some.inner (forest c.trees-trees.result.now))
-    (separator_of c.args.repetition.now.separator) c.args.out.now c.in-Some-2.turns
+    turns_begun (turn_of c.args.holes.now c.args.turns.now c.in-Some.inner (forest c.trees-trees.result.now))
+    (separator_of c.args.repetition.now.separator) c.args.out.now c.in-Some-2.count
 
 pub repeat_onto-returns-in_err-checked-clause-fault : goal.repeat_onto-returns-in_err-checked-clause-fault
 repeat_onto-returns-in_err-checked-clause-fault t c =
     let p =
     err_from_is_err_and c.from_residual-in_err-checked.result c.from_residual-in_err-checked.ensures.1 in
-    rw (p.1, p.2) (checked_fault c.args.holes.now c.args.turn c.args.depth c.in-Some.inner c.in-Some-2.turns
+    rw (p.1, p.2) (checked_fault c.args.holes.now c.args.turns.now c.args.depth c.in-Some.inner c.in-Some-2.count
     c.args.repetition.now _ _
-    (search rules) (search rules)
-    (c.trees-trees.ensures.value ∙ c.stream_ref.ensures.value) (sym c.in_ok-turns.ensures ∙ c.in-Some-2.is)
+    c.requires (search rules)
+    (c.trees-trees.ensures.value ∙ c.stream_ref.ensures.value) (sym c.in_ok-count.ensures ∙ c.in-Some-2.is)
     (sym c.in_err-checked.ensures))
 
-pub repeat_onto-returns-in_err-fill_onto-clause-fault : goal.repeat_onto-returns-in_err-fill_onto-clause-fault
-repeat_onto-returns-in_err-fill_onto-clause-fault t c =
-    let p = err_from_is_err_and c.from_residual-in_err-fill_onto.result c.from_residual-in_err-fill_onto.ensures.1 in
+pub repeat_onto-returns-in_err-fill_turn-clause-fault : goal.repeat_onto-returns-in_err-fill_turn-clause-fault
+repeat_onto-returns-in_err-fill_turn-clause-fault t c =
+    let p = err_from_is_err_and c.from_residual-in_err-fill_turn.result c.from_residual-in_err-fill_turn.ensures.1 in
     let between = separator_of c.args.repetition.now.separator in
     let inner = c.in-Some.inner in
-    let given = turn_of c.args.holes.now inner (forest c.trees-trees.result.now) in
-    let turns = turns_from given between 0 c.in-Some-2.turns in
+    let given = turn_of c.args.holes.now c.args.turns.now inner (forest c.trees-trees.result.now) in
+    let turns = turns_from given between 0 c.in-Some-2.count in
     let body : forest c.trees-trees.result.now ≡ c.args.repetition.now.body.now.stream =
     c.trees-trees.ensures.value ∙ c.stream_ref.ensures.value in
-    rw (p.1, p.2) (unless_weaker c.in_err-fill_onto.field-0.0 _ _
+    rw (p.1, p.2) (unless_weaker c.in_err-fill_turn.field-0.0 _ _
     (λ h.
-    all_turns c.args.holes.now c.args.turn c.args.depth inner c.in-Some-2.turns c.args.repetition.now _
-    (search rules) (search rules) body (sym c.in_ok-turns.ensures ∙ c.in-Some-2.is) (sym c.in_ok-checked.ensures)
-    ∙ (ap (λ f. turns_from (turn_of c.args.holes.now inner f) between 0 c.in-Some-2.turns) (sym body)
+    all_turns c.args.holes.now c.args.turns.now c.args.depth inner c.in-Some-2.count c.args.repetition.now _
+    c.requires (search rules) body (sym c.in_ok-count.ensures ∙ c.in-Some-2.is) (sym c.in_ok-checked.ensures)
+    ∙ (ap (λ f. turns_from (turn_of c.args.holes.now c.args.turns.now inner f) between 0 c.in-Some-2.count) (sym body)
     ∙ follows_fault c.args.out.now turns _
     (turn_fault given between (followed (Ok c.args.out.now) turns) c.loop-turn.out _ c.loop-turn.turn
-    c.in-Some-2.turns c.loop-turn.invariant c.loop-turn-test.true h)))
-    c.in_err-fill_onto.ensures.fault)
+    c.in-Some-2.count c.loop-turn.invariant c.loop-turn-test.true h)))
+    c.in_err-fill_turn.ensures.fault)
 
 pub repeat_onto-loop-turn-preserved : goal.repeat_onto-loop-turn-preserved
 repeat_onto-loop-turn-preserved t c =
     let between = separator_of c.args.repetition.now.separator in
-    let given = turn_of c.args.holes.now c.in-Some.inner (forest c.trees-trees.result.now) in
-    let turns = turns_from given between 0 c.in-Some-2.turns in
-    let p = followed_by _ _ (given c.loop-turn.turn) c.in_ok-fill_onto.ensures.ok in
+    let given = turn_of c.args.holes.now c.args.turns.now c.in-Some.inner (forest c.trees-trees.result.now) in
+    let turns = turns_from given between 0 c.in-Some-2.count in
+    let p = followed_by _ _ (given c.loop-turn.turn) c.in_ok-fill_turn.ensures.ok in
     turn_more given between (followed (Ok c.args.out.now) turns) c.loop-turn.out _ p.0 c.loop-turn.turn
-    c.in-Some-2.turns c.loop-turn.invariant c.loop-turn-test.true p.1
+    c.in-Some-2.count c.loop-turn.invariant c.loop-turn-test.true p.1
     (p.2 ∙ ap (λ f. joined f p.0) c.in_ok-separate.ensures)
 
 pub repeat_onto-returns-clause-ok : goal.repeat_onto-returns-clause-ok
 repeat_onto-returns-clause-ok t c =
     let between = separator_of c.args.repetition.now.separator in
     let inner = c.in-Some.inner in
-    let given = turn_of c.args.holes.now inner (forest c.trees-trees.result.now) in
-    let turns = turns_from given between 0 c.in-Some-2.turns in
+    let given = turn_of c.args.holes.now c.args.turns.now inner (forest c.trees-trees.result.now) in
+    let turns = turns_from given between 0 c.in-Some-2.count in
     let body : forest c.trees-trees.result.now ≡ c.args.repetition.now.body.now.stream =
     c.trees-trees.ensures.value ∙ c.stream_ref.ensures.value in
     ap (followed (Ok c.args.out.now))
-    (all_turns c.args.holes.now c.args.turn c.args.depth inner c.in-Some-2.turns c.args.repetition.now _
-    (search rules) (search rules) body (sym c.in_ok-turns.ensures ∙ c.in-Some-2.is) (sym c.in_ok-checked.ensures)
-    ∙ ap (λ f. turns_from (turn_of c.args.holes.now inner f) between 0 c.in-Some-2.turns) (sym body))
+    (all_turns c.args.holes.now c.args.turns.now c.args.depth inner c.in-Some-2.count c.args.repetition.now _
+    c.requires (search rules) body (sym c.in_ok-count.ensures ∙ c.in-Some-2.is) (sym c.in_ok-checked.ensures)
+    ∙ ap (λ f. turns_from (turn_of c.args.holes.now c.args.turns.now inner f) between 0 c.in-Some-2.count) (sym body))
     ∙ turns_ended given between (followed (Ok c.args.out.now) turns) c.loop-turn.out c.loop-turn.turn
-    c.in-Some-2.turns
+    c.in-Some-2.count
     c.loop-turn.invariant (omega (arith, c.loop-turn-test.false, c.loop-turn.auto.turn-end))
 
 pub fill_onto-loop-tree-preserved-in_ok-put-in-None : goal.fill_onto-loop-tree-preserved-in_ok-put-in-None
 fill_onto-loop-tree-preserved-in_ok-put-in-None t c =
-    group_step (gives c.args.holes.now c.args.turn) c.args.depth c.args.out.now (forest c.args.template.now) _ _ _
+    group_step (gives c.args.holes.now c.args.turns.now) c.args.depth c.args.out.now (forest c.args.template.now) _ _ _
     c.in-Some.tree.now
     c.in-Group.group _ _ c.in-Some.after.now
     c.loop-tree.invariant c.in-Some.ensures.cases.0 c.in-Group.is c.in_ok-inside-in-None.ensures.ok
@@ -81,7 +81,7 @@ fill_onto-loop-tree-preserved-in_ok-put-in-None t c =
 
 pub fill_onto-loop-tree-preserved-in_ok-put-in-None-2 : goal.fill_onto-loop-tree-preserved-in_ok-put-in-None-2
 fill_onto-loop-tree-preserved-in_ok-put-in-None-2 t c =
-    token_step (gives c.args.holes.now c.args.turn) c.args.depth c.args.out.now (forest c.args.template.now) _ _
+    token_step (gives c.args.holes.now c.args.turns.now) c.args.depth c.args.out.now (forest c.args.template.now) _ _
     c.in-Some.tree.now _ _
     c.in-Some.after.now
     c.loop-tree.invariant c.in-Some.ensures.cases.0 c.in_default-tree.not-Group c.in-None.ensures.found
@@ -90,48 +90,48 @@ fill_onto-loop-tree-preserved-in_ok-put-in-None-2 t c =
 pub fill_onto-loop-tree-preserved-in-Some-Names : goal.fill_onto-loop-tree-preserved-in-Some-Names
 fill_onto-loop-tree-preserved-in-Some-Names t c =
     let found = c.in-Some-Names in
-    subst (IsUpTo (gives c.args.holes.now c.args.turn) c.args.depth c.args.out.now (forest c.args.template.now)
-    c.append.new.self) (search rules)
-    (found_step (gives c.args.holes.now c.args.turn) c.args.depth c.args.out.now (forest c.args.template.now) _ _ _
+    subst (IsUpTo (gives c.args.holes.now c.args.turns.now) c.args.depth c.args.out.now (forest c.args.template.now)
+    c.put_name.new.out) (search rules)
+    (found_onto (gives c.args.holes.now c.args.turns.now) c.args.depth c.args.out.now (forest c.args.template.now) _ _
     c.in-Some.tree.now
     (seen found.field-0) _ c.in-Some.after.now found.rest.now
     c.loop-tree.invariant c.in-Some.ensures.cases.0 found.ensures.found
     (ap rest_of (sym found.field-0-is) ∙ found.ensures.rest)
-    (ap (λ f. gives c.args.holes.now c.args.turn c.args.depth (seen f)) found.field-0-is
-    ∙ (gives_name c.args.holes.now c.args.turn c.args.depth found.name
-    ∙ (rw found.field-0-is at c.in_ok-put_in-in-Some-Names.ensures.ok)))
-    c.in_ok-append-in-Some-Names.ensures)
+    (ap (λ f. followed (Ok c.loop-tree.out) (gives c.args.holes.now c.args.turns.now c.args.depth (seen f)))
+    found.field-0-is
+    ∙ (rw found.field-0-is at c.in_ok-put_name-in-Some-Names.ensures.ok)))
 
 pub fill_onto-loop-tree-preserved : goal.fill_onto-loop-tree-preserved
 fill_onto-loop-tree-preserved t c =
     let found = c.in-Some-Repeats in
-    subst (IsUpTo (gives c.args.holes.now c.args.turn) c.args.depth c.args.out.now (forest c.args.template.now)
+    subst (IsUpTo (gives c.args.holes.now c.args.turns.now) c.args.depth c.args.out.now (forest c.args.template.now)
     c.repeat_onto.new.out) (search rules)
-    (found_onto (gives c.args.holes.now c.args.turn) c.args.depth c.args.out.now (forest c.args.template.now) _ _
+    (found_onto (gives c.args.holes.now c.args.turns.now) c.args.depth c.args.out.now (forest c.args.template.now) _ _
     c.in-Some.tree.now
     (seen found.field-0) _ c.in-Some.after.now found.rest.now
     c.loop-tree.invariant c.in-Some.ensures.cases.0 found.ensures.found
     (ap rest_of (sym found.field-0-is) ∙ found.ensures.rest)
-    (ap (λ f. followed (Ok c.loop-tree.out) (gives c.args.holes.now c.args.turn c.args.depth (seen f)))
+    (ap (λ f. followed (Ok c.loop-tree.out) (gives c.args.holes.now c.args.turns.now c.args.depth (seen f)))
     found.field-0-is
     ∙ (rw found.field-0-is at c.in_ok-repeat_onto-in-Some-Repeats.ensures.ok)))
 
 pub fill_onto-put-requires-in_default-tree : goal.fill_onto-put-requires-in_default-tree
 fill_onto-put-requires-in_default-tree t c =
-    copy_inside (gives c.args.holes.now c.args.turn) c.args.depth c.args.out.now (forest c.args.template.now) _
+    copy_inside (gives c.args.holes.now c.args.turns.now) c.args.depth c.args.out.now (forest c.args.template.now) _
     c.in-Some.tree.now _ _
     c.in-Some.after.now
     c.loop-tree.invariant c.in-Some.ensures.cases.0 c.in_ok-apart_before-in-None.ensures
 
 pub fill_onto-returns-clause-ok : goal.fill_onto-returns-clause-ok
 fill_onto-returns-clause-ok t c =
-    ended (gives c.args.holes.now c.args.turn) c.args.depth c.args.out.now (forest c.args.template.now) _
+    ended (gives c.args.holes.now c.args.turns.now) c.args.depth c.args.out.now (forest c.args.template.now) _
     c.loop-tree.left.now
     c.loop-tree.invariant c.in_default.ensures.cases
 
 pub filled_inside-returns-then-are_fixed-clause-ok : goal.filled_inside-returns-then-are_fixed-clause-ok
 filled_inside-returns-then-are_fixed-clause-ok t c =
     let stream = c.stream_ref-template.ensures.value in
-    inside_stays (gives c.args.holes.now c.args.turn) c.args.depth c.in-Some.inner c.args.group.now c.trees.result.now
+    inside_stays (gives c.args.holes.now c.args.turns.now) c.args.depth c.in-Some.inner c.args.group.now
+    c.trees.result.now
     c.in_ok-clone.field-0 (search rules) (c.trees.ensures.value ∙ stream)
     (sym c.are_fixed.ensures ∙ c.if-are_fixed.true) (c.in_ok-clone.ensures.cases ∙ stream)

@@ -1,10 +1,10 @@
-use Rattle.std.proofs.Common.{◌-◌, ◌∙◌, List, sym, ap, subst, refl, drop, length, None, Ok, arith, rules}
+use Rattle.std.proofs.Common.{◌-◌, ◌∙◌, List, sym, ap, subst, refl, drop, length, [], Ok, arith, rules}
 use Rattle.proc_macro2.specs.declared.TokenTree.{TokenTree}
 use Rattle.proc_macro2.specs.Forest.{IsBuilt, nil}
 use Rattle.proc_macro2.specs.Trees.{forest}
 use Rattle.quoting.specs.Filled.{followed, filled_by}
 use Rattle.quoting.specs.Given.{gives, rest_of, seen}
-use Rattle.quoting.proofs.FillLemmas.{ended, found_onto, found_step, gives_name}
+use Rattle.quoting.proofs.FillLemmas.{ended, found_onto}
 use Rattle.quoting.proofs.FixedLemmas.{inside_stays}
 use Rattle.quoting.proofs.InPlaceLemmas.{IsAt, all_done, all_left, begun, built_drop, goes_inside, passed, settled}
 use Rattle.quoting.proofs.InPlaceLemmas.{settled_in_place}
@@ -13,7 +13,7 @@ use Rattle.quoting.proofs.owned.+filled_in_place.Goals as goal
 pub fill_group-returns-then-are_fixed-clause-ok : goal.fill_group-returns-then-are_fixed-clause-ok
 fill_group-returns-then-are_fixed-clause-ok t c = (
   c.args.group.now.stream,
-  inside_stays (gives c.args.holes.now None) c.args.depth c.in-Some.inner c.args.group.now c.trees.result.now
+  inside_stays (gives c.args.holes.now []) c.args.depth c.in-Some.inner c.args.group.now c.trees.result.now
       c.args.group.now.stream (search rules) (c.trees.ensures.value ∙ c.stream_ref.ensures.value)
       (sym c.are_fixed.ensures ∙ c.if-are_fixed.true) refl,
   refl,
@@ -21,22 +21,25 @@ fill_group-returns-then-are_fixed-clause-ok t c = (
 
 pub fill_rest-loop-tree-init : goal.fill_rest-loop-tree-init
 fill_rest-loop-tree-init t c =
-    begun (gives c.args.holes.now None) c.args.depth c.args.out.now (forest c.args.rest.items) c.args.out.now
+    begun (gives c.args.holes.now []) c.args.depth c.args.out.now (forest c.args.rest.items) c.args.out.now
     c.args.rest.items (search rules) refl
 
 pub fill_rest-settle-requires : goal.fill_rest-settle-requires
 fill_rest-settle-requires t c = (
   omega (arith, c.decreases),
-  goes_inside (gives c.args.holes.now None) c.args.depth c.loop-tree.done c.args.out.now (forest c.args.rest.items)
-      c.loop-tree.out c.loop-tree.list.items c.in-Some.after.now c.in-Some.tree.now c.index_mut.result.now
-      c.loop-tree.invariant (all_left c.loop-tree.done c.deref.result.now c.loop-tree.list.items c.deref.ensures.value
-      ∙ c.in-Some.ensures.cases.0)
-      c.index_mut.ensures.value,
+  (
+    goes_inside (gives c.args.holes.now []) c.args.depth c.loop-tree.done c.args.out.now (forest c.args.rest.items)
+        c.loop-tree.out c.loop-tree.list.items c.in-Some.after.now c.in-Some.tree.now c.index_mut.result.now
+        c.loop-tree.invariant (all_left c.loop-tree.done c.deref.result.now c.loop-tree.list.items c.deref.ensures.value
+        ∙ c.in-Some.ensures.cases.0)
+        c.index_mut.ensures.value,
+    c.requires.few,
+  ),
 )
 
 pub fill_rest-loop-tree-preserved-in-None : goal.fill_rest-loop-tree-preserved-in-None
 fill_rest-loop-tree-preserved-in-None t c =
-    settled (gives c.args.holes.now None) c.args.depth c.loop-tree.done c.args.out.now (forest c.args.rest.items)
+    settled (gives c.args.holes.now []) c.args.depth c.loop-tree.done c.args.out.now (forest c.args.rest.items)
     c.loop-tree.out c.put_copy.new.self c.loop-tree.list.items c.in-Some.after.now c.comes_apart-apart.result
     c.in-Some.tree.now c.index_mut.result.now c.settle.new.tree
     c.loop-tree.invariant (all_left c.loop-tree.done c.deref.result.now c.loop-tree.list.items c.deref.ensures.value
@@ -47,29 +50,27 @@ fill_rest-loop-tree-preserved-in-None t c =
 pub fill_rest-loop-tree-preserved-in-Some-Names : goal.fill_rest-loop-tree-preserved-in-Some-Names
 fill_rest-loop-tree-preserved-in-Some-Names t c =
     let found = c.in-Some-Names in
-    let given = gives c.args.holes.now None in
+    let given = gives c.args.holes.now [] in
     let items = c.loop-tree.list.items in
     let whole = all_left c.loop-tree.done c.deref.result.now c.loop-tree.list.items c.deref.ensures.value
     ∙ c.in-Some.ensures.cases.0 in
     let drops = ap rest_of (sym found.field-0-is) ∙ found.ensures.rest in
     subst (λ (left : List TokenTree). IsAt given c.args.depth c.args.out.now (forest c.args.rest.items)
-    c.append.new.self (c.len.result - length left) items) (search rules)
-    (subst (λ n. IsAt given c.args.depth c.args.out.now (forest c.args.rest.items) c.append.new.self
+    c.put_name.new.out (c.len.result - length left) items) (search rules)
+    (subst (λ n. IsAt given c.args.depth c.args.out.now (forest c.args.rest.items) c.put_name.new.out
     (n - length found.left.now) items) (search rules)
     (passed given c.args.depth c.loop-tree.done _ c.args.out.now (forest c.args.rest.items) c.loop-tree.out
-    c.append.new.self items c.in-Some.after.now found.left.now c.in-Some.tree.now c.loop-tree.invariant whole drops
-    (found_step given c.args.depth c.args.out.now (forest c.args.rest.items) _ _ _ c.in-Some.tree.now
+    c.put_name.new.out items c.in-Some.after.now found.left.now c.in-Some.tree.now c.loop-tree.invariant whole drops
+    (found_onto given c.args.depth c.args.out.now (forest c.args.rest.items) _ _ c.in-Some.tree.now
     (seen found.field-0) _ c.in-Some.after.now found.left.now
     c.loop-tree.invariant.up_to whole found.ensures.found drops
-    (ap (λ f. gives c.args.holes.now None c.args.depth (seen f)) found.field-0-is
-    ∙ (gives_name c.args.holes.now None c.args.depth found.name
-    ∙ (rw found.field-0-is at c.in_ok-put_in-in-Some-Names.ensures.ok)))
-    c.in_ok-append-in-Some-Names.ensures)))
+    (ap (λ f. followed (Ok c.loop-tree.out) (gives c.args.holes.now [] c.args.depth (seen f))) found.field-0-is
+    ∙ (rw found.field-0-is at c.in_ok-put_name-in-Some-Names.ensures.ok)))))
 
 pub fill_rest-loop-tree-preserved : goal.fill_rest-loop-tree-preserved
 fill_rest-loop-tree-preserved t c =
     let found = c.in-Some-Repeats in
-    let given = gives c.args.holes.now None in
+    let given = gives c.args.holes.now [] in
     let items = c.loop-tree.list.items in
     let whole = all_left c.loop-tree.done c.deref.result.now c.loop-tree.list.items c.deref.ensures.value
     ∙ c.in-Some.ensures.cases.0 in
@@ -83,36 +84,39 @@ fill_rest-loop-tree-preserved t c =
     (found_onto given c.args.depth c.args.out.now (forest c.args.rest.items) _ _ c.in-Some.tree.now
     (seen found.field-0) _ c.in-Some.after.now found.left.now
     c.loop-tree.invariant.up_to whole found.ensures.found drops
-    (ap (λ f. followed (Ok c.loop-tree.out) (gives c.args.holes.now None c.args.depth (seen f))) found.field-0-is
+    (ap (λ f. followed (Ok c.loop-tree.out) (gives c.args.holes.now [] c.args.depth (seen f))) found.field-0-is
     ∙ (rw found.field-0-is at c.in_ok-repeat_onto-in-Some-Repeats.ensures.ok)))))
 
 pub fill_rest-returns-clause-ok : goal.fill_rest-returns-clause-ok
 fill_rest-returns-clause-ok t c =
-    ended (gives c.args.holes.now None) c.args.depth c.args.out.now (forest c.args.rest.items) c.loop-tree.out
+    ended (gives c.args.holes.now []) c.args.depth c.args.out.now (forest c.args.rest.items) c.loop-tree.out
     (drop c.loop-tree.done c.loop-tree.list.items) c.loop-tree.invariant.up_to
     (ap length (all_left c.loop-tree.done c.deref.result.now c.loop-tree.list.items c.deref.ensures.value)
     ∙ c.in_default.ensures.cases)
 
 pub filled_in_place-loop-tree-init : goal.filled_in_place-loop-tree-init
 filled_in_place-loop-tree-init t c =
-    begun (gives c.args.holes.now None) c.args.depth nil c.args.template nil c.in_ok-list.list.items
+    begun (gives c.args.holes.now []) c.args.depth nil c.args.template nil c.in_ok-list.list.items
     (subst IsBuilt (sym c.in_ok-list.ensures.value) c.in_ok-list.ensures.built)
-    (ap (λ f. followed (Ok nil) (filled_by (gives c.args.holes.now None) c.args.depth 0 f))
+    (ap (λ f. followed (Ok nil) (filled_by (gives c.args.holes.now []) c.args.depth 0 f))
     (sym c.in_ok-list.ensures.value))
 
 pub filled_in_place-settle-requires : goal.filled_in_place-settle-requires
 filled_in_place-settle-requires t c = (
   omega (arith, c.decreases),
-  goes_inside (gives c.args.holes.now None) c.args.depth c.loop-tree.done nil c.args.template _
-      c.loop-tree.list.items c.in-Some.after.now c.in-Some.tree.now c.index_mut.result.now
-      c.loop-tree.invariant (all_left c.loop-tree.done c.deref.result.now c.loop-tree.list.items c.deref.ensures.value
-      ∙ c.in-Some.ensures.cases.0)
-      c.index_mut.ensures.value,
+  (
+    goes_inside (gives c.args.holes.now []) c.args.depth c.loop-tree.done nil c.args.template _
+        c.loop-tree.list.items c.in-Some.after.now c.in-Some.tree.now c.index_mut.result.now
+        c.loop-tree.invariant (all_left c.loop-tree.done c.deref.result.now c.loop-tree.list.items c.deref.ensures.value
+        ∙ c.in-Some.ensures.cases.0)
+        c.index_mut.ensures.value,
+    c.requires,
+  ),
 )
 
 pub filled_in_place-loop-tree-preserved : goal.filled_in_place-loop-tree-preserved
 filled_in_place-loop-tree-preserved t c =
-    settled_in_place (gives c.args.holes.now None) c.args.depth c.loop-tree.done nil c.args.template
+    settled_in_place (gives c.args.holes.now []) c.args.depth c.loop-tree.done nil c.args.template
     c.loop-tree.list.items c.in-Some.after.now c.comes_apart-apart.result c.in-Some.tree.now c.index_mut.result.now
     c.settle.new.tree
     c.loop-tree.invariant (all_left c.loop-tree.done c.deref.result.now c.loop-tree.list.items c.deref.ensures.value
@@ -122,12 +126,15 @@ filled_in_place-loop-tree-preserved t c =
 
 pub filled_in_place-returns-then-done-len-clause-ok : goal.filled_in_place-returns-then-done-len-clause-ok
 filled_in_place-returns-then-done-len-clause-ok t c =
-    all_done (gives c.args.holes.now None) c.args.depth c.loop-tree.done c.args.template _ c.loop-tree.list.items
+    all_done (gives c.args.holes.now []) c.args.depth c.loop-tree.done c.args.template _ c.loop-tree.list.items
     c.loop-tree.invariant (search rules) (search rules)
 
 pub filled_in_place-fill_rest-requires : goal.filled_in_place-fill_rest-requires
 filled_in_place-fill_rest-requires t c = (
   omega (arith, c.decreases),
-  subst (λ ts. IsBuilt (forest ts)) (search rules)
-      (built_drop c.loop-tree.done c.loop-tree.list.items c.loop-tree.invariant.built),
+  (
+    subst (λ ts. IsBuilt (forest ts)) (search rules)
+        (built_drop c.loop-tree.done c.loop-tree.list.items c.loop-tree.invariant.built),
+    c.requires,
+  ),
 )

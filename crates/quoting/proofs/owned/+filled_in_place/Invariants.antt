@@ -1,4 +1,4 @@
-use Rattle.std.proofs.Common.{◌+◌, ◌*◌, ◌-◌, None, take, length}
+use Rattle.std.proofs.Common.{[], ◌+◌, ◌*◌, ◌-◌, take, length}
 use Rattle.proc_macro2.specs.Forest.{nil}
 use Rattle.proc_macro2.specs.Trees.{forest}
 use Rattle.quoting.specs.Given.{gives}
@@ -22,14 +22,14 @@ decreases-fill_group l = 5 * l.depth
 
 abbrev pub invariant-filled_in_place-loop-tree : goal.invariant-filled_in_place-loop-tree
 invariant-filled_in_place-loop-tree l =
-    IsAt (gives l.holes None) l.depth nil l.fn.template (forest (take l.done l.list.items)) l.done l.list.items
+    IsAt (gives l.holes []) l.depth nil l.fn.template (forest (take l.done l.list.items)) l.done l.list.items
 
 abbrev pub decreases-filled_in_place-loop-tree : goal.decreases-filled_in_place-loop-tree
 decreases-filled_in_place-loop-tree l = length l.list.items - l.done
 
 abbrev pub invariant-fill_rest-loop-tree : goal.invariant-fill_rest-loop-tree
 invariant-fill_rest-loop-tree l =
-    IsAt (gives l.holes None) l.depth l.fn.out (forest l.fn.rest.items) l.out l.done l.list.items
+    IsAt (gives l.holes []) l.depth l.fn.out (forest l.fn.rest.items) l.out l.done l.list.items
 
 abbrev pub decreases-fill_rest-loop-tree : goal.decreases-fill_rest-loop-tree
 decreases-fill_rest-loop-tree l = length l.list.items - l.done

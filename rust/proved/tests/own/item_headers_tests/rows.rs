@@ -2,7 +2,7 @@
 
 use crate::shim::prelude::{AllocGlobal, HostRuntime, format};
 
-// Items, and what is written for them, as it is printed. What is printed is read again.
+// Items, and the printed text of each call for them. The text is parsed again.
 use proved_tokens::declarations::{ItemKind, TypeItem, parse_item, parse_type_item, split_expression};
 use proved_tokens::item_headers::{
     HeaderError, impl_generics, impl_header, impl_header_where, turbofish, type_generics,
@@ -13,8 +13,8 @@ use crate::shim::alloc::AllocError;
 use crate::shim::process::Abort;
 use crate::shim::test::Fail;
 
-/// An item, and what is printed of it for the trait `Z<'b>`, the predicate `X: Y` and the bound `Z<'b>`. A header is
-/// the front and a where clause.
+/// An item, and the printed text of each call with the trait `Z<'b>`, the predicate `X: Y` and the bound `Z<'b>`. A
+/// header is `front` and a where clause.
 #[derive(Clone, Copy)]
 struct Row {
     item: &'static str,
@@ -59,7 +59,7 @@ const ROWS: &[Row] = &[
         bound: "where T : D , T : Z <'b > , U : Z <'b >",
         front: "impl < 'a , T : A < B >, const N : usize , U > Z <'b > for S < 'a , T , N , U >",
     },
-    // The where clause of a tuple struct stands after its fields.
+    // The where clause of a tuple struct is after its fields.
     Row {
         item: "pub struct W<T = u8, const B: bool = true>(pub T, [T; 2]) where T: Copy + 'static, [T; 2]:;",
         impl_generics: "< T , const B : bool >",
@@ -159,7 +159,7 @@ fn an_impl_has_the_parameters_of_its_type() -> Result<(), Fail> {
     Ok(())
 }
 
-/// Of an item with the parameters and the where clause that are written the same is written again.
+/// Asserts that the calls give the same trees for an item with the parameters and the where clause that were written.
 fn check_written_again(rt: &(impl Abort + AllocGlobal), row: Row) -> Result<(), Fail> {
     let text = format!("enum E {} {} {{}}", row.impl_generics, row.where_clause)?;
     let stream = TokenStream::from_str(&text, &mut SourceMap::new())?;
@@ -167,7 +167,7 @@ fn check_written_again(rt: &(impl Abort + AllocGlobal), row: Row) -> Result<(), 
     check_parts(rt, row, &item)
 }
 
-/// With braces a header is one `impl`.
+/// Asserts that a header with braces is one `impl`.
 fn check_impl(rt: &(impl Abort + AllocGlobal), row: Row, clause: &str) -> Result<(), Fail> {
     let header = header_text(row, clause)?;
     let text = format!("{header} {{}}")?;

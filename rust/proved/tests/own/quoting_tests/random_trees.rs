@@ -2,7 +2,7 @@
 
 use crate::shim::prelude::{HostRuntime, format, vec};
 
-// Short lists of random trees: a quote gives a stream exactly where some choice of spacings is well spaced. All
+// Short lists of random trees: `finish` returns a stream exactly if some choice of spacings is well spaced. All
 // choices are tried.
 
 use proved_tokens::proc_macro2::{
@@ -12,10 +12,10 @@ use proved_tokens::quoting::{Quote, QuoteError};
 use crate::shim::process::Abort;
 use crate::shim::test::Fail;
 
-/// How many lists are made.
+/// The number of lists.
 const LISTS: u32 = 600;
 
-/// Six leaves by their kinds, and what stands around two of them.
+/// The kinds of six leaves, and the delimiter of the group around two of them.
 #[derive(Clone, Copy, Debug)]
 struct Case {
     first: u64,
@@ -27,7 +27,7 @@ struct Case {
     delimiter: u64,
 }
 
-/// Which of six leaves are Joint, if they are marks.
+/// Whether each of the six leaves is Joint, if it is a mark.
 #[derive(Clone, Copy)]
 struct Choice {
     first: bool,
@@ -40,12 +40,12 @@ struct Choice {
 
 /// A source of random numbers.
 struct Random {
-    /// The last number, which isn't 0.
+    /// The last number, which is not 0.
     state: u64,
 }
 
 impl Random {
-    /// A number below the bound, which isn't 0.
+    /// Returns a number below the bound, which must not be 0.
     fn below(&mut self, bound: u64) -> u64
     {
         self.state ^= self.state << 13;
@@ -67,7 +67,7 @@ impl Random {
     }
 }
 
-/// The choice of this number below 64.
+/// Returns the choice with this number below 64.
 fn choice_of(number: u32) -> Choice {
     Choice {
         first: number & 1 != 0,
@@ -79,7 +79,7 @@ fn choice_of(number: u32) -> Choice {
     }
 }
 
-/// A leaf of this kind, Joint or Alone if it is a mark.
+/// Returns a leaf of this kind, Joint or Alone if it is a mark.
 fn leaf(kind: u64, joint: bool) -> Result<TokenTree, Fail> {
     let spacing = if joint {
         Spacing::Joint
@@ -100,7 +100,7 @@ fn leaf(kind: u64, joint: bool) -> Result<TokenTree, Fail> {
     })
 }
 
-/// The trees of the case, in this choice of spacings: three leaves, a group of two, and a leaf.
+/// Returns the trees of the case with this choice of spacings: three leaves, a group of two, and a leaf.
 fn trees(case: Case, joint: Choice) -> Result<Vec<TokenTree>, Fail> {
     let delimiter = match case.delimiter {
         0 => Delimiter::None,
@@ -120,7 +120,7 @@ fn trees(case: Case, joint: Choice) -> Result<Vec<TokenTree>, Fail> {
     ]?)
 }
 
-/// Whether some choice of spacings is well spaced.
+/// Returns whether some choice of spacings is well spaced.
 fn has_a_choice(case: Case) -> Result<bool, Fail> {
     for number in 0..64 {
         let trees = trees(case, choice_of(number))?;
@@ -131,7 +131,7 @@ fn has_a_choice(case: Case) -> Result<bool, Fail> {
     Ok(false)
 }
 
-/// The quote of the case in the choice of this number.
+/// Returns the quote of the case with the choice of this number.
 fn quoted(case: Case, number: u32) -> Result<Quote, Fail> {
     let mut quote = Quote::new();
     for tree in trees(case, choice_of(number))? {
@@ -140,7 +140,7 @@ fn quoted(case: Case, number: u32) -> Result<Quote, Fail> {
     Ok(quote)
 }
 
-/// Whether the printed text parses to the same tokens.
+/// Returns whether the printed text parses to the same tokens.
 fn comes_back(stream: &TokenStream) -> Result<bool, Fail> {
     let text = format!("{stream}")?;
     let back = TokenStream::from_str(text.as_str(), &mut SourceMap::new())?;
@@ -166,7 +166,7 @@ fn a_stream_is_given_exactly_where_some_choice_is_well_spaced() -> Result<(), Fa
             Err(_) => assert!(!may, "of {case:?}"),
         }
     }
-    // Both answers came.
+    // Both results occurred.
     assert!(given > 100 && given < 500, "{given}");
     Ok(())
 }

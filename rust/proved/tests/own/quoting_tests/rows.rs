@@ -2,7 +2,7 @@
 
 use crate::shim::prelude::{AllocGlobal, HostRuntime, format};
 
-// What comes out of trees of each kind. What is printed is parsed again and compared.
+// The printed text of each kind of tree. The text is parsed again and compared.
 use crate::quoting_tests::trees::{Inner, Leaf, Tree, quoted};
 use proved_tokens::proc_macro2::{
     Delimiter, Group, ParseError, Punct, SourceMap, Spacing, Span, TokenStream, TokenTree,
@@ -13,14 +13,14 @@ use crate::shim::fmt::{Debug, Display};
 use crate::shim::process::Abort;
 use crate::shim::test::Fail;
 
-/// Trees, and what the quote of them is printed as. The first ones are the uses that the README shows.
+/// Trees, and the printed text of their quote. The first ones are the examples of the README.
 const PRINTED: &[(&[Tree], &str)] = &[
     // A Joint mark before a name becomes Alone.
     (
         &[Tree::One(Leaf::Joint('&')), Tree::One(Leaf::Name("self"))],
         "& self",
     ),
-    // A lifetime holds together.
+    // A lifetime is printed without a space.
     (
         &[
             Tree::One(Leaf::Alone('&')),
@@ -30,7 +30,7 @@ const PRINTED: &[(&[Tree], &str)] = &[
         ],
         "& 'a str",
     ),
-    // A negative number is its sign and the rest.
+    // A negative number becomes its sign and the rest.
     (
         &[Tree::One(Leaf::Joint('=')), Tree::One(Leaf::Number(-3))],
         "=- 3i32",
@@ -50,7 +50,7 @@ const PRINTED: &[(&[Tree], &str)] = &[
         ],
         "'a + x",
     ),
-    // Marks begin no comment.
+    // Marks do not begin a comment.
     (
         &[
             Tree::One(Leaf::Joint('/')),
@@ -59,7 +59,7 @@ const PRINTED: &[(&[Tree], &str)] = &[
         ],
         "/ *=",
     ),
-    // Other marks than the last stay Joint, and marks stay before what they may touch.
+    // A mark stays Joint if the next token may touch it. The last mark becomes Alone.
     (
         &[Tree::One(Leaf::Joint(':')), Tree::One(Leaf::Joint(':'))],
         "::",
@@ -75,7 +75,8 @@ const PRINTED: &[(&[Tree], &str)] = &[
     (&[], ""),
 ];
 
-/// Trees for which no spacing serves, and whether the first fault is a `LoneQuote`. Else it is a `NoneGroup`.
+/// Trees for which no choice of spacings is well spaced, and whether the error is `LoneQuote`. Otherwise it is
+/// `NoneGroup`.
 const REFUSED: &[(&[Tree], bool)] = &[
     (&[Tree::One(Leaf::Joint('\''))], true),
     (
@@ -89,7 +90,7 @@ const REFUSED: &[(&[Tree], bool)] = &[
         &[Tree::Of(Delimiter::None, &[Inner::One(Leaf::Name("x"))])],
         false,
     ),
-    // The first fault in reading order is told.
+    // The error is the first one in reading order.
     (
         &[Tree::Of(
             Delimiter::Bracket,
@@ -124,13 +125,13 @@ const NESTED: &[Tree] = &[
     ),
 ];
 
-/// Whether the text parses to the same tokens as the stream.
+/// Returns whether the text parses to the same tokens as the stream.
 fn comes_back(stream: &TokenStream, text: &str) -> Result<bool, ParseError> {
     let back = TokenStream::from_str(text, &mut SourceMap::new())?;
     Ok(stream.same_tokens(&back))
 }
 
-/// Asserts what the stream is printed as, and that it comes back.
+/// Asserts that the stream has the printed text, and reads back from it.
 fn check_stream(
     rt: &(impl Abort + AllocGlobal),
     stream: &TokenStream,
@@ -144,20 +145,20 @@ fn check_stream(
     Ok(())
 }
 
-/// Asserts what the quote is printed as, and that it comes back.
+/// Asserts that the quote has the printed text, and reads back from it.
 pub fn check_quote(rt: &(impl Abort + AllocGlobal), quote: &Quote, want: &str) -> Result<(), Fail> {
     let stream = quote.finish()?;
     check_stream(rt, &stream, want)?;
     Ok(())
 }
 
-/// Asserts what the quote of the trees is printed as, and that it comes back.
+/// Asserts that the quote of the trees has the printed text, and reads back from it.
 fn check_printed(rt: &(impl Abort + AllocGlobal), trees: &[Tree], want: &str) -> Result<(), Fail> {
     let quote = quoted(rt, trees)?;
     check_quote(rt, &quote, want)
 }
 
-/// Asserts which fault the quote of the trees has first.
+/// Asserts that the quote of the trees has this error.
 fn check_refused(
     rt: &(impl Abort + AllocGlobal),
     trees: &[Tree],
@@ -190,7 +191,7 @@ fn what_no_spacing_mends_is_told() -> Result<(), Fail> {
     Ok(())
 }
 
-/// What the quote of the trees shows of itself.
+/// Returns the `Debug` text of the quote's stream.
 fn shown(rt: &(impl Abort + AllocGlobal), trees: &[Tree]) -> Result<String, Fail> {
     let stream = quoted(rt, trees)?.finish()?;
     Ok(format!("{stream:?}")?)
@@ -217,7 +218,7 @@ fn marks_in_groups_are_respaced_and_the_quote_stays() -> Result<(), Fail> {
     Ok(())
 }
 
-/// So many parentheses inside one another, around a mark that is Joint.
+/// Returns nested parentheses around a mark that is Joint.
 fn deep_groups(levels: u32) -> Result<TokenStream, Fail> {
     let mut stream = TokenStream::new();
     stream.extend_puncts([Punct::new('+', Spacing::Joint)])?;
@@ -228,7 +229,7 @@ fn deep_groups(levels: u32) -> Result<TokenStream, Fail> {
     Ok(stream)
 }
 
-/// The quote of the stream.
+/// Returns a quote of the stream.
 pub fn quote_of(stream: TokenStream) -> Result<Quote, Fail> {
     let mut quote = Quote::new();
     quote.push_stream(stream)?;
@@ -278,7 +279,7 @@ fn a_stream_has_exactly_what_was_pushed() -> Result<(), Fail> {
     Ok(())
 }
 
-/// Asserts what the error says.
+/// Asserts that the error has this message.
 fn says<T: Display>(
     rt: &(impl Abort + AllocGlobal),
     error: &T,
@@ -289,7 +290,7 @@ fn says<T: Display>(
     Ok(())
 }
 
-/// Asserts what the error shows of itself.
+/// Asserts that the error has this `Debug` text.
 fn shows<T: Debug>(
     rt: &(impl Abort + AllocGlobal),
     error: &T,
@@ -311,7 +312,7 @@ fn errors_say_why() -> Result<(), AllocError> {
     shows(&rt, &map_full, "Parse(MapFull)")
 }
 
-/// Adds a mark that is Joint, so that it is made Alone, and a group of a name to the quote.
+/// Adds a Joint mark, which `finish` makes Alone, and a group of a name to the quote.
 fn push_pair(rt: &(impl Abort + AllocGlobal), quote: &mut Quote) -> Result<(), Fail> {
     quote.push(TokenTree::Punct(Punct::new('+', Spacing::Joint)))?;
     let name = TokenStream::from_str("x", &mut SourceMap::new())?;

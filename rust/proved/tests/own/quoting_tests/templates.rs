@@ -2,7 +2,7 @@
 
 use crate::shim::prelude::{AllocGlobal, Grow, GrowText, HostRuntime, format};
 
-// Templates as a program that writes code uses them.
+// Templates, as a program that generates code uses them.
 use crate::quoting_tests::rows::check_quote;
 use proved_tokens::proc_macro2::{SourceMap, Span, TokenStream, TokenTree};
 use proved_tokens::quoting::{Hole, Quote, TemplateError};
@@ -10,15 +10,15 @@ use crate::shim::alloc::AllocError;
 use crate::shim::process::Abort;
 use crate::shim::test::Fail;
 
-/// What the holes of a template are filled with: the name and the text of each that stands for one stream, and the name
-/// and the texts of each that stands for a list.
+/// The holes of a template: the name and the text of each hole of one stream, and the name and the texts of each hole
+/// of a list.
 #[derive(Clone, Copy)]
 struct Given {
     ones: &'static [(&'static str, &'static str)],
     lists: &'static [(&'static str, &'static [&'static str])],
 }
 
-/// What the texts of given holes parse to.
+/// The streams that the texts of the holes parse to.
 struct Fillings {
     ones: Vec<TokenStream>,
     lists: Vec<Vec<TokenStream>>,
@@ -58,7 +58,7 @@ fn parsed_holes(given: Given) -> Result<Fillings, Fail> {
     Ok(Fillings { ones, lists })
 }
 
-/// The holes of these names, each for what its texts parsed to.
+/// Returns the holes with these names and with the parsed streams.
 fn holes<'a>(
     given: Given,
     fillings: &'a Fillings,
@@ -73,7 +73,7 @@ fn holes<'a>(
     Ok(holes)
 }
 
-/// What a quote of the template prints that these holes fill.
+/// Returns the printed text of the template, filled with these holes.
 fn filled_by(template: &str, holes: &[Hole<'_>]) -> Result<String, Fail> {
     let mut quote = Quote::new();
     quote.parse(template, &mut SourceMap::new(), holes)?;
@@ -81,14 +81,14 @@ fn filled_by(template: &str, holes: &[Hole<'_>]) -> Result<String, Fail> {
     Ok(format!("{stream}")?)
 }
 
-/// What a quote of the filled template prints.
+/// Returns the printed text of the filled template.
 fn filled(template: &str, given: Given) -> Result<String, Fail> {
     let fillings = parsed_holes(given)?;
     let holes = holes(given, &fillings)?;
     filled_by(template, holes.as_slice())
 }
 
-/// Asserts what a quote of the filled template prints.
+/// Asserts the printed text of the filled template.
 fn check_filled(
     rt: &(impl Abort + AllocGlobal),
     template: &str,
@@ -100,7 +100,7 @@ fn check_filled(
     Ok(())
 }
 
-/// What is wrong with a template, and where it is.
+/// Returns the message of the error and the columns of its start and end.
 fn told(
     error: &TemplateError,
     map: &SourceMap,
@@ -114,7 +114,7 @@ fn told(
     })
 }
 
-/// Where the fault of the template is, and what it is.
+/// Returns the template's error: its message and the columns of its start and end.
 fn fault(
     template: &str,
     holes: &[Hole<'_>],
@@ -133,14 +133,15 @@ fn span_of(error: &TemplateError) -> Option<Span> {
         | TemplateError::LoneList(span)
         | TemplateError::NoList(span)
         | TemplateError::UnequalLists(span)
-        | TemplateError::Nested(span)
+        | TemplateError::NotIdent(span)
+        | TemplateError::NotFinite(span)
         | TemplateError::TooDeep(span) => Some(*span),
         TemplateError::Parse(_) | TemplateError::Memory(_) => None,
     _ => unreachable!("each case is above"),
 }
 }
 
-/// The text where the tree stands.
+/// Returns the source text of the tree.
 fn text_of<'m>(tree: &TokenTree, map: &'m SourceMap) -> Option<&'m str> {
     let span = tree.span();
     if map.holds(span) {
@@ -166,7 +167,7 @@ fn check_fault(
     Ok(())
 }
 
-/// Asserts the fault of each template, where the same holes are given.
+/// Asserts the error of each template, filled with the same holes.
 fn check_faults(
     rt: &(impl Abort + AllocGlobal),
     given: Given,
@@ -180,7 +181,7 @@ fn check_faults(
     Ok(())
 }
 
-/// Templates, what their holes are filled with, and what is printed.
+/// Templates, their holes, and the printed text.
 const FILLED: &[(&str, Given, &str)] = &[
     // The getters of a struct are one repetition.
     (
@@ -192,7 +193,7 @@ const FILLED: &[(&str, Given, &str)] = &[
         "impl Point { pub fn x (& self) -> & u32 { & self . x } \
          pub fn label (& self) -> & Vec < u8 > { & self . label } }",
     ),
-    // A comma stands between arguments and not after the last.
+    // A comma is between arguments and not after the last one.
     (
         "f(#(#argument),*);",
         Given {
@@ -217,7 +218,7 @@ const FILLED: &[(&str, Given, &str)] = &[
         },
         "f (1 , a + b , 'c') ;",
     ),
-    // A hole stands inside groups and by number.
+    // A hole can be inside groups, and its name can be a number.
     (
         "vec![(#0, [#1]), (# r#in, #0)]",
         Given {
@@ -226,7 +227,7 @@ const FILLED: &[(&str, Given, &str)] = &[
         },
         "vec ! [(\"k\" , [{ 7 }]) , (\"k\" , \"k\")]",
     ),
-    // A mark joins nothing that comes for a hole.
+    // A mark does not join with the trees that replace a hole.
     ("a &#x && #x &&#x", BORROWED, "a & & b && & b && & b"),
     ("&#(#xs)*", BORROWED, "& & b & b"),
     ("&#(#xs)&*", BORROWED, "& & b & & b"),
@@ -255,13 +256,24 @@ fn templates_are_filled() -> Result<(), Fail> {
     Ok(())
 }
 
+/// Adds the template to the quote, with this stream for the hole `name`.
+fn name_filled(
+    quote: &mut Quote,
+    template: &str,
+    map: &mut SourceMap,
+    name: &TokenStream,
+) -> Result<(), TemplateError> {
+    let holes = [Hole::one("name", name)];
+    quote.parse(template, map, &holes)
+}
+
 #[test]
 fn tokens_of_the_template_and_of_the_holes_keep_their_spans() -> Result<(), Fail> {
     let rt = HostRuntime;
     let mut map = SourceMap::new();
     let name = TokenStream::from_str("point", &mut map)?;
     let mut quote = Quote::new();
-    quote.parse("let #name = (1);", &mut map, &[Hole::one("name", &name)])?;
+    name_filled(&mut quote, "let #name = (1);", &mut map, &name)?;
     let stream = quote.finish()?;
     let [word, name, equals, group, end] = stream.trees() else {
         assert!(false, "five trees");
@@ -279,7 +291,7 @@ fn tokens_of_the_template_and_of_the_holes_keep_their_spans() -> Result<(), Fail
     Ok(())
 }
 
-/// A hole for one stream, and lists of two, three and no streams.
+/// A hole of one stream, and holes of lists of two, three and no streams.
 const HOLES: Given = Given {
     ones: &[("x", "a")],
     lists: &[
@@ -303,7 +315,7 @@ fn each_fault_has_its_span() -> Result<(), Fail> {
         ),
         (
             "#( #two #( #three ),* )*",
-            ("a repetition inside a repetition", 9, 19),
+            ("lists of different lengths", 12, 17),
         ),
         ("#( #two #z #three )*", ("no hole of this name", 9, 10)),
     ];
@@ -315,30 +327,31 @@ fn parentheses_come_before_what_is_wrong_inside() -> Result<(), Fail> {
     let rt = HostRuntime;
     let no_hole = "no hole of this name";
     let no_list = "a repetition that names no list";
-    let nested = "a repetition inside a repetition";
     let rows = [
-        // No list is named, whatever else is wrong inside.
+        // No list is named. This error comes before any error inside.
         ("#( #missing )*", (no_list, 1, 13)),
         ("#( [#missing] )*", (no_list, 1, 15)),
         ("#( #missing #x ),*", (no_list, 1, 16)),
         ("#( #( #x )* )*", (no_list, 1, 13)),
         ("#( #( #missing )* )*", (no_list, 1, 19)),
         ("#( )*", (no_list, 1, 4)),
-        // A list is named, at any depth, so the first fault is inside.
+        // A list is named at some depth, so the first error is one inside.
         ("#( #missing #two )*", (no_hole, 4, 11)),
         ("#( #two #missing )*", (no_hole, 9, 16)),
         ("#( #missing [(#two)] )*", (no_hole, 4, 11)),
         ("#( [#two] #missing )*", (no_hole, 11, 18)),
         ("#( #none #missing )*", (no_hole, 10, 17)),
-        ("#( #( #two )* )*", (nested, 4, 12)),
-        ("#( #( #missing #two )* )*", (nested, 4, 21)),
+        // The outer repetition uses up the list.
+        ("#( #( #two )* )*", (no_list, 4, 12)),
+        ("#( #( #missing #two )* )*", (no_hole, 7, 14)),
         (
             "#( #three #two #missing )*",
             ("lists of different lengths", 11, 14),
         ),
-        // Of the faults of the inner parentheses this one comes first.
-        ("#( #two #( #x )* )*", (nested, 9, 15)),
-        // What stands before comes before.
+        ("#( #two #( #x )* )*", (no_list, 9, 15)),
+        // Without a turn, the errors of turns do not occur.
+        ("#( #none #( #x )* )* #missing", (no_hole, 22, 29)),
+        // Errors come in reading order.
         ("#missing #( #x )*", (no_hole, 1, 8)),
         ("#( #x )* #missing", (no_list, 1, 7)),
         ("(#two) #( #x )*", ("a list outside of a repetition", 2, 5)),
@@ -346,7 +359,7 @@ fn parentheses_come_before_what_is_wrong_inside() -> Result<(), Fail> {
     check_faults(&rt, HOLES, &rows)
 }
 
-/// A text inside so many parentheses, between two others.
+/// Returns a text in nested parentheses, between two others.
 fn deep(
     before: &str,
     inside: &str,
@@ -365,7 +378,7 @@ fn deep(
     Ok(text)
 }
 
-/// Asserts the fault of a template whose middle stands inside so many parentheses.
+/// Asserts the error of a template whose middle part is in nested parentheses.
 fn check_deep(
     rt: &(impl Abort + AllocGlobal),
     (before, inside, after): (&str, &str, &str),
@@ -389,15 +402,9 @@ fn a_list_is_found_deeper_than_groups_may_nest() -> Result<(), Fail> {
             64,
             ("a repetition that names no list", 1, 135),
         ),
-        // At one pair of parentheses depth comes before lists, and nested repetitions before depth.
+        // At one pair of parentheses `TooDeep` comes before `NoList`.
         ("", "#( #x )*", "", 64, (too_deep, 65, 71)),
-        (
-            "",
-            "#( #two #( #x )* )*",
-            "",
-            63,
-            ("a repetition inside a repetition", 72, 78),
-        ),
+        ("", "#( #two #( #x )* )*", "", 63, (too_deep, 72, 78)),
         ("", "#( #two [#x] )*", "", 63, (too_deep, 71, 75)),
     ];
     for (before, inside, after, levels, want) in rows {
@@ -415,7 +422,7 @@ fn groups_nest_64_deep() -> Result<(), Fail> {
     check_deep(&rt, ("", "x", ""), 65, ("groups nested too deep", 64, 67))
 }
 
-/// Asserts that neither a hole that is missing nor a fault of the template's text is accepted.
+/// Asserts that a missing hole and a syntax error of the text are rejected.
 fn check_refused(rt: &(impl Abort + AllocGlobal), quote: &mut Quote) {
     let mut map = SourceMap::new();
     assert!(quote.parse("b #y", &mut map, &[]).is_err());
@@ -426,7 +433,7 @@ fn check_refused(rt: &(impl Abort + AllocGlobal), quote: &mut Quote) {
     );
 }
 
-/// Adds the template `#x;` with `a` for its hole to the quote.
+/// Adds the template `#x;` to the quote, with `a` for its hole.
 fn fill(quote: &mut Quote) -> Result<(), Fail> {
     let one = parsed("a")?;
     let template = parsed("#x;")?;

@@ -1,5 +1,5 @@
 // Made from crates/quoting_tests/src/trees.rt by rust/erase: change that file, not this one.
-//! Trees as the rows of tests note them.
+//! Trees in the form that the rows of tests use.
 
 use crate::shim::prelude::{AllocGlobal, Grow};
 
@@ -8,7 +8,7 @@ use proved_tokens::quoting::Quote;
 use crate::shim::process::Abort;
 use crate::shim::test::Fail;
 
-/// A tree that is no group.
+/// A tree that is not a group.
 #[derive(Clone, Copy)]
 pub enum Leaf {
     /// The identifier of this name.
@@ -34,7 +34,7 @@ pub enum Inner {
     Of(Delimiter, &'static [Leaf]),
 }
 
-/// A leaf, or a group in which groups nest no deeper.
+/// A leaf, or a group of leaves and of groups of leaves.
 #[derive(Clone, Copy)]
 pub enum Tree {
     /// A leaf.
@@ -43,13 +43,13 @@ pub enum Tree {
     Of(Delimiter, &'static [Inner]),
 }
 
-/// The mark, which has to be one.
+/// Returns the mark with this character, which must be that of a mark.
 fn mark(rt: &impl Abort, mark: char, spacing: Spacing) -> TokenTree {
     assert!(Punct::is_punct_char(mark), "{mark}");
     TokenTree::Punct(Punct::new(mark, spacing))
 }
 
-/// The leaf as a tree.
+/// Returns the leaf as a tree.
 fn leaf_tree(rt: &(impl Abort + AllocGlobal), leaf: Leaf) -> Result<TokenTree, Fail> {
     Ok(match leaf {
         Leaf::Name(name) => TokenTree::Ident(Ident::new(name, Span::call_site())?),
@@ -61,7 +61,7 @@ fn leaf_tree(rt: &(impl Abort + AllocGlobal), leaf: Leaf) -> Result<TokenTree, F
     })
 }
 
-/// The group of the trees.
+/// Returns a group of the trees.
 fn group(
     rt: &impl AllocGlobal,
     delimiter: Delimiter,
@@ -71,7 +71,7 @@ fn group(
     Ok(TokenTree::Group(Group::new(delimiter, inside)))
 }
 
-/// The leaves as trees.
+/// Returns the leaves as trees.
 fn leaves(rt: &(impl Abort + AllocGlobal), leaves: &[Leaf]) -> Result<Vec<TokenTree>, Fail> {
     let mut trees = Vec::new();
     for it in leaves {
@@ -80,7 +80,7 @@ fn leaves(rt: &(impl Abort + AllocGlobal), leaves: &[Leaf]) -> Result<Vec<TokenT
     Ok(trees)
 }
 
-/// A leaf or a group of leaves as a tree.
+/// Returns a leaf or a group of leaves as a tree.
 fn inner_tree(rt: &(impl Abort + AllocGlobal), tree: Inner) -> Result<TokenTree, Fail> {
     match tree {
         Inner::One(it) => leaf_tree(rt, it),
@@ -88,7 +88,7 @@ fn inner_tree(rt: &(impl Abort + AllocGlobal), tree: Inner) -> Result<TokenTree,
     }
 }
 
-/// Leaves and groups of leaves as trees.
+/// Returns leaves and groups of leaves as trees.
 fn inners(rt: &(impl Abort + AllocGlobal), inside: &[Inner]) -> Result<Vec<TokenTree>, Fail> {
     let mut trees = Vec::new();
     for it in inside {
@@ -97,7 +97,7 @@ fn inners(rt: &(impl Abort + AllocGlobal), inside: &[Inner]) -> Result<Vec<Token
     Ok(trees)
 }
 
-/// The tree.
+/// Returns the tree of the library.
 fn outer_tree(rt: &(impl Abort + AllocGlobal), tree: Tree) -> Result<TokenTree, Fail> {
     match tree {
         Tree::One(it) => leaf_tree(rt, it),
@@ -105,7 +105,7 @@ fn outer_tree(rt: &(impl Abort + AllocGlobal), tree: Tree) -> Result<TokenTree, 
     }
 }
 
-/// The quote of the trees.
+/// Returns a quote of the trees.
 pub fn quoted(rt: &(impl Abort + AllocGlobal), trees: &[Tree]) -> Result<Quote, Fail> {
     let mut quote = Quote::new();
     for it in trees {

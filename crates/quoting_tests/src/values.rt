@@ -1,0 +1,250 @@
+//! Values of every kind in the holes of templates, and lists of lists.
+use proc_macro2::{Ident, Literal, SourceMap, Span, TokenStream, TokenTree};
+use quoting::{Hole, Number, Quote, TemplateError, Value, Values};
+use std::alloc::{AllocError, Global};
+use std::process::Abort;
+use std::test::Fail;
+
+/// Returns the printed text of the template with these holes.
+fn filled(alloc: Global, template: &str, holes: &[Hole<'_>]) -> Result<String, TemplateError> {
+    let mut quote = Quote::new(alloc);
+    quote.parse(template, &mut SourceMap::new(alloc), holes)?;
+    let stream = quote.into_stream();
+    Ok(format!(in alloc; "{stream}")?)
+}
+
+/// Returns the printed text of the template with this value for `x`.
+fn printed<'a>(
+    alloc: Global,
+    template: &str,
+    value: &'a Value<'a>,
+) -> Result<String, TemplateError> {
+    let holes = [Hole::of("x", value)];
+    filled(alloc, template, &holes)
+}
+
+/// The error of a template, its column, and the number of trees in the quote after it.
+type Told = (TemplateError, Option<usize>, usize);
+
+/// Returns the error of the template with these holes.
+fn told(alloc: Global, template: &str, holes: &[Hole<'_>]) -> Option<Told> {
+    let mut quote = Quote::new(alloc);
+    let mut map = SourceMap::new(alloc);
+    let Err(fault) = quote.parse(template, &mut map, holes) else {
+        return None;
+    };
+    let column = match fault.span() {
+        Some(span) if map.holds(span) => Some(span.start(&map).column),
+        _ => None,
+    };
+    Some((fault, column, quote.into_stream().trees().len()))
+}
+
+/// Returns the error of `a b #x` with this value for `x`.
+fn fault_of<'a>(alloc: Global, value: &'a Value<'a>) -> Option<Told> {
+    let holes = [Hole::of("x", value)];
+    told(alloc, "a b #x", &holes)
+}
+
+/// Asserts that a hole with this value is an error at its name, which leaves the quote empty. Returns the error.
+fn check_fault<'a>(rt: &(impl Abort + AllocGlobal), value: &'a Value<'a>) -> Option<TemplateError> {
+    let Some((fault, column, count)) = fault_of(rt.alloc(), value) else {
+        assert!(rt; false, "a fault");
+        return None;
+    };
+    assert_eq!(rt; (column, count), (Some(5), 0));
+    Some(fault)
+}
+
+fn word(alloc: Global, text: &str) -> Result<Ident, Fail> {
+    Ok(Ident::new(alloc, text, Span::call_site())?)
+}
+
+/// Asserts the printed text of the template with this value for `x`.
+fn check<'a>(
+    rt: &(impl Abort + AllocGlobal),
+    template: &str,
+    value: &'a Value<'a>,
+    want: &str,
+) -> Result<(), Fail> {
+    let text = printed(rt.alloc(), template, value)?;
+    assert_eq!(rt; text.as_str(), want, "of {template:?}");
+    Ok(())
+}
+
+#[test]
+fn streams_and_trees_are_put_in(rt: HostRuntime) -> Result<(), Fail> {
+    let stream = TokenStream::from_str("c + d", &mut SourceMap::new(rt.alloc()))?;
+    check(&rt, "(#x, #x)", &Value::Stream(&stream), "(c + d , c + d)")?;
+    check(
+        &rt,
+        "(#x, #x)",
+        &Value::OwnedStream(stream),
+        "(c + d , c + d)",
+    )?;
+    let tree = TokenTree::Literal(Literal::i8_suffixed(rt.alloc(), -4)?);
+    check(&rt, "(#x, #x)", &Value::Tree(&tree), "(- 4i8 , - 4i8)")?;
+    check(&rt, "(#x, #x)", &Value::OwnedTree(tree), "(- 4i8 , - 4i8)")
+}
+
+#[test]
+fn tokens_are_put_in(rt: HostRuntime) -> Result<(), Fail> {
+    let ident = word(rt.alloc(), "a")?;
+    check(&rt, "(#x, #x)", &Value::Ident(&ident), "(a , a)")?;
+    let literal = Literal::string(rt.alloc(), "b")?;
+    check(
+        &rt,
+        "(#x, #x)",
+        &Value::Literal(&literal),
+        "(\"b\" , \"b\")",
+    )?;
+    let negative = Literal::i8_unsuffixed(rt.alloc(), -3)?;
+    check(&rt, "(#x, #x)", &Value::Literal(&negative), "(- 3 , - 3)")
+}
+
+#[test]
+fn texts_and_truth_values_are_put_in(rt: HostRuntime) -> Result<(), Fail> {
+    check(&rt, "(#x, #x)", &Value::Nothing, "(,)")?;
+    check(&rt, "(#x, #x)", &Value::Name("fn"), "(fn , fn)")?;
+    check(&rt, "#x", &Value::String("\"\n"), "\"\\\"\\n\"")?;
+    check(&rt, "#x", &Value::Character('\''), "'\\''")?;
+    check(&rt, "(#x, #x)", &Value::Boolean(true), "(true , true)")?;
+    check(&rt, "(#x, #x)", &Value::Boolean(false), "(false , false)")
+}
+
+#[test]
+fn numbers_have_their_suffix(rt: HostRuntime) -> Result<(), Fail> {
+    let rows = [
+        (Number::U8(u8::MAX), "255u8"),
+        (Number::U16(7), "7u16"),
+        (Number::U32(7), "7u32"),
+        (Number::U64(u64::MAX), "18446744073709551615u64"),
+        (
+            Number::U128(u128::MAX),
+            "340282366920938463463374607431768211455u128",
+        ),
+        (Number::Usize(0), "0usize"),
+        (Number::I8(i8::MIN), "- 128i8"),
+        (Number::I16(-7), "- 7i16"),
+        (Number::I32(7), "7i32"),
+        (Number::I64(-7), "- 7i64"),
+        (
+            Number::I128(i128::MIN),
+            "- 170141183460469231731687303715884105728i128",
+        ),
+        (Number::Isize(-1), "- 1isize"),
+    ];
+    for &(number, want) in &rows {
+        let text = printed(rt.alloc(), "#x", &Value::Number(number))?;
+        assert_eq!(rt; text.as_str(), want);
+    }
+    Ok(())
+}
+
+#[test]
+fn a_value_that_is_no_token_is_an_error_at_the_name_of_its_hole(
+    rt: HostRuntime,
+) -> Result<(), Fail> {
+    for name in ["1", "", "a b", "r#a"] {
+        let fault = check_fault(&rt, &Value::Name(name));
+        assert!(rt; matches!(fault, Some(TemplateError::NotIdent(_))));
+    }
+    let fault = check_fault(&rt, &Value::NotFinite);
+    assert!(rt; matches!(fault, Some(TemplateError::NotFinite(_))));
+    let fault = check_fault(&rt, &Value::Streams(&[]));
+    assert!(rt; matches!(fault, Some(TemplateError::LoneList(_))));
+    let fault = check_fault(&rt, &Value::List(Values::new(rt.alloc())));
+    assert!(rt; matches!(fault, Some(TemplateError::LoneList(_))));
+    Ok(())
+}
+
+#[test]
+fn lists_of_every_kind_are_repeated(rt: HostRuntime) -> Result<(), Fail> {
+    let alloc = rt.alloc();
+    let stream = TokenStream::from_str("a; b", &mut SourceMap::new(alloc))?;
+    let idents = [word(alloc, "a")?, word(alloc, "b")?];
+    let literals = [
+        Literal::string(alloc, "a")?,
+        Literal::i8_unsuffixed(alloc, -1)?,
+    ];
+    let streams = [stream.clone()?, TokenStream::new(alloc)];
+    let mut list = Values::new(alloc);
+    list.push(Value::Number(Number::U8(1)))?;
+    list.push(Value::Nothing)?;
+    let each = "#(#x),*";
+    check(&rt, each, &Value::Streams(&streams), "a ; b ,")?;
+    check(&rt, each, &Value::Trees(stream.trees()), "a , ; , b")?;
+    check(&rt, each, &Value::Idents(&idents), "a , b")?;
+    check(&rt, each, &Value::Literals(&literals), "\"a\" , - 1")?;
+    check(&rt, each, &Value::Strings(&["a", "b"]), "\"a\" , \"b\"")?;
+    check(&rt, each, &Value::List(list), "1u8 ,")
+}
+
+/// Returns a list of two strings.
+fn texts(alloc: Global) -> Result<Values, AllocError> {
+    let mut texts = Values::new(alloc);
+    texts.push(Value::String("n"))?;
+    texts.push(Value::String("m"))?;
+    Ok(texts)
+}
+
+/// Returns a list of two lists: one of two strings and one of one name.
+fn rows(alloc: Global) -> Result<Values, AllocError> {
+    let mut one = Values::new(alloc);
+    one.push(Value::Name("c"))?;
+    let mut rows = Values::new(alloc);
+    rows.push(Value::Strings(&["a", "b"]))?;
+    rows.push(Value::List(one))?;
+    Ok(rows)
+}
+
+/// Returns the printed text of the template with these values for `value`, `name` and `all`.
+fn three_filled<'a>(
+    alloc: Global,
+    template: &str,
+    values: &'a Value<'a>,
+    names: &'a Value<'a>,
+    all: &'a Value<'a>,
+) -> Result<String, TemplateError> {
+    let holes = [
+        Hole::of("value", values),
+        Hole::of("name", names),
+        Hole::of("all", all),
+    ];
+    filled(alloc, template, &holes)
+}
+
+/// What the template prints with a list of lists for `value`, a list for `name` and a name for `all`.
+fn nested(alloc: Global, template: &str) -> Result<String, TemplateError> {
+    let values = rows(alloc)?;
+    let names = texts(alloc)?;
+    three_filled(
+        alloc,
+        template,
+        &Value::List(values),
+        &Value::List(names),
+        &Value::Name("z"),
+    )
+}
+
+#[test]
+fn repetitions_are_nested(rt: HostRuntime) -> Result<(), Fail> {
+    let templates = [
+        (
+            "#( #name: [ #( #value ),* ] );*",
+            "\"n\" : [\"a\" , \"b\"] ; \"m\" : [c]",
+        ),
+        (
+            "#( #( #value #name #all )* )*",
+            "\"a\" \"n\" z \"b\" \"n\" z c \"m\" z",
+        ),
+    ];
+    for &(template, want) in &templates {
+        let text = nested(rt.alloc(), template)?;
+        assert_eq!(rt; text.as_str(), want);
+    }
+    // The innermost repetition has no list left.
+    let fault = nested(rt.alloc(), "#( #( #( #value )* )* )*");
+    assert!(rt; matches!(fault, Err(TemplateError::NoList(_))));
+    Ok(())
+}
