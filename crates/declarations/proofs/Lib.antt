@@ -33,3 +33,6 @@ pub mod TableReaderLemmas
 pub mod EntryLemmas
 pub mod EntryCheckLemmas
 pub mod ParameterLemmas
+pub mod RuleWholeLemmas
+pub mod FunctionPartLemmas
+pub mod FunctionLemmas

@@ -107,7 +107,7 @@ leads_sign g h trees rest class b e = record {
   remains = remains_sign trees rest class b;
 }
 
-leads_on : (g h k : G) (trees mid rest : List TokenTree) → LeadsTo g trees h mid → LeadsTo h mid k rest
+pub leads_on : (g h k : G) (trees mid rest : List TokenTree) → LeadsTo g trees h mid → LeadsTo h mid k rest
     → LeadsTo g trees k rest
 leads_on g h k trees mid rest a b = record {
   events = a.events ++ b.events;
@@ -130,7 +130,7 @@ leads_sticks g h trees mid left a f = record {
   remains = remains_on trees mid left a.remains f.remains;
 }
 
-finds_leads : (a b : G) (trees mid : List TokenTree) → Finds a trees mid → LeadsTo (Then a b) trees b mid
+pub finds_leads : (a b : G) (trees mid : List TokenTree) → Finds a trees mid → LeadsTo (Then a b) trees b mid
 finds_leads a b trees mid f = record {
   events = f.events;
   found = find_then rules a b (classes_in trees) ∙ ap (λ x. and_then x (find rules b)) f.found;

@@ -23,5 +23,6 @@ pub mod List
 pub mod EntryList
 pub mod EntryCheck
 pub mod Parameter
+pub mod Function
 pub mod CompileError
 pub mod rules

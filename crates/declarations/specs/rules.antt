@@ -11,3 +11,4 @@ pub mod Rules
 pub mod Pieces
 pub mod Entries
 pub mod Parameters
+pub mod Functions

@@ -22,6 +22,7 @@ mod fault;
 mod field;
 mod file;
 mod front;
+mod function;
 mod generics;
 mod grammar;
 mod header;
@@ -49,6 +50,7 @@ pub use entry_list::Entries;
 pub use fault::Fault;
 pub use field::{Field, parse_field, parse_tuple_field};
 pub use file::{File, Items, parse_file, parse_item};
+pub use function::{Function, parse_function};
 pub use generics::{
     Param, ParamKind, Predicate, after_where, parse_param, parse_predicate, within_generics,
 };

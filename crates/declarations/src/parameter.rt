@@ -109,7 +109,7 @@ fn may_begin(class: Class) -> bool
 
 /// Skips a type.
 #[tactic(auto, using(crate::proofs::ParameterLemmas::type_reads))]
-fn past_type(trees: &[TokenTree]) -> Result<&[TokenTree], &[TokenTree]>
+pub(crate) fn past_type(trees: &[TokenTree]) -> Result<&[TokenTree], &[TokenTree]>
     ensures { ReadsRule type trees.now result }
 {
     let start = Place {
@@ -123,7 +123,7 @@ fn past_type(trees: &[TokenTree]) -> Result<&[TokenTree], &[TokenTree]>
 
 /// Skips attributes.
 #[tactic(auto, using(crate::proofs::ParameterLemmas::attributes_read))]
-fn past_attributes(trees: &[TokenTree]) -> Result<&[TokenTree], &[TokenTree]>
+pub(crate) fn past_attributes(trees: &[TokenTree]) -> Result<&[TokenTree], &[TokenTree]>
     ensures { ReadsRule attributes trees.now result }
 {
     let start = Place {

@@ -135,6 +135,8 @@
 //! - <a id="declarations.Field.IsFieldAt"></a>**IsFieldAt**: the trees begin with a field of this form that has
 //!   these parts, and the rest comes after it
 //! - <a id="declarations.File.IsFile"></a>**IsFile**: the trees are inner attributes and then items
+//! - <a id="declarations.Function.IsFunction"></a>**IsFunction**: the trees are a function, and these are its
+//!   parts
 //! - <a id="declarations.Forms.IsItem"></a>**IsItem**: a struct, an enum or a union: attributes, a visibility,
 //!   its keyword and name, generics, where clause and body
 //! - <a id="declarations.Reading.IsOnly"></a>**IsOnly**: no other part and rest can be read from these trees by
@@ -209,6 +211,8 @@
 //! - <a id="declarations.rules.Parts.fields"></a>**fields**: fields, with `,` between two and perhaps after the
 //!   last
 //! - <a id="declarations.rules.Rules.follows"></a>**follows**: whether a sign of this class may follow the rule
+//! - <a id="declarations.rules.Functions.function_item"></a>**function_item**: a function: attributes, a
+//!   visibility, qualifiers, `fn`, a name, generic parameters, parameters and the rest
 //! - <a id="declarations.rules.Parameters.function_parameter"></a>**function_parameter**: a parameter of a
 //!   function: attributes, and then a receiver, a pattern and its type, or `...`
 //! - <a id="declarations.rules.Parts.generics"></a>**generics**: generic parameters in angle brackets, or

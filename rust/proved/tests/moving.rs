@@ -9,10 +9,10 @@ use proved_tokens::check::{advice, explain, Hint};
 use proved_tokens::cursor::TokenBuffer;
 use proved_tokens::error::CompileError;
 use proved_tokens::items::{
-    check_entries, compile_error, impl_generics, impl_header, impl_header_where, parse_file, parse_param,
-    parse_parameter, parse_type_item, split_any_item, split_attribute, split_attributes, split_type, split_visibility,
-    type_generics, where_clause, where_clause_with_bound, within_generics, Attributes, Body, Entries, EntryKind,
-    ItemKind, ParamKind, ParameterKind, Parameters,
+    check_entries, compile_error, impl_generics, impl_header, impl_header_where, parse_file, parse_function,
+    parse_param, parse_parameter, parse_type_item, split_any_item, split_attribute, split_attributes, split_type,
+    split_visibility, type_generics, where_clause, where_clause_with_bound, within_generics, Attributes, Body, Entries,
+    EntryKind, ItemKind, ParamKind, ParameterKind, Parameters,
 };
 use proved_tokens::print::to_pretty_string;
 use proved_tokens::quote::{Hole, Holes, Quote, Template};
@@ -174,10 +174,10 @@ fn calls_in_place_of_syns_on_attributes_parameters_and_errors() -> Outcome {
     let mut error = checked().err().ok_or("it is known")?;
     assert_eq!(error.to_string(), "unknown entry `c`; known are `skip`, `d`");
 
-    let stream: TokenStream = "(&self, x: u8)".parse()?;
-    let TokenTree::Group(group) = &stream.trees()[0] else { panic!("it is a group") };
-    assert_eq!(Parameters::new(group).count(), 2);
-    let trees = group.stream_ref().trees();
+    let stream: TokenStream = "pub const fn f(&self, x: u8) -> u8 { x }".parse()?;
+    let function = parse_function(stream.trees())?;
+    assert_eq!(Parameters::new(function.parameters).count(), 2);
+    let trees = function.parameters.stream_ref().trees();
     assert!(matches!(parse_parameter(trees)?.0.kind, ParameterKind::Receiver));
 
     let (text, span) = ("a", trees[0].span());

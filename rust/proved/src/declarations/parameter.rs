@@ -83,7 +83,7 @@ fn may_begin(class: Class) -> bool
 }
 
 /// Skips a type.
-fn past_type(trees: &[TokenTree]) -> Result<&[TokenTree], &[TokenTree]>
+pub(crate) fn past_type(trees: &[TokenTree]) -> Result<&[TokenTree], &[TokenTree]>
 {
     let start = Place {
         item: Item::Alone,
@@ -95,7 +95,7 @@ fn past_type(trees: &[TokenTree]) -> Result<&[TokenTree], &[TokenTree]>
 }
 
 /// Skips attributes.
-fn past_attributes(trees: &[TokenTree]) -> Result<&[TokenTree], &[TokenTree]>
+pub(crate) fn past_attributes(trees: &[TokenTree]) -> Result<&[TokenTree], &[TokenTree]>
 {
     let start = Place {
         item: Item::Alone,

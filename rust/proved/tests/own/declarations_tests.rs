@@ -12,6 +12,8 @@ mod entries;
 #[cfg(test)]
 mod files;
 #[cfg(test)]
+mod function;
+#[cfg(test)]
 mod generics;
 #[cfg(test)]
 mod items;

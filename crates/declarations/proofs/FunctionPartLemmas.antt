@@ -1,0 +1,387 @@
+-- The parts of a function, each by itself.
+use Rattle.std.proofs.Common.{◌≡◌, refl, sym, ◌∙◌, ap, subst, Bool, true, false, ◌&&◌, ◌||◌, List, [], ◌∷◌}
+use Rattle.std.proofs.Common.{◌++◌, inl, inr, arith}
+use Rattle.std.proofs.lemmas.Bool.{both_ways}
+use Rattle.std.specs.Prelude.{MatchResult, Result}
+use Rattle.std.specs.Borrow.{Bor}
+use Rattle.grammars.specs.Deterministic.{IsStart}
+use Rattle.grammars.specs.First.{heads, may_begin}
+use Rattle.grammars.specs.Grammar.{Mark, Nothing, Sign, Then, perhaps}
+use Rattle.pm_token.specs.Leaf.{Name}
+use Rattle.pm_token.specs.declared.delimiters.Delimiter.{Delimiter}
+use Rattle.pm_token.specs.declared.delimiters.Delimiter.TheVariants as delimiters
+use Rattle.pm_stream.specs.Forest.{Forest}
+use Rattle.pm_stream.specs.declared.stream.Group.{Group as Grouped}
+use Rattle.pm_stream.specs.declared.stream.TokenTree.{TokenTree}
+use Rattle.pm_stream.specs.declared.stream.TokenTree.TheVariants.{Group, Ident}
+use Rattle.declarations.specs.Forms.{start}
+use Rattle.declarations.specs.Function.{AreParentheses, HasReturn}
+use Rattle.declarations.specs.Function.{IsNameAt}
+use Rattle.declarations.specs.Item.{IsNameClass}
+use Rattle.declarations.specs.Reader.{Finds, ReadsRule, Sticks, classes_in}
+use Rattle.declarations.specs.Reading.{StopsAt}
+use Rattle.declarations.specs.Signs as signs_in
+use Rattle.declarations.specs.Signs.{BeginsWith, group_class, is_restriction, name_class, parentheses_class}
+use Rattle.declarations.specs.declared.class.Class.{Class}
+use Rattle.declarations.specs.declared.class.Class.TheVariants as signs
+use Rattle.declarations.specs.declared.class.Keyword.TheVariants as keywords
+use Rattle.declarations.specs.declared.class.Word.TheVariants as words
+use Rattle.declarations.specs.declared.place.Part.TheVariants as parts
+use Rattle.declarations.specs.declared.place.Rule.TheVariants as places
+use Rattle.declarations.specs.declared.place.Spot.TheVariants as spots
+use Rattle.declarations.specs.declared.place.State.TheVariants as states
+use Rattle.declarations.specs.rules.Bodies.{body_end, braces, semicolon}
+use Rattle.declarations.specs.rules.Classes.{is, is_round, is_word}
+use Rattle.declarations.specs.rules.Fronts.{is_safe}
+use Rattle.declarations.specs.rules.Functions as rule
+use Rattle.declarations.specs.rules.Names.{Body, Label, Name as RuleName, Rest, Returns, key}
+use Rattle.declarations.specs.rules.Names.{one, word}
+use Rattle.declarations.specs.rules.Parts.{generics, visibility, where_clause}
+use Rattle.declarations.specs.rules.Rules.{follows, rules}
+use Rattle.declarations.specs.rules.Types.{type}
+use Rattle.declarations.proofs.ClassLemmas.{same_class}
+use Rattle.declarations.proofs.ItemLemmas.{signs_group}
+use Rattle.declarations.proofs.ReaderLemmas.{first_finds, first_sticks, heads_none, heads_sign, lacks, mark_finds}
+use Rattle.declarations.proofs.ReaderLemmas.{mark_sticks, other_finds, other_sticks, perhaps_stays}
+use Rattle.declarations.proofs.ReaderLemmas.{sign_ends, sign_finds, sign_sticks}
+use Rattle.declarations.proofs.ReaderLemmas.{then_fails, then_finds}
+use Rattle.declarations.proofs.RuleFormLemmas.{found_reads}
+use Rattle.declarations.proofs.RuleLemmas.{starts}
+use Rattle.declarations.proofs.SortLemmas.{grouped, groups, named, names, sort_of, unseen}
+use Rattle.declarations.proofs.TableReaderLemmas.{table_reads}
+
+-- ---- where a reading begins
+
+starts_type : IsStart rules follows (type ∷ [])
+starts_type = starts type refl refl
+
+-- ---- parts that the tables read
+
+pub visibility_reads : (trees : List TokenTree) (result : Result (Bor (List TokenTree)) (Bor (List TokenTree)))
+    → MatchResult result
+    (λ rest. StopsAt (start places.Alone (states.At (spots.Before parts.Visibility))) true trees rest.now)
+    (λ left. StopsAt (start places.Alone (states.At (spots.Before parts.Visibility))) false trees left.now)
+    → ReadsRule visibility trees result
+visibility_reads = table_reads (start places.Alone (states.At (spots.Before parts.Visibility))) visibility refl
+
+pub generics_read : (trees : List TokenTree) (result : Result (Bor (List TokenTree)) (Bor (List TokenTree)))
+    → MatchResult result
+    (λ rest. StopsAt (start places.Alone (states.At spots.Generics)) true trees rest.now)
+    (λ left. StopsAt (start places.Alone (states.At spots.Generics)) false trees left.now)
+    → ReadsRule generics trees result
+generics_read = table_reads (start places.Alone (states.At spots.Generics)) generics refl
+
+pub where_reads : (trees : List TokenTree) (result : Result (Bor (List TokenTree)) (Bor (List TokenTree)))
+    → MatchResult result
+    (λ rest. StopsAt (start places.Alone (states.At spots.Where)) true trees rest.now)
+    (λ left. StopsAt (start places.Alone (states.At spots.Where)) false trees left.now)
+    → ReadsRule where_clause trees result
+where_reads = table_reads (start places.Alone (states.At spots.Where)) where_clause refl
+
+-- ---- qualifiers
+
+pub may_find : (passes : Class → Bool) (trees rest : List TokenTree) (class : Class) → BeginsWith trees class rest
+    → passes class ≡ true
+    → Finds (perhaps (Sign passes)) trees rest
+may_find passes trees rest class b h =
+    first_finds (Sign passes) Nothing trees rest (heads_sign (Sign passes) trees rest class b ∙ h)
+    (sign_finds passes trees rest class b h)
+
+pub may_stay : (passes : Class → Bool) (trees rest : List TokenTree) (class : Class) → BeginsWith trees class rest
+    → passes class ≡ false
+    → Finds (perhaps (Sign passes)) trees trees
+may_stay passes trees rest class b h =
+    perhaps_stays (Sign passes) trees (heads_sign (Sign passes) trees rest class b ∙ h)
+
+pub may_end : (passes : Class → Bool) (trees : List TokenTree) → trees ≡ []
+    → Finds (perhaps (Sign passes)) trees trees
+may_end passes trees e = perhaps_stays (Sign passes) trees (heads_none (Sign passes) trees e)
+
+or_nothing : (x y : Bool) → (x || false && y) ≡ x
+or_nothing true y = refl
+or_nothing false y = refl
+
+abi_first : (c : Class) → may_begin rule.abi c ≡ is (signs.Keyword keywords.Extern) c
+abi_first c = or_nothing (is (signs.Keyword keywords.Extern) c) (may_begin (perhaps (one signs.Literal)) c)
+
+pub abi_finds : (trees mid rest : List TokenTree) (class : Class) → BeginsWith trees class mid
+    → is (signs.Keyword keywords.Extern) class ≡ true → Finds (perhaps (one signs.Literal)) mid rest
+    → Finds (perhaps rule.abi) trees rest
+abi_finds trees mid rest class b h f =
+    first_finds rule.abi Nothing trees rest (heads_sign rule.abi trees mid class b ∙ (abi_first class ∙ h))
+    (then_finds (key keywords.Extern) (perhaps (one signs.Literal)) trees mid rest
+    (sign_finds (is (signs.Keyword keywords.Extern)) trees mid class b h) f)
+
+pub abi_stays : (trees rest : List TokenTree) (class : Class) → BeginsWith trees class rest
+    → is (signs.Keyword keywords.Extern) class ≡ false
+    → Finds (perhaps rule.abi) trees trees
+abi_stays trees rest class b h =
+    perhaps_stays rule.abi trees (heads_sign rule.abi trees rest class b ∙ (abi_first class ∙ h))
+
+pub abi_ends : (trees : List TokenTree) → trees ≡ [] → Finds (perhaps rule.abi) trees trees
+abi_ends trees e = perhaps_stays rule.abi trees (heads_none rule.abi trees e)
+
+pub ruleset options = (may_find, may_stay, may_end, abi_finds, abi_stays, abi_ends)
+
+pub qualifiers_find : (trees a b c d rest : List TokenTree) → Finds (perhaps (one (signs.Word words.Default))) trees a
+    → Finds (perhaps (key keywords.Const)) a b → Finds (perhaps (key keywords.Async)) b c
+    → Finds (perhaps (Sign is_safe)) c d → Finds (perhaps rule.abi) d rest
+    → Finds rule.qualifiers trees rest
+qualifiers_find trees a b c d rest default const async safe abi =
+    then_finds _ _ trees a rest default
+    (then_finds _ _ a b rest const
+    (then_finds _ _ b c rest async (then_finds _ _ c d rest safe abi)))
+
+-- ---- trees that are one sign
+
+-- the first sign passes no test that only other trees pass
+no_sign : (passes : Class → Bool) (trees : List TokenTree)
+    → ((sign : signs_in.Sign) (after : List signs_in.Sign) → signs_in.signs trees ≡ sign ∷ after
+    → passes sign.class ≡ true → ⊥)
+    → heads {N = RuleName} {L = Label} (Sign passes) (classes_in trees) ≡ false
+unfolding classes_in
+no_sign passes trees none = go (signs_in.signs trees) refl
+  where
+    first : (sign : signs_in.Sign) (after : List signs_in.Sign) (b : Bool) → signs_in.signs trees ≡ sign ∷ after
+        → passes sign.class ≡ b
+        → b ≡ false
+    first sign after false e h = refl
+    first sign after true e h = absurd (none sign after e h)
+
+    go : (all : List signs_in.Sign) → signs_in.signs trees ≡ all
+        → heads {N = RuleName} {L = Label} (Sign passes) (signs_in.classes_of (signs_in.signs trees)) ≡ false
+    go [] e = rw e refl
+    go (sign ∷ after) e = rw e (first sign after (passes sign.class) e refl)
+
+begins_group : (trees rest : List TokenTree) (g : Grouped) → trees ≡ Group g ∷ rest
+    → BeginsWith trees (group_class g.delimiter g.stream) rest
+begins_group trees rest g whole = record {
+  front = Group g ∷ [];
+  whole = whole;
+  fewer = rw whole (omega arith);
+  read = rw whole (signs_group g rest);
+}
+
+signs_name : (n : Name) (rest : List TokenTree) → signs_in.signs (Ident n ∷ rest)
+    ≡ record { class = name_class n; trees = Ident n ∷ [] } ∷ signs_in.signs rest
+signs_name n [] = refl
+signs_name n (tree ∷ rest) = refl
+
+begins_name : (trees rest : List TokenTree) (n : Name) → trees ≡ Ident n ∷ rest
+    → BeginsWith trees (name_class n) rest
+begins_name trees rest n whole = record {
+  front = Ident n ∷ [];
+  whole = whole;
+  fewer = rw whole (omega arith);
+  read = rw whole (signs_name n rest);
+}
+
+-- ---- names
+
+is_name : (c : Class) → is_word c ≡ true → IsNameClass c
+is_name (signs.Word w) h = tt
+is_name (signs.Keyword k) h = absurd (both_ways _ refl h)
+is_name _ h = absurd (both_ways _ refl h)
+
+is_name_word : (c : Class) → IsNameClass c → is_word c ≡ true
+is_name_word (signs.Word w) h = refl
+is_name_word c h = absurd h
+
+word_sort : (c : Class) → is_word c ≡ true → sort_of c ≡ names
+word_sort (signs.Word w) h = refl
+word_sort (signs.Keyword k) h = absurd (both_ways _ refl h)
+word_sort _ h = absurd (both_ways _ refl h)
+
+pub name_at : (trees rest : List TokenTree) (n : Name) (class : Class) (b : Bool) → trees ≡ Ident n ∷ rest
+    → class ≡ name_class n → b ≡ is_word class → b ≡ true
+    → IsNameAt trees n rest
+name_at trees rest n class b whole named is h =
+    record { whole = whole; is_name = is_name (name_class n) (ap is_word (sym named) ∙ (sym is ∙ h)) }
+
+pub no_name : (trees rest : List TokenTree) (n : Name) (class : Class) (b : Bool) → trees ≡ Ident n ∷ rest
+    → class ≡ name_class n → b ≡ is_word class → b ≡ false
+    → Sticks word trees trees
+no_name trees rest n class b whole named is h =
+    sign_sticks is_word trees rest (name_class n) (begins_name trees rest n whole)
+    (ap is_word (sym named) ∙ (sym is ∙ h))
+
+pub no_ident : (trees : List TokenTree) → ((n : Name) (rest : List TokenTree) → trees ≡ Ident n ∷ rest → ⊥)
+    → Sticks word trees trees
+no_ident trees none =
+    lacks word trees
+    (no_sign is_word trees
+    (λ sign after e h. let at = named trees sign after e (word_sort sign.class h) in none at.0 at.1.more at.1.whole))
+    refl
+
+pub name_finds : (trees rest : List TokenTree) (n : Name) → IsNameAt trees n rest → Finds word trees rest
+name_finds trees rest n at =
+    sign_finds is_word trees rest (name_class n) (begins_name trees rest n at.whole)
+    (is_name_word (name_class n) at.is_name)
+
+pub ruleset names_of = (name_at, no_name, no_ident)
+
+-- ---- parentheses
+
+round_sort : (c : Class) → is_round c ≡ true → sort_of c ≡ groups
+round_sort signs.Parentheses h = refl
+round_sort signs.Restriction h = refl
+round_sort (signs.Word w) h = absurd (both_ways _ refl h)
+round_sort (signs.Keyword k) h = absurd (both_ways _ refl h)
+round_sort _ h = absurd (both_ways _ refl h)
+
+round_class : (f : Forest) → is_round (group_class delimiters.Parenthesis f) ≡ true
+round_class f =
+    elim (is_restriction f) as (λ b. is_round (parentheses_class b) ≡ true) [ true ↦ refl | false ↦ refl ]
+
+round_delimiter : (d : Delimiter) (f : Forest) → is_round (group_class d f) ≡ true → d ≡ delimiters.Parenthesis
+round_delimiter delimiters.Parenthesis f h = refl
+round_delimiter delimiters.Bracket f h = absurd (both_ways _ refl h)
+round_delimiter delimiters.Brace f h = absurd (both_ways _ refl h)
+round_delimiter delimiters.None f h = absurd (both_ways _ (unseen (λ c. is_round c ≡ false) f refl refl) h)
+
+pub are_parentheses : (trees rest : List TokenTree) (g : Grouped) → trees ≡ Group g ∷ rest
+    → g.delimiter ≡ delimiters.Parenthesis
+    → AreParentheses trees g rest
+are_parentheses trees rest g whole round = record { whole = whole; round = round }
+
+pub no_parentheses : (trees : List TokenTree)
+    → ((g : Grouped) (rest : List TokenTree) → trees ≡ Group g ∷ rest → g.delimiter ≡ delimiters.Parenthesis → ⊥)
+    → Sticks (Sign is_round) trees trees
+no_parentheses trees none =
+    lacks (Sign is_round) trees
+    (no_sign is_round trees
+    (λ sign after e h.
+    let at = grouped trees sign after e (round_sort sign.class h) in
+    let class : sign.class ≡ group_class at.0.delimiter at.0.stream = ap (λ s. s.class) at.1.is in
+    none at.0 at.1.more at.1.whole (round_delimiter at.0.delimiter at.0.stream (ap is_round (sym class) ∙ h))))
+    refl
+
+pub parentheses_find : (trees rest : List TokenTree) (g : Grouped) → AreParentheses trees g rest
+    → Finds (Sign is_round) trees rest
+parentheses_find trees rest g at =
+    sign_finds is_round trees rest (group_class g.delimiter g.stream) (begins_group trees rest g at.whole)
+    (ap (λ d. is_round (group_class d g.stream)) at.round ∙ round_class g.stream)
+
+pub ruleset parentheses = (are_parentheses, no_parentheses)
+
+-- ---- return types
+
+begins_as : (trees rest : List TokenTree) (x class : Class) → BeginsWith trees class rest → is x class ≡ true
+    → BeginsWith trees x rest
+begins_as trees rest x class b h = subst (λ c. BeginsWith trees c rest) (same_class x class h) b
+
+arrow_first : (c : Class) → may_begin rule.with_arrow c ≡ is signs.Arrow c
+arrow_first c = or_nothing (is signs.Arrow c) (may_begin (Then (Mark Returns) type) c)
+
+module _ (trees from_type : List TokenTree) (class : Class) (b : BeginsWith trees class from_type)
+    (h : is signs.Arrow class ≡ true) where
+  arrow_heads : heads rule.with_arrow (classes_in trees) ≡ true
+  arrow_heads = heads_sign rule.with_arrow trees from_type class b ∙ (arrow_first class ∙ h)
+
+  pub arrow_finds : (rest : List TokenTree) → Finds type from_type rest → Finds rule.returned trees rest
+  arrow_finds rest f =
+      first_finds rule.with_arrow Nothing trees rest arrow_heads
+      (mark_finds Rest _ trees rest
+      (then_finds (one signs.Arrow) _ trees from_type rest (sign_finds (is signs.Arrow) trees from_type class b h)
+      (mark_finds Returns type from_type rest f)))
+
+  pub arrow_sticks : (left : List TokenTree) → Sticks type from_type left → Sticks rule.returned trees left
+  arrow_sticks left f =
+      first_sticks rule.with_arrow Nothing trees left arrow_heads
+      (mark_sticks Rest _ trees left
+      (then_fails (one signs.Arrow) _ trees from_type left (sign_finds (is signs.Arrow) trees from_type class b h)
+      (mark_sticks Returns type from_type left f)))
+
+  pub arrow_has : (returned rest : List TokenTree) → Finds type from_type rest → from_type ≡ returned ++ rest
+      → HasReturn trees returned rest
+  arrow_has returned rest f whole =
+      inl (record {
+        from_type = from_type;
+        arrow = begins_as trees from_type signs.Arrow class b h;
+        type_read = found_reads type starts_type from_type returned rest f whole;
+      })
+
+pub no_arrow : (trees rest : List TokenTree) (class : Class) → BeginsWith trees class rest
+    → is signs.Arrow class ≡ false
+    → Finds rule.returned trees trees
+no_arrow trees rest class b h =
+    perhaps_stays rule.with_arrow trees (heads_sign rule.with_arrow trees rest class b ∙ (arrow_first class ∙ h))
+
+pub no_arrow_left : (trees : List TokenTree) → trees ≡ [] → Finds rule.returned trees trees
+no_arrow_left trees e = perhaps_stays rule.with_arrow trees (heads_none rule.with_arrow trees e)
+
+pub no_return : (trees returned : List TokenTree) → returned ≡ [] → HasReturn trees returned trees
+no_return trees returned e = inr (e, refl)
+
+pub ruleset returns = (arrow_finds, arrow_sticks, arrow_has, no_arrow, no_arrow_left, no_return)
+
+-- ---- bodies
+
+brace_sort : (c : Class) → is signs.Braces c ≡ true → sort_of c ≡ groups
+brace_sort c h = ap sort_of (same_class signs.Braces c h)
+
+brace_delimiter : (d : Delimiter) (f : Forest) → is signs.Braces (group_class d f) ≡ true → d ≡ delimiters.Brace
+brace_delimiter delimiters.Brace f h = refl
+brace_delimiter delimiters.Bracket f h = absurd (both_ways _ refl h)
+brace_delimiter delimiters.None f h = absurd (both_ways _ (unseen (λ c. is signs.Braces c ≡ false) f refl refl) h)
+brace_delimiter delimiters.Parenthesis f h = absurd (both_ways _ (round f) h)
+  where
+    round : (f : Forest) → is signs.Braces (group_class delimiters.Parenthesis f) ≡ false
+    round f =
+        elim (is_restriction f) as (λ b. is signs.Braces (parentheses_class b) ≡ false)
+        [ true ↦ refl | false ↦ refl ]
+
+braces_heads : (cs : List Class) → heads braces cs ≡ heads (one signs.Braces) cs
+braces_heads [] = refl
+braces_heads (c ∷ cs) = refl
+
+pub body_finds : (trees rest : List TokenTree) (g : Grouped) → trees ≡ Group g ∷ rest → g.delimiter ≡ delimiters.Brace
+    → Finds body_end trees rest
+body_finds trees rest g whole brace =
+    let b = begins_group trees rest g whole in
+    let class : is signs.Braces (group_class g.delimiter g.stream) ≡ true =
+    ap (λ d. is signs.Braces (group_class d g.stream)) brace in
+    first_finds braces semicolon trees rest
+    (braces_heads (classes_in trees)
+    ∙ (heads_sign (one signs.Braces) trees rest (group_class g.delimiter g.stream) b ∙ class))
+    (mark_finds Body (one signs.Braces) trees rest
+    (sign_finds (is signs.Braces) trees rest (group_class g.delimiter g.stream) b class))
+
+-- where no braces are
+module _ (trees : List TokenTree)
+    (none : (g : Grouped) (rest : List TokenTree) → trees ≡ Group g ∷ rest → g.delimiter ≡ delimiters.Brace → ⊥) where
+  no_braces : heads braces (classes_in trees) ≡ false
+  no_braces =
+      braces_heads (classes_in trees)
+      ∙ no_sign (is signs.Braces) trees
+      (λ sign after e h.
+      let at = grouped trees sign after e (brace_sort sign.class h) in
+      let class : sign.class ≡ group_class at.0.delimiter at.0.stream = ap (λ s. s.class) at.1.is in
+      none at.0 at.1.more at.1.whole
+      (brace_delimiter at.0.delimiter at.0.stream (ap (is signs.Braces) (sym class) ∙ h)))
+
+  pub semicolon_finds : (rest : List TokenTree) (class : Class) → BeginsWith trees class rest
+      → is signs.Semicolon class ≡ true
+      → Finds body_end trees rest
+  semicolon_finds rest class b h =
+      other_finds braces semicolon trees rest no_braces refl
+      (mark_finds Rest (one signs.Semicolon) trees rest (sign_finds (is signs.Semicolon) trees rest class b h))
+
+  pub body_sticks : (rest : List TokenTree) (class : Class) → BeginsWith trees class rest
+      → is signs.Semicolon class ≡ false
+      → Sticks body_end trees trees
+  body_sticks rest class b h =
+      other_sticks braces semicolon trees trees no_braces refl
+      (mark_sticks Rest (one signs.Semicolon) trees trees (sign_sticks (is signs.Semicolon) trees rest class b h))
+
+  pub body_ends : trees ≡ [] → Sticks body_end trees trees
+  body_ends e =
+      other_sticks braces semicolon trees trees no_braces refl
+      (mark_sticks Rest (one signs.Semicolon) trees trees (sign_ends (is signs.Semicolon) trees e))
+
+pub semicolon_has : (trees rest : List TokenTree) (class : Class) → BeginsWith trees class rest
+    → is signs.Semicolon class ≡ true
+    → BeginsWith trees signs.Semicolon rest
+semicolon_has trees rest class b h = begins_as trees rest signs.Semicolon class b h
+
+pub ruleset bodies = (body_finds, semicolon_finds, body_sticks, body_ends, semicolon_has)

@@ -1,0 +1,7 @@
+use Rattle.declarations.proofs.FunctionPartLemmas.{no_name}
+use Rattle.declarations.proofs.function.name_of.Goals as goal
+
+pub returns-else-is_name : goal.returns-else-is_name
+returns-else-is_name c =
+    no_name c.args.trees.now c.in-Ok.rest.now c.in-Ok.name.now c.name_class.result c.is_name.result
+    c.in-Ok.ensures.found c.name_class.ensures c.is_name.ensures c.if-is_name.false
