@@ -15,6 +15,9 @@ use std::fmt;
 use std::marker::Model;
 
 /// An identifier or a keyword, raw or plain.
+///
+/// A raw identifier is written with `r#`. Its text has the `r#` too: that of `r#fn` is `r#fn`, and `r#fn` is not equal
+/// to the text `fn`.
 #[derive(Drop)]
 pub struct Ident {
     name: Name,
