@@ -10,6 +10,12 @@ use std::error::Error;
 use std::fmt;
 
 /// An error: where trees do not fit the grammar.
+///
+/// The grammar reads trees by signs. A sign is one tree, or a few trees that belong together, such as those of `->`,
+/// `::` and `'a`. A group is one tree, and its span is that of the whole group with its delimiters. The text of the
+/// error is "not expected here" if there is a span, and "the declaration ends too early" if there is none.
+///
+/// In `struct S { } x` the error is after 3 trees, at `x`. In `struct S` it is after 2 trees, and has no span.
 #[derive(Clone, Copy, Debug)]
 pub struct Fault {
     /// The number of trees before the first sign that does not fit. It is the number of all trees if more are missing.

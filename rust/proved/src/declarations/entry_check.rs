@@ -13,7 +13,8 @@ use crate::shim::fmt::Display;
 /// The kind of error in a list of entries.
 #[derive(Clone, Copy, Debug, PartialEq, Eq)]
 pub enum EntryProblem {
-    /// There is no entry here, or neither a `,` nor the end of the list comes after it.
+    /// No entry can be read here, or the entry has something after it that is no `,`. In `skip rename` the error is at
+    /// `rename`, as it is in `skip, = rename` at the `=`.
     NoEntry,
     /// The entry has none of the known names. A literal, or a path of several segments, never has one.
     Unknown,

@@ -7,8 +7,9 @@ use crate::pm_token::Ident;
 
 /// Returns whether the identifier is a keyword of the grammar, and so cannot be a name.
 ///
-/// The keywords are `_` and the strict and reserved keywords of Rust 2021, except `try`. For example, `struct` is a
-/// keyword, and `union`, `r#struct` and `auto` are none.
+/// The keywords are `_` and the strict and reserved keywords of Rust 2021, except `try`. `self`, `Self`, `super` and
+/// `crate` are among them, and so are `true` and `false`. For example, `struct` is a keyword, and `union`, `r#struct`
+/// and `auto` are none.
 ///
 /// # Contract
 ///
