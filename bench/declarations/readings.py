@@ -328,6 +328,10 @@ PARTS = [
 PROVED = [
     ("parameter", "Parts.parameter", [
         "Const Word Colon Equals Minus Literal Braces Truth", "Hash Brackets Lifetime Colon Word Plus Equals"]),
+    ("function_item", "Functions.function_item", [
+        "Hash Brackets Pub Restriction Visibility Fn Word Parentheses Semicolon",
+        "Default Const Async Unsafe Safe Extern Literal Fn Word Parentheses Braces",
+        "Fn Word Less Greater Parentheses Restriction Arrow Where Colon Semicolon"]),
     ("receiver", "Parameters.receiver", ["And Lifetime Mut SelfValue Word Colon"]),
     ("pattern", "Parameters.pattern", [
         "Word Mut And Braces Parentheses Colon", "Word PathSeparator Less Greater Comma Braces",

@@ -1,6 +1,8 @@
 //! Why syn has a part otherwise.
 use crate::every::Entry;
-use syn::DeriveInput;
+use crate::functions::Function;
+use syn::spanned::Spanned;
+use syn::{DeriveInput, FnArg};
 
 /// An item that syn has, but not as a derive would be given it.
 pub const NO_DERIVE: &str = "syn has an item that it doesn't take for a derive";
@@ -23,6 +25,17 @@ pub fn of_part(name: &str, theirs: &str, ours: &str) -> Option<&'static str> {
 pub fn of_refusal(item: &DeriveInput) -> Option<&'static str> {
     let is_nameless = item.generics.type_params().any(|parameter| parameter.ident == "_");
     is_nameless.then_some("syn reads `_` as the name of a type parameter")
+}
+
+/// The cause, if one explains that ours refuses the function.
+pub fn of_refused_function(function: &Function) -> Option<&'static str> {
+    // For a type alone syn makes a pattern and a colon that have the place of the type.
+    let is_nameless = |input: &FnArg| match input {
+        FnArg::Typed(typed) => typed.pat.span().start() == typed.colon_token.span().start(),
+        FnArg::Receiver(_) => false,
+    };
+    let is_nameless = function.signature.inputs.iter().any(is_nameless);
+    is_nameless.then_some("syn reads a parameter that is a type alone, as edition 2015 has in traits")
 }
 
 /// The cause, if one explains that an item of a file differs.

@@ -1,11 +1,13 @@
-//! Compares what files declare, and all parts of structs, enums and unions, as the crate `declarations` and syn 2 have
-//! them.
+//! Compares what files declare, and all parts of structs, enums, unions, functions and attributes, as the crate
+//! `declarations` and syn 2 have them.
 //!
 //! Its words are folders of Rust files. It prints each difference that has no cause in `cause.rs`, with its file and
 //! item, and counts; the status is 1 if there is one.
 mod cause;
 mod every;
+mod functions;
 mod items;
+mod lists;
 mod ours;
 mod parts;
 mod theirs;
@@ -17,7 +19,8 @@ use proved_tokens::pm_stream::TokenStream as OwnStream;
 use std::collections::BTreeMap;
 use std::path::{Path, PathBuf};
 use std::{env, fs, io, process, thread};
-use syn::DeriveInput;
+use syn::parse::Parser;
+use syn::{Attribute, DeriveInput};
 use times::{Lexed, Times};
 
 /// Files of the compiler's tests nest deep.
@@ -28,12 +31,17 @@ struct Counts {
     files: usize,
     unread_files: usize,
     items: usize,
+    functions: usize,
+    attributes: usize,
+    lists: usize,
+    unread_lists: usize,
     parts: usize,
     entries: usize,
     by_cause: BTreeMap<&'static str, usize>,
     without_cause: usize,
     times: Times,
     times_of_files: Times,
+    times_of_functions: Times,
 }
 
 impl Counts {
@@ -46,6 +54,8 @@ impl Counts {
             Ok(file) => {
                 self.entries(path, without_shebang(&text), &file);
                 self.items(path, items::item_texts(&file));
+                self.functions(path, functions::texts(&file));
+                self.attributes(path, lists::texts(&file));
             }
             Err(_) => self.unread_files += 1,
         }
@@ -103,20 +113,63 @@ impl Counts {
         self.times.add(&lexed);
     }
 
+    fn functions(&mut self, path: &Path, texts: Vec<String>) {
+        let mut map = SourceMap::new();
+        let mut lexed = Vec::new();
+        for text in texts {
+            self.functions += 1;
+            let theirs: proc_macro2::TokenStream = text.parse().expect("syn has read the text");
+            let function: functions::Function = syn::parse2(theirs.clone()).expect("syn has read the function");
+            let ours = OwnStream::from_str(&text, &mut map).expect("ours has read the file");
+            let mut found = Vec::new();
+            let read = functions::each_part(ours.trees(), |name, piece| found.push(Part::of_piece(name, piece)));
+            match read {
+                Ok(()) => self.compare(path, &text, &functions::theirs(&function), &found),
+                Err(refusal) => {
+                    let cause = cause::of_refused_function(&function);
+                    self.differ(cause, path, &text, &format!("ours refuses it: {refusal:?}"));
+                }
+            }
+            lexed.push(Lexed { theirs, ours });
+        }
+        self.times_of_functions.add_functions(&lexed);
+    }
+
+    fn attributes(&mut self, path: &Path, texts: Vec<String>) {
+        let mut map = SourceMap::new();
+        for text in texts {
+            self.attributes += 1;
+            let is_inner = text[1..].trim_start().starts_with('!');
+            let parser = if is_inner { Attribute::parse_inner } else { Attribute::parse_outer };
+            let theirs = parser.parse_str(&text).expect("syn has read the attribute").remove(0);
+            let (theirs, read) = lists::theirs(&theirs);
+            self.lists += read.iter().filter(|read| **read).count();
+            self.unread_lists += read.iter().filter(|read| !**read).count();
+            let ours = OwnStream::from_str(&text, &mut map).expect("ours has read the file");
+            match lists::ours(ours.trees(), &read) {
+                Ok(found) => self.compare(path, &text, &theirs, &found),
+                Err(refusal) => self.differ(None, path, &text, &format!("ours refuses it: {refusal:?}")),
+            }
+        }
+    }
+
     fn item(&mut self, path: &Path, text: &str, item: &DeriveInput, ours: &OwnStream) {
         let mut found = Vec::new();
         if let Err(refusal) = ours::each_part(ours.trees(), |name, piece| found.push(Part::of_piece(name, piece))) {
             self.differ(cause::of_refusal(item), path, text, &format!("ours refuses it: {refusal:?}"));
             return;
         }
+        self.compare(path, text, &theirs::parts(item), &found);
+    }
+
+    fn compare(&mut self, path: &Path, text: &str, theirs: &[Part], found: &[Part]) {
         self.parts += found.len();
-        let theirs = theirs::parts(item);
         let names = |parts: &[Part]| parts.iter().map(|part| part.name).collect::<Vec<_>>();
-        if names(&theirs) != names(&found) {
+        if names(theirs) != names(found) {
             self.differ(None, path, text, "other parts");
             return;
         }
-        for (theirs, ours) in theirs.iter().zip(&found).filter(|(theirs, ours)| theirs != ours) {
+        for (theirs, ours) in theirs.iter().zip(found).filter(|(theirs, ours)| theirs != ours) {
             let told = format!("{}\n  syn:  {}\n  ours: {}", ours.name, theirs.tokens, ours.tokens);
             self.differ(cause::of_part(ours.name, &theirs.tokens, &ours.tokens), path, text, &told);
         }
@@ -136,6 +189,9 @@ impl Counts {
         println!("files {}, of which syn doesn't read {}", self.files, self.unread_files);
         println!("items of all kinds {}", self.entries);
         println!("structs, enums and unions {}", self.items);
+        println!("functions {}", self.functions);
+        println!("attributes {}, with lists that syn reads {}", self.attributes, self.lists);
+        println!("lists that syn keeps as tokens {}", self.unread_lists);
         println!("parts {}", self.parts);
         for (cause, count) in &self.by_cause {
             println!("differences {count}: {cause}");
@@ -143,6 +199,7 @@ impl Counts {
         println!("differences without a cause {}", self.without_cause);
         self.times_of_files.print("files");
         self.times.print("structs, enums and unions");
+        self.times_of_functions.print("functions without bodies");
     }
 }
 

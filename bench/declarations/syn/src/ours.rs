@@ -10,8 +10,10 @@ use proved_tokens::pm_token::{Delimiter, Ident};
 pub enum Piece<'a> {
     Trees(&'a [TokenTree]),
     Name(&'a Ident),
-    /// The delimiters of fields, which come after it as parts of their own.
+    /// The delimiters of fields, which come after it as parts of their own, or those of a body.
     Delimiters(Option<Delimiter>),
+    /// The `...` of a variadic parameter.
+    Dots,
 }
 
 /// Why an item isn't read.
@@ -55,20 +57,21 @@ pub fn each_part<'a>(trees: &'a [TokenTree], part: impl FnMut(&'static str, Piec
     Ok(())
 }
 
-struct Parts<F> {
-    part: F,
+/// Takes the parts of a declaration, one after the other.
+pub struct Parts<F> {
+    pub part: F,
 }
 
 impl<'a, F: FnMut(&'static str, Piece<'a>)> Parts<F> {
-    fn trees(&mut self, name: &'static str, trees: &'a [TokenTree]) {
+    pub fn trees(&mut self, name: &'static str, trees: &'a [TokenTree]) {
         (self.part)(name, Piece::Trees(trees));
     }
 
-    fn name(&mut self, name: &'static str, ident: &'a Ident) {
+    pub fn name(&mut self, name: &'static str, ident: &'a Ident) {
         (self.part)(name, Piece::Name(ident));
     }
 
-    fn attributes(&mut self, trees: &'a [TokenTree]) {
+    pub fn attributes(&mut self, trees: &'a [TokenTree]) {
         trees.chunks(2).for_each(|attribute| self.trees("attribute", attribute));
     }
 

@@ -28,6 +28,7 @@ impl Part {
             Piece::Name(ident) => part.push(ident),
             Piece::Delimiters(Some(delimiter)) => delimiters(delimiter).into_iter().for_each(|mark| part.push(mark)),
             Piece::Delimiters(None) => {}
+            Piece::Dots => (0..3).for_each(|_| part.push('.')),
         }
         part
     }

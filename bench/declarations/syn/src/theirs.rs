@@ -5,7 +5,7 @@ use syn::{Attribute, Data, DeriveInput, Fields, Generics, Variant, Visibility, W
 
 /// The parts in the order of [`TypeItem`](proved_tokens::declarations::TypeItem).
 pub fn parts(item: &DeriveInput) -> Vec<Part> {
-    let mut found = Parts(Vec::new());
+    let mut found = Parts::default();
     found.attributes(&item.attrs);
     found.part("visibility", &item.vis);
     match &item.data {
@@ -14,7 +14,8 @@ pub fn parts(item: &DeriveInput) -> Vec<Part> {
         Data::Union(body) => found.part("keyword", &body.union_token),
     }
     found.part("name", &item.ident);
-    found.generics(&item.generics);
+    found.parameters(&item.generics);
+    found.where_clause(&item.generics);
     match &item.data {
         Data::Struct(body) => {
             found.fields(&body.fields);
@@ -23,25 +24,33 @@ pub fn parts(item: &DeriveInput) -> Vec<Part> {
         Data::Enum(body) => body.variants.iter().for_each(|variant| found.variant(variant)),
         Data::Union(body) => found.fields(&Fields::Named(body.fields.clone())),
     }
-    found.0
+    found.found
 }
 
-struct Parts(Vec<Part>);
+/// The parts that are found, one after the other.
+#[derive(Default)]
+pub struct Parts {
+    pub found: Vec<Part>,
+}
 
 impl Parts {
-    fn part(&mut self, name: &'static str, tokens: &impl ToTokens) {
-        self.0.push(Part::of_stream(name, tokens.to_token_stream()));
+    pub fn part(&mut self, name: &'static str, tokens: &impl ToTokens) {
+        self.found.push(Part::of_stream(name, tokens.to_token_stream()));
     }
 
-    fn attributes(&mut self, attributes: &[Attribute]) {
+    pub fn attributes(&mut self, attributes: &[Attribute]) {
         attributes.iter().for_each(|attribute| self.part("attribute", attribute));
     }
 
-    /// The parameters and the where clause in the order of the source, which syn prints otherwise.
-    fn generics(&mut self, generics: &Generics) {
-        let Generics { lt_token, params, gt_token, where_clause } = generics;
+    /// The generic parameters in the order of the source, which syn prints otherwise.
+    pub fn parameters(&mut self, generics: &Generics) {
+        let Generics { lt_token, params, gt_token, .. } = generics;
         self.part("generics", &quote!(#lt_token #params #gt_token));
-        let clause = where_clause.as_ref().map(|WhereClause { where_token, predicates }| {
+    }
+
+    /// The where clause in the order of the source.
+    pub fn where_clause(&mut self, generics: &Generics) {
+        let clause = generics.where_clause.as_ref().map(|WhereClause { where_token, predicates }| {
             quote!(#where_token #predicates)
         });
         self.part("where clause", &clause);

@@ -1,4 +1,5 @@
 //! Times of both sides on the same items, lexed before.
+use crate::functions::{self, Function};
 use crate::{every, ours};
 use proved_tokens::pm_stream::TokenStream as OwnStream;
 use std::hint::black_box;
@@ -39,6 +40,23 @@ impl Times {
         self.ours += least(|| {
             for item in items {
                 let found = ours::each_part(item.ours.trees(), |name, piece| {
+                    black_box((name, piece));
+                });
+                drop(black_box(found));
+            }
+        });
+    }
+
+    /// Adds the least times of some runs over functions with their parameters, whose bodies are empty.
+    pub fn add_functions(&mut self, functions: &[Lexed]) {
+        self.theirs += least(|| {
+            for function in functions {
+                drop(black_box(syn::parse2::<Function>(function.theirs.clone())));
+            }
+        });
+        self.ours += least(|| {
+            for function in functions {
+                let found = functions::each_part(function.ours.trees(), |name, piece| {
                     black_box((name, piece));
                 });
                 drop(black_box(found));
