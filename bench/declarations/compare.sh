@@ -1,6 +1,6 @@
 #!/usr/bin/env bash
-# Compares all items in folders of Rust files with syn 2, by kind, name and extent, and structs, enums, unions, functions
-# and attributes part by part, and times both.
+# Compares all items in folders of Rust files with syn 2, by kind, name and extent. Structs, enums, unions, functions
+# and attributes are compared part by part. It times both.
 #
 #   bench/declarations/compare.sh FOLDER..
 #

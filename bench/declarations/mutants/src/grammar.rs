@@ -31,8 +31,12 @@ impl Grammar {
     pub fn new(text: &str) -> Grammar {
         let lines = text.lines().filter(|line| !line.starts_with('#'));
         let lines: Vec<_> = lines.filter_map(|line| line.split_once('=')).collect();
-        let mut grammar =
-            Grammar { forms: Vec::new(), signs: HashMap::new(), rules: HashMap::new(), bodies: vec![None; lines.len()] };
+        let mut grammar = Grammar {
+            forms: Vec::new(),
+            signs: HashMap::new(),
+            rules: HashMap::new(),
+            bodies: vec![None; lines.len()],
+        };
         for (number, (name, _)) in lines.iter().enumerate() {
             let before = grammar.rules.insert(name.trim().to_string(), number);
             assert!(before.is_none(), "two rules have the name {name}");
@@ -169,12 +173,20 @@ impl Chart<'_> {
             Form::Sign(sign) => {
                 self.reached |= 1 << at;
                 let is_next = self.signs.get(at).is_some_and(|next| *next == Some(*sign));
-                if is_next { 1 << (at + 1) } else { 0 }
+                if is_next {
+                    1 << (at + 1)
+                } else {
+                    0
+                }
             }
             Form::Not(sign) => {
                 self.reached |= 1 << at;
                 let is_next = self.signs.get(at).is_some_and(|next| *next == Some(*sign));
-                if is_next { 0 } else { 1 << at }
+                if is_next {
+                    0
+                } else {
+                    1 << at
+                }
             }
             Form::All(parts) => parts.iter().fold(1 << at, |starts, part| self.from(*part, starts)),
             Form::Any(branches) => branches.iter().fold(0, |ends, branch| ends | self.ends(*branch, at)),

@@ -7,7 +7,9 @@ mod grammar;
 
 use grammar::Grammar;
 use proved_tokens::error::Fault;
-use proved_tokens::items::{first_sign, parse_file, parse_function, parse_item, parse_type_item, Class, ItemKind, Word};
+use proved_tokens::items::{
+    first_sign, parse_file, parse_function, parse_item, parse_type_item, Class, ItemKind, Word,
+};
 use proved_tokens::{Delimiter, Group, TokenStream, TokenTree};
 use std::collections::BTreeMap;
 use std::path::{Path, PathBuf};
@@ -22,7 +24,8 @@ const RARE: &str = "
     trait I = J + K; pub trait L<T> = M<T> where T: N; trait O<'a> = P<'a> + 'a;
     macro q($r:expr) { $r } pub macro s { ($t:ty) => {} } #[u] macro v() {}
     extern crate w; pub extern crate x as y; #[macro_use] extern crate z as _; extern crate self as a1;
-    extern \"C\" { fn b1(); } unsafe extern \"C\" { safe fn c1(); } extern { static d1: u8; } #[link] extern \"system\" {}
+    extern \"C\" { fn b1(); } unsafe extern \"C\" { safe fn c1(); } extern { static d1: u8; }
+    #[link] extern \"system\" {}
     static e1: u8 = 1; pub static mut f1: [u8; 2] = [1, 2]; static g1: fn(u8) -> u8 = h1;
 ";
 

@@ -12,9 +12,8 @@ pub fn of_part(name: &str, theirs: &str, ours: &str) -> Option<&'static str> {
     if name == "visibility of a variant" && theirs.is_empty() {
         return Some("syn drops a variant's visibility");
     }
-    let [mut theirs, mut ours] = [theirs, ours].map(|tokens| {
-        tokens.split(' ').filter(|token| *token != ",").collect::<Vec<_>>()
-    });
+    let [mut theirs, mut ours] =
+        [theirs, ours].map(|tokens| tokens.split(' ').filter(|token| *token != ",").collect::<Vec<_>>());
     let is_order = theirs != ours && theirs.contains(&"'");
     theirs.sort_unstable();
     ours.sort_unstable();

@@ -9,8 +9,8 @@ use syn::parse::{Parse, ParseStream};
 use syn::spanned::Spanned;
 use syn::visit::{self, Visit};
 use syn::{
-    Attribute, Block, File, FnArg, ForeignItemFn, ImplItemFn, ItemFn, Receiver, ReturnType, Signature, Token, TraitItemFn,
-    Variadic, Visibility,
+    Attribute, Block, File, FnArg, ForeignItemFn, ImplItemFn, ItemFn, Receiver, ReturnType, Signature, Token,
+    TraitItemFn, Variadic, Visibility,
 };
 
 /// The source texts of all functions of the file at any depth, outside of macros, with `{}` for each body.

@@ -50,9 +50,10 @@ impl Parts {
 
     /// The where clause in the order of the source.
     pub fn where_clause(&mut self, generics: &Generics) {
-        let clause = generics.where_clause.as_ref().map(|WhereClause { where_token, predicates }| {
-            quote!(#where_token #predicates)
-        });
+        let clause = generics
+            .where_clause
+            .as_ref()
+            .map(|WhereClause { where_token, predicates }| quote!(#where_token #predicates));
         self.part("where clause", &clause);
     }
 
