@@ -1,6 +1,7 @@
 //! From proved tokens back to the caller's.
+use crate::literals::made_literal;
 use crate::spans::{NoToken, Spans};
-use proc_macro2::{Delimiter, Group, Ident, Literal, Punct, Spacing, Span, TokenStream, TokenTree};
+use proc_macro2::{Delimiter, Group, Ident, Punct, Spacing, Span, TokenStream, TokenTree};
 use proved_tokens::pm_stream::{Group as OwnGroup, TokenStream as OwnStream, TokenTree as OwnTree};
 use proved_tokens::pm_token::parts::{is_raw, name_of};
 use proved_tokens::pm_token::{Delimiter as OwnDelimiter, Ident as OwnIdent, Spacing as OwnSpacing};
@@ -31,22 +32,30 @@ impl<'a> Level<'a> {
         }
     }
 
-    /// The next tree is the caller's own: the number is its first one, and the other comes after its last.
-    fn keep(&mut self, number: usize, after: usize, own: impl FnOnce() -> TokenTree, spans: &Spans) {
-        if self.number == Some(number) {
-            self.number = Some(after);
-            self.done += 1;
-        } else {
-            self.put(own(), spans);
-        }
+    /// The next trees are tokens, up to a group or to one that the caller's crate can't have.
+    fn put_tokens(&mut self, spans: &Spans, call_site: Span) {
+        self.settle(spans);
+        let mut tokens = Tokens { left: &self.trees[self.done..], spans, call_site };
+        self.made.extend(&mut tokens);
+        self.done = self.trees.len() - tokens.left.len();
     }
 
-    /// The next tree comes to be this one.
-    #[inline]
-    fn put(&mut self, tree: TokenTree, spans: &Spans) {
+    /// The next tree is a group, which comes to be this one.
+    fn put_group(&mut self, group: Group, spans: &Spans) {
         self.settle(spans);
-        self.made.extend(iter::once(tree));
+        self.made.extend(iter::once(TokenTree::Group(group)));
         self.done += 1;
+    }
+
+    /// Whether the next tree is the next one of the caller's group, as all before it. Its number and the one after its
+    /// last tree are given.
+    fn keeps(&mut self, number: usize, after: usize) -> bool {
+        let is_next = self.number == Some(number);
+        if is_next {
+            self.number = Some(after);
+            self.done += 1;
+        }
+        is_next
     }
 
     /// The list isn't the group's own as a whole, so it is made.
@@ -73,25 +82,39 @@ pub fn from_proved(stream: &OwnStream, spans: &Spans) -> Result<TokenStream, NoT
     loop {
         match here.trees.get(here.done) {
             Some(OwnTree::Group(group)) => outer.push(mem::replace(&mut here, Level::of_group(group, spans))),
-            Some(token) => match kept(token, spans) {
-                Some((number, own)) => here.keep(number, number + 1, || own.clone(), spans),
-                None => here.put(made(token, spans, call_site)?, spans),
-            },
+            Some(token) => {
+                if here.number.is_some() && kept(token, spans).is_some() {
+                    let number = Spans::first(token.span()).unwrap_or(0);
+                    if here.keeps(number, number + 1) {
+                        continue;
+                    }
+                }
+                let before = here.done;
+                here.put_tokens(spans, call_site);
+                if here.done == before {
+                    return Err(NoToken::new(&token.to_string(), spans.span(token.span())));
+                }
+            }
             None => {
                 let (Some(group), Some(around)) = (here.group, outer.pop()) else {
                     return Ok(here.made);
                 };
                 let mut closed = mem::replace(&mut here, around);
                 let place = group.span();
-                match (Spans::first(place), spans.group(place).filter(|(_, end)| closed.number == Some(*end))) {
-                    (Some(first), Some((own, end))) => here.keep(first, end, || own.clone().into(), spans),
-                    (first, _) => {
+                let first = Spans::first(place);
+                match (first, spans.group(place).filter(|(_, end)| closed.number == Some(*end))) {
+                    (Some(first), Some((own, end))) => {
+                        if !here.keeps(first, end) {
+                            here.put_group(own.clone(), spans);
+                        }
+                    }
+                    _ => {
                         closed.settle(spans);
                         let mut made = Group::new(delimiter(group.delimiter()), closed.made);
                         if first.is_some() {
                             made.set_span(spans.span(place));
                         }
-                        here.put(made.into(), spans);
+                        here.put_group(made, spans);
                     }
                 }
             }
@@ -99,10 +122,40 @@ pub fn from_proved(stream: &OwnStream, spans: &Spans) -> Result<TokenStream, NoT
     }
 }
 
-/// The caller's token that this one was, with its number, if it wasn't changed.
-#[inline]
-fn kept<'a>(tree: &OwnTree, spans: &'a Spans) -> Option<(usize, &'a TokenTree)> {
-    let number = Spans::first(tree.span())?;
+/// The caller's tokens of these trees. It ends before a group, and before what the caller's crate can't have.
+struct Tokens<'a> {
+    left: &'a [OwnTree],
+    spans: &'a Spans,
+    call_site: Span,
+}
+
+impl Iterator for &mut Tokens<'_> {
+    type Item = TokenTree;
+
+    #[inline]
+    fn next(&mut self) -> Option<TokenTree> {
+        let tree = self.left.first()?;
+        let token = if Spans::first(tree.span()).is_none() { made(tree, self.call_site)? } else { self.placed(tree)? };
+        self.left = &self.left[1..];
+        Some(token)
+    }
+}
+
+impl Tokens<'_> {
+    /// The caller's token of a tree that stands for one of the caller's spans.
+    fn placed(&self, tree: &OwnTree) -> Option<TokenTree> {
+        if let Some(own) = kept(tree, self.spans) {
+            return Some(own.clone());
+        }
+        let span = self.spans.span(tree.span());
+        let mut token = made(tree, span)?;
+        token.set_span(span);
+        Some(token)
+    }
+}
+
+/// The caller's token that this one was, if it wasn't changed.
+fn kept<'a>(tree: &OwnTree, spans: &'a Spans) -> Option<&'a TokenTree> {
     let (token, was) = spans.token(tree.span())?;
     let is_same = match (token, was, tree) {
         (_, Some(OwnTree::Ident(was)), OwnTree::Ident(ident)) => {
@@ -114,34 +167,19 @@ fn kept<'a>(tree: &OwnTree, spans: &'a Spans) -> Option<(usize, &'a TokenTree)> 
         }
         _ => false,
     };
-    is_same.then_some((number, token))
+    is_same.then_some(token)
 }
 
-/// The caller's token that is made of this one, which is no group. A new one has the call site by itself, but for what
-/// is read from a text.
-#[inline]
-fn made(tree: &OwnTree, spans: &Spans, call_site: Span) -> Result<TokenTree, NoToken> {
-    let span = || if Spans::first(tree.span()).is_some() { spans.span(tree.span()) } else { call_site };
-    Ok(match tree {
-        OwnTree::Ident(ident) => {
-            let span = span();
-            TokenTree::Ident(identifier(ident, span).ok_or_else(|| NoToken::new(&ident.to_string(), span))?)
-        }
-        OwnTree::Literal(literal) => {
-            let (read, span) = (literal.text().parse::<Literal>(), span());
-            let mut read = read.map_err(|_| NoToken::new(literal.text(), span))?;
-            read.set_span(span);
-            TokenTree::Literal(read)
-        }
-        OwnTree::Punct(punct) => {
-            let mut mark = Punct::new(punct.as_char(), spacing(punct.spacing()));
-            if Spans::first(punct.span()).is_some() {
-                mark.set_span(span());
-            }
-            TokenTree::Punct(mark)
-        }
-        OwnTree::Group(_) => unreachable!("a group is no token"),
-    })
+/// The caller's token that is made of this one, if it is no group and the caller's crate can have it. The span is that
+/// of an identifier. Other tokens have the call site.
+#[cfg_attr(not(debug_assertions), inline(always))]
+fn made(tree: &OwnTree, span: Span) -> Option<TokenTree> {
+    match tree {
+        OwnTree::Punct(punct) => Some(Punct::new(punct.as_char(), spacing(punct.spacing())).into()),
+        OwnTree::Ident(ident) => Some(TokenTree::Ident(identifier(ident, span)?)),
+        OwnTree::Literal(literal) => Some(TokenTree::Literal(made_literal(literal.text())?)),
+        OwnTree::Group(_) => None,
+    }
 }
 
 /// The caller's identifier of this name. One past ASCII is read as a text by the tables of the caller's crate, which

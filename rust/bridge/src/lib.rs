@@ -23,6 +23,7 @@
 mod back;
 #[cfg(feature = "declarations")]
 mod expand;
+mod literals;
 mod over;
 #[cfg(feature = "pretty_printer")]
 mod pretty;

@@ -105,7 +105,11 @@ impl Spans {
 
     /// The first number of a span that stands for one of the caller's.
     pub(crate) fn first(place: Place) -> Option<usize> {
-        bounds(place).0.checked_sub(FIRST).map(|index| index as usize)
+        let (lo, _) = bounds(place);
+        if lo < FIRST {
+            return None;
+        }
+        Some((lo - FIRST) as usize)
     }
 
     /// Numbers an entry. Past the last number it is the call site.

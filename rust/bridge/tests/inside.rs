@@ -1,6 +1,6 @@
 //! Streams go over and come back inside macros, where the tokens are the compiler's.
 #![allow(clippy::all)] // Forms as callers may write them.
-use inside::{lines_and_columns, more, there_and_back};
+use inside::{lines_and_columns, literals_as_read, more, there_and_back};
 
 pub const ONE: u8 = 1;
 
@@ -71,4 +71,22 @@ fn each_token_and_delimiter_has_its_span() {
       ) 'c');
     let wanted = [(1, 35), (2, 9), (2, 10), (2, 12), (3, 7), (3, 9)];
     assert_eq!(told, wanted.map(|(line, column)| (from + line, column)));
+}
+
+#[test]
+fn new_literals_are_those_that_the_compiler_reads() {
+    let integers = literals_as_read! {
+        0 1 10 007 1_0 18446744073709551615 18446744073709551616 340282366920938463463374607431768211455
+        0u8 255u8 256u8 65535u16 65536u16 7u32 4294967296u32 8u64 9usize 9u128 1i8 128i8 2i16 2147483647i32
+        2147483648i32 9223372036854775807i64 9223372036854775808i64 1isize 1i128 01u8 1_u8 0x1F 0xFFu8 0o17
+        0b1_1u16 1f32 1e3 1E3 1.0 2.5f64 1. 1e-3f64 1_0.5e-1
+    };
+    let characters = literals_as_read! {
+        'a' ' ' '~' '"' '\'' '\\' '\n' '\0' '\x41' '\u{41}' 'é' b'a' b' ' b'"' b'\'' b'\\' b'\xFF'
+    };
+    let strings = literals_as_read! {
+        "" "a" "it's" "a b~" "\"" "\'" "\\" "\n" "\x41" "é" "a
+        b" r"" r"a" r#"a"b"# b"" b"a b" b"it's" b"\"" b"\xFF" b"\0" br"a" br#"""# c"a" c"\xFF" cr"a"
+    };
+    assert_eq!((integers, characters, strings), (41, 17, 25));
 }

@@ -154,6 +154,7 @@ macro_rules! errors {
         $(
             $(#[$attribute])*
             impl From<$name> for CompileError {
+                #[inline]
                 fn from(error: $name) -> CompileError {
                     let span: Option<Span> = None$(.or({
                         let $error = &error;

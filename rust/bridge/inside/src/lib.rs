@@ -1,5 +1,5 @@
 //! Macros for the tests of `proved-macros`: they run inside the compiler, and so on the compiler's tokens.
-use proc_macro2::{Delimiter, Group, Span, TokenStream, TokenTree};
+use proc_macro2::{Delimiter, Group, Literal, Span, TokenStream, TokenTree};
 use proved_macros::proved_tokens::pm_stream::{Group as OwnGroup, TokenStream as OwnStream, TokenTree as OwnTree};
 use proved_macros::proved_tokens::pm_token::Delimiter as OwnDelimiter;
 use proved_macros::{from_proved, to_proved, Spans};
@@ -86,4 +86,26 @@ fn with_span(stream: TokenStream, span: Span) -> TokenStream {
         tree
     });
     trees.collect()
+}
+
+/// Compares each literal that is made of a new one with what the compiler reads from its text, in all that `Debug`
+/// shows, and answers how many there were.
+#[proc_macro]
+pub fn literals_as_read(input: proc_macro::TokenStream) -> proc_macro::TokenStream {
+    let mut count = 0;
+    for tree in TokenStream::from(input) {
+        let text = tree.to_string();
+        let own = OwnStream::parse_unmapped(&text).expect("the compiler read it");
+        let made = from_proved(&own, &Spans::new()).expect("the compiler has it").into_iter();
+        let read = text.parse::<TokenStream>().expect("the compiler read it").into_iter();
+        let all_shown = |trees: proc_macro2::token_stream::IntoIter| {
+            trees.map(|mut tree| {
+                tree.set_span(Span::call_site());
+                format!("{tree:?} {tree}")
+            })
+        };
+        assert!(all_shown(made).eq(all_shown(read)), "{text}");
+        count += 1;
+    }
+    TokenStream::from(TokenTree::from(Literal::usize_unsuffixed(count))).into()
 }

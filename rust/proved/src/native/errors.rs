@@ -9,6 +9,7 @@ macro_rules! errors {
         $(
             $(#[$attribute])*
             impl Error for $name {
+                #[inline]
                 fn source(&self) -> Option<&(dyn Error + 'static)> {
                     $(
                         use $name as Of;

@@ -57,6 +57,7 @@ macro_rules! streams {
         $(
             /// The stream of this token alone.
             impl From<$token> for TokenStream {
+                #[inline]
                 fn from(token: $token) -> TokenStream {
                     TokenTree::from(token).into()
                 }

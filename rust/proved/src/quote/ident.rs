@@ -78,6 +78,7 @@ macro_rules! shown {
         $(
             /// Writes what `Display` writes.
             impl IdentFragment for $kind {
+                #[inline]
                 fn fmt(&self, f: &mut fmt::Formatter<'_>) -> fmt::Result {
                     fmt::Display::fmt(self, f)
                 }
@@ -94,10 +95,12 @@ macro_rules! pointers {
         $(
             /// Writes the part that the pointer points to.
             impl<$($sign)*> IdentFragment for $pointer {
+                #[inline]
                 fn fmt(&self, f: &mut fmt::Formatter<'_>) -> fmt::Result {
                     IdentFragment::fmt(&**self, f)
                 }
 
+                #[inline]
                 fn span(&self) -> Option<Span> {
                     IdentFragment::span(&**self)
                 }
@@ -131,6 +134,7 @@ impl<T: IdentFragment + ?Sized> fmt::Display for Part<'_, T> {
 macro_rules! bases {
     ($($base:ident)*) => {
         $(impl<T: fmt::$base + ?Sized> fmt::$base for Part<'_, T> {
+            #[inline]
             fn fmt(&self, f: &mut fmt::Formatter<'_>) -> fmt::Result {
                 fmt::$base::fmt(self.0, f)
             }

@@ -177,16 +177,19 @@ macro_rules! lists {
     ($([$($sign:tt)*] $list:ty, $trees:ty;)*) => {
         $(
             impl<T: InTurns, $($sign)*> InTurns for $list {
+                #[inline]
                 fn in_turns(&self) -> Value<'_> {
                     T::lists(&self[..])
                 }
 
+                #[inline]
                 fn in_list(&self) -> Value<'_> {
                     T::lists_in_list(&self[..])
                 }
             }
 
             impl<$($sign)*> Alone for $trees {
+                #[inline]
                 fn alone(&self) -> Value<'_> {
                     TokenTree::values_in_list(&self[..])
                 }
@@ -210,10 +213,12 @@ macro_rules! pointers {
         $(
             /// The tokens are those of the value that the pointer points to.
             impl<$($sign)*> ToTokens for $pointer {
+                #[inline]
                 fn to_tokens(&self, stream: &mut TokenStream) {
                     (**self).to_tokens(stream);
                 }
 
+                #[inline]
                 fn value(&self) -> Value<'_> {
                     (**self).value()
                 }
@@ -249,11 +254,13 @@ macro_rules! known {
         $(
             $(#[$attribute])*
             impl ToTokens for $kind {
+                #[inline]
                 fn to_tokens(&self, stream: &mut TokenStream) {
                     let $value = self;
                     stream.extend([$tree]);
                 }
 
+                #[inline]
                 fn value(&self) -> Value<'_> {
                     let $value = self;
                     $shown
@@ -318,10 +325,12 @@ macro_rules! texts {
         $(
             /// The string literal of the text.
             impl ToTokens for $text {
+                #[inline]
                 fn to_tokens(&self, stream: &mut TokenStream) {
                     stream.extend([Literal::from(&self[..])]);
                 }
 
+                #[inline]
                 fn value(&self) -> Value<'_> {
                     Value::String(self)
                 }
@@ -338,11 +347,13 @@ macro_rules! numbers {
         $(
             /// The literal with its suffix; a negative one is its `-` and the rest.
             impl ToTokens for $number {
+                #[inline]
                 fn to_tokens(&self, stream: &mut TokenStream) {
                     let Ok(literal) = Literal::$made(*self);
                     stream.extend([literal]);
                 }
 
+                #[inline]
                 fn value(&self) -> Value<'_> {
                     Value::Number(Number::$case(*self))
                 }
@@ -365,12 +376,14 @@ macro_rules! floats {
             /// infinite or not a number is the error [`NotFinite`](crate::error::TemplateError::NotFinite). Elsewhere
             /// it has no tokens.
             impl ToTokens for $float {
+                #[inline]
                 fn to_tokens(&self, stream: &mut TokenStream) {
                     if let Value::OwnedTree(tree) = self.value() {
                         stream.extend([tree]);
                     }
                 }
 
+                #[inline]
                 fn value(&self) -> Value<'_> {
                     if !self.is_finite() {
                         return Value::NotFinite;
