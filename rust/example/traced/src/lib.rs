@@ -3,7 +3,7 @@
 use proved_macros::expand_attribute;
 use proved_macros::proved_tokens::error::CompileError;
 use proved_macros::proved_tokens::items::{parse_function, split_inner_attributes, Function};
-use proved_macros::proved_tokens::{format_ident, quote, Delimiter, Group, Ident, Span, TokenStream, TokenTree};
+use proved_macros::proved_tokens::{format_ident, quote, Delimiter, Group, Ident, Span, TokenStream};
 
 /// `#[traced(log)]` calls `log(name, true)` when the function begins, and `log(name, false)` when it is left: at its
 /// end, by `return`, by `?` or by a panic.
