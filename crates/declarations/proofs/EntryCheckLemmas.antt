@@ -1,29 +1,25 @@
 -- Lists whose entries must have known names, and no name twice.
 use Rattle.std.proofs.Common.{◌≡◌, refl, sym, ◌∙◌, ap, subst, ℕ, ◌≤◌, ◌<◌, ◌-◌, ◌+◌, ◌==◌, ◌||◌, Bool, true, false}
 use Rattle.std.proofs.Common.{List, [], ◌∷◌, ◌++◌, None, append_assoc, drop, suc, zero}
-use Rattle.std.proofs.Common.{length, get_or, inl, inr, not, set, replicate, arith}
+use Rattle.std.proofs.Common.{length, get_or, not, set, replicate, arith}
 use Rattle.std.specs.Borrow.{Bor}
 use Rattle.std.specs.Fmt.{HasWritten}
 use Rattle.std.specs.declared.fmt.Formatter.{Formatter}
 use Rattle.std.specs.List.{list_any}
 use Rattle.std.proofs.Output.{has_written_append}
 use Rattle.std.proofs.lemmas.Bool.{eqb-false, eqb-true}
-use Rattle.std.proofs.lemmas.List.{get_or-replicate, get_or-set_same, get_or-set_other, length-append, length-set}
+use Rattle.std.proofs.lemmas.List.{get_or-replicate, get_or-set_same, get_or-set_other, length-set}
 use Rattle.std.proofs.lemmas.List.Sums.{prefix_len-le-length}
 use Rattle.declarations.specs.EntryCheck.{HasNames, IsEntryError, IsRepeated, IsUnknown, IsWrong, Names, NamesEntry}
+use Rattle.declarations.specs.EntryCheck.{StandsBefore}
 use Rattle.declarations.specs.EntryCheck.{has_name, more, more_known, next_known, none, place_of}
 use Rattle.pm_stream.specs.declared.stream.TokenTree.{TokenTree}
-use Rattle.declarations.specs.Entry.{IsEntryAt}
-use Rattle.declarations.specs.Fault.{first_extent}
-use Rattle.declarations.specs.List.{IsFirst, IsListFault}
-use Rattle.declarations.specs.declared.class.Class.{Class}
+use Rattle.declarations.specs.Entry.{IsEntryAt, IsEntryListFault, entry_spot}
+use Rattle.declarations.specs.List.{IsFirst}
 use Rattle.declarations.specs.declared.entry.Entry.{Entry}
 use Rattle.declarations.specs.declared.entry_check.EntryError.{EntryError}
 use Rattle.declarations.specs.declared.entry_check.EntryProblem.TheVariants as problems
 use Rattle.declarations.specs.declared.fault.Fault.{Fault}
-use Rattle.declarations.specs.rules.Entries as rule
-use Rattle.declarations.specs.rules.Pieces.{ByRule}
-use Rattle.declarations.proofs.ParamLemmas.{fault_within}
 
 -- the entries before the left trees have known names, and the positions of these names are marked as seen
 pub record Checked (known : Names) (list left : List TokenTree) (seen : List Bool) : Type 0 where
@@ -88,25 +84,27 @@ checked_more known list left next seen entry place c first fewer is other limit 
       marks = λ p h. marked seen c.places place p (omega (arith, within, room)) (c.marks p h);
     }
 
-pub unknown_first : (known : Names) (left next : List TokenTree) (entry : Entry) (place : ℕ) (error : EntryError)
-    → IsFirst IsEntryAt left entry next → place ≡ place_of known entry → place ≡ length known
-    → NamesEntry error entry
-    → IsUnknown known left error
-unknown_first known left next entry place error first is all named =
-    record { entry = entry; next = next; first = first; unknown = sym is ∙ all; named = named }
+pub unknown_first : (known : Names) (list left next : List TokenTree) (entry : Entry) (place : ℕ) (error : EntryError)
+    → IsFirst IsEntryAt left entry next → StandsBefore list left entry error → place ≡ place_of known entry
+    → place ≡ length known → NamesEntry error entry
+    → IsUnknown known list left error
+unknown_first known list left next entry place error first stands is all named =
+    record { entry = entry; next = next; first = first; stands = stands; unknown = sym is ∙ all; named = named }
 
 pub repeated_first : (known : Names) (list left next : List TokenTree) (seen : List Bool) (entry : Entry) (place : ℕ)
     (error : EntryError) → (c : Checked known list left seen) → IsFirst IsEntryAt left entry next
+    → StandsBefore list left entry error
     → place ≡ place_of known entry → (place ≡ length known → ⊥) → length known ≤ 128
     → get_or seen place false ≡ true → NamesEntry error entry
-    → IsRepeated known c.places left error
-repeated_first known list left next seen entry place error c first is other limit unseen named =
+    → IsRepeated known c.places list left error
+repeated_first known list left next seen entry place error c first stands is other limit unseen named =
     let below = place_below known entry place is other in
     let within : place < 128 = omega (arith, below, limit) in
     record {
       entry = entry;
       next = next;
       first = first;
+      stands = stands;
       known_name = subst (λ p. p < length known) is below;
       before = subst (λ p. list_any (λ other. other == p) c.places ≡ true) is (sym (c.marks place within) ∙ unseen);
       named = named;
@@ -116,16 +114,14 @@ pub unknown_error : (known : Names) (list left next : List TokenTree) (seen : Li
     (error : EntryError) → Checked known list left seen → IsFirst IsEntryAt left entry next
     → place ≡ place_of known entry
     → place ≡ length known → error.problem ≡ problems.Unknown → error.at ≡ length list - length left
-    → error.span ≡ first_extent left → NamesEntry error entry → error.known.now ≡ known
+    → error.span ≡ entry_spot left entry → NamesEntry error entry → error.known.now ≡ known
     → IsEntryError known list error
 unknown_error known list left next seen entry place error c first is all problem at span named told = record {
   places = c.places;
   left = left;
   names = c.names;
-  wrong = subst (λ p. IsWrong p known list c.places left error) (sym problem) (
-    unknown_first known left next entry place error first is all named,
-    record { counted = at; span = span },
-  );
+  wrong = subst (λ p. IsWrong p known list c.places left error) (sym problem)
+      (unknown_first known list left next entry place error first (record { counted = at; span = span }) is all named);
   told = told;
 }
 
@@ -133,7 +129,7 @@ pub repeated_error : (known : Names) (list left next : List TokenTree) (seen : L
     (error : EntryError) → Checked known list left seen → IsFirst IsEntryAt left entry next
     → place ≡ place_of known entry
     → (place ≡ length known → ⊥) → length known ≤ 128 → get_or seen place false ≡ true
-    → error.problem ≡ problems.Repeated → error.at ≡ length list - length left → error.span ≡ first_extent left
+    → error.problem ≡ problems.Repeated → error.at ≡ length list - length left → error.span ≡ entry_spot left entry
     → NamesEntry error entry → error.known.now ≡ known
     → IsEntryError known list error
 repeated_error known list left next seen entry place error c first is other limit marked problem at span named told =
@@ -141,16 +137,15 @@ repeated_error known list left next seen entry place error c first is other limi
       places = c.places;
       left = left;
       names = c.names;
-      wrong = subst (λ p. IsWrong p known list c.places left error) (sym problem) (
-        repeated_first known list left next seen entry place error c first is other limit marked named,
-        record { counted = at; span = span },
-      );
+      wrong = subst (λ p. IsWrong p known list c.places left error) (sym problem)
+          (repeated_first known list left next seen entry place error c first (record { counted = at; span = span }) is
+          other limit marked named);
       told = told;
     }
 
 pub no_entry_error : (known : Names) (list left : List TokenTree) (seen : List Bool) (fault : Fault)
     (error : EntryError)
-    → Checked known list left seen → IsListFault (ByRule rule.entry) left fault → error.problem ≡ problems.NoEntry
+    → Checked known list left seen → IsEntryListFault left fault → error.problem ≡ problems.NoEntry
     → error.at ≡ length list - length left + fault.at → error.span ≡ fault.span → error.name ≡ None
     → error.known.now ≡ known
     → IsEntryError known list error
@@ -162,18 +157,6 @@ no_entry_error known list left seen fault error c stands problem at span unnamed
       (record { fault = fault; stands = stands; counted = at; span = span; unnamed = unnamed });
   told = told;
 }
-
--- an error of a list is within its trees
-pub list_fault_within : (form : List Class → List Class → Type 0) (trees : List TokenTree) (fault : Fault)
-    → IsListFault form trees fault
-    → fault.at ≤ length trees
-list_fault_within form trees fault is = elim is.place [
-  | inl stands ↦ fault_within form trees fault.at stands
-  | inr lacks ↦
-      let sum = ap length lacks.reads.whole ∙ length-append lacks.part lacks.rest in
-      let counted : fault.at ≡ length lacks.part = lacks.counted in
-      omega arith
-]
 
 -- ---- what is printed
 

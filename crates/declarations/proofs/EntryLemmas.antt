@@ -17,8 +17,9 @@ use Rattle.pm_stream.specs.Forest.{Forest}
 use Rattle.pm_stream.specs.declared.stream.Group.{Group as Grouped}
 use Rattle.pm_stream.specs.declared.stream.TokenTree.{TokenTree}
 use Rattle.pm_stream.specs.declared.stream.TokenTree.TheVariants.{Group}
-use Rattle.declarations.specs.Attribute.{has_no_delimiters}
-use Rattle.declarations.specs.Entry.{HasArgs, HasLiteral, HasParts, IsEntryAt, IsListAt, IsOnlyRest, ReadsEntry}
+use Rattle.declarations.specs.Bare.{has_no_delimiters}
+use Rattle.declarations.specs.Entry.{HasArgs, HasLiteral, HasParts, IsListAt, IsOnlyRest, IsPlainEntryAt}
+use Rattle.declarations.specs.Entry.{ReadsEntry}
 use Rattle.declarations.specs.Fault.{extent_at, first_extent}
 use Rattle.declarations.specs.Forms.{start}
 use Rattle.declarations.specs.Reader.{Finds, ReadsRule, Sticks, classes_in}
@@ -386,7 +387,7 @@ entry_part trees rest f = (
 
 pub entry_at : (trees rest : List TokenTree) (found : Entry) → Finds rule.entry trees rest
     → HasParts found.kind trees found.path.now rest
-    → IsEntryAt trees found rest
+    → IsPlainEntryAt trees found rest
 entry_at trees rest found f parts =
     let at = entry_part trees rest f in record { part = at.0; reads = at.1; parts = parts }
 

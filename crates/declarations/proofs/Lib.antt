@@ -1,4 +1,5 @@
 pub mod SignLemmas
+pub mod BareLemmas
 pub mod WalkLemmas
 pub mod PlaceLemmas
 pub mod ReadingLemmas
@@ -31,6 +32,7 @@ pub mod LoopLemmas
 pub mod RuleFormLemmas
 pub mod TableReaderLemmas
 pub mod EntryLemmas
+pub mod HeldLemmas
 pub mod EntryCheckLemmas
 pub mod ParameterLemmas
 pub mod RuleWholeLemmas

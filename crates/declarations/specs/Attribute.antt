@@ -1,16 +1,17 @@
 -- Attributes, one at a time.
 use Rattle.std.specs.Prelude.{◌≡◌, ℕ, ◌==◌, ◌<◌, ◌&&◌, Bool, true, false, not, List, [], ◌∷◌, ◌++◌, nat_eq}
-use Rattle.std.specs.Prelude.{drop, if◌then◌else◌, length, take_while}
+use Rattle.std.specs.Prelude.{Option, Some, None, codes, drop, if◌then◌else◌, length, take_while}
 use Rattle.std.specs.List.{prefix_len}
 use Rattle.std.specs.Cmp.Lexicographic.{pointwise}
-use Rattle.pm_token.specs.Leaf.{Mark}
+use Rattle.pm_token.specs.Leaf.{Mark, Text}
 use Rattle.pm_token.specs.Spelling.{name_text}
 use Rattle.pm_token.specs.declared.delimiters.Delimiter.{Delimiter}
 use Rattle.pm_token.specs.declared.delimiters.Delimiter.TheVariants as delimiters
-use Rattle.pm_stream.specs.DocGroup.{trees_of}
+use Rattle.pm_stream.specs.DocGroup.{is_equals}
 use Rattle.pm_stream.specs.declared.stream.Group.{Group as Grouped}
 use Rattle.pm_stream.specs.declared.stream.TokenTree.{TokenTree}
 use Rattle.pm_stream.specs.declared.stream.TokenTree.TheVariants.{Group, Ident, Punct, Literal}
+use Rattle.declarations.specs.Bare.{bared, has_no_delimiters, inside_of}
 use Rattle.declarations.specs.declared.attribute.Attribute.{Attribute}
 use Rattle.declarations.specs.declared.attribute.AttributeArgs.{AttributeArgs}
 use Rattle.declarations.specs.declared.attribute.AttributeArgs.TheVariants as args
@@ -55,13 +56,9 @@ IsAttributeAt trees attribute rest = trees ≡ attribute_trees (parts_of attribu
 
 -- ---- what is in the brackets of an attribute
 
--- the trees in the attribute's brackets
+-- the trees in the attribute's brackets; or if these are one group without delimiters, the trees in it
 abbrev pub inside : Attribute → List TokenTree
-inside attribute = trees_of attribute.group.now.stream
-
-abbrev pub has_no_delimiters : Delimiter → Bool
-has_no_delimiters delimiters.None = true
-has_no_delimiters _ = false
+inside attribute = inside_of attribute.group.now
 
 -- whether the tree can be in a path: it is not `=` (61), and not a group with delimiters
 abbrev pub goes_on : TokenTree → Bool
@@ -82,6 +79,24 @@ after_path trees = drop (prefix_len goes_on trees) trees
 abbrev pub is_word : List TokenTree → List ℕ → Bool
 is_word (Ident name ∷ []) text = pointwise nat_eq (name_text name) text
 is_word _ text = false
+
+-- whether the trees are one identifier with this text, perhaps in groups without delimiters
+abbrev pub is_named : List TokenTree → List ℕ → Bool
+is_named trees text = is_word (bared trees) text
+
+-- the literal, if it is the only tree
+abbrev pub only_literal : List TokenTree → Option Text
+only_literal (Literal literal ∷ []) = Some literal
+only_literal _ = None
+
+-- the literal after `=` Alone, perhaps in groups without delimiters, if there are no other trees
+abbrev pub literal_after : List TokenTree → Option Text
+literal_after (Punct mark ∷ value) = if is_equals mark then only_literal (bared value) else None
+literal_after _ = None
+
+-- the literal, if the trees in the brackets are `doc`, `=` Alone and that literal
+abbrev pub doc_of : List TokenTree → Option Text
+doc_of trees = if is_named (path_of trees) (codes "doc") then literal_after (after_path trees) else None
 
 -- the trees after a path have this form
 abbrev pub AreArgs : List TokenTree → AttributeArgs → Type 0

@@ -9,17 +9,14 @@ use Rattle.pm_span.specs.Extent.{extent_eq}
 use Rattle.pm_token.specs.Leaf.{Name}
 use Rattle.pm_token.specs.Spelling.{spelled, spelling}
 use Rattle.pm_stream.specs.declared.stream.TokenTree.{TokenTree}
-use Rattle.declarations.specs.Attribute.{is_word}
-use Rattle.declarations.specs.Entry.{IsEntryAt, sole_name}
-use Rattle.declarations.specs.Fault.{first_extent}
-use Rattle.declarations.specs.List.{IsFirst, IsListFault}
+use Rattle.declarations.specs.Attribute.{is_named}
+use Rattle.declarations.specs.Entry.{IsEntryAt, IsEntryListFault, entry_spot, sole_name}
+use Rattle.declarations.specs.List.{IsFirst}
 use Rattle.declarations.specs.declared.entry.Entry.{Entry}
 use Rattle.declarations.specs.declared.entry_check.EntryError.{EntryError}
 use Rattle.declarations.specs.declared.entry_check.EntryProblem.{EntryProblem}
 use Rattle.declarations.specs.declared.entry_check.EntryProblem.TheVariants as problems
 use Rattle.declarations.specs.declared.fault.Fault.{Fault}
-use Rattle.declarations.specs.rules.Entries.{entry}
-use Rattle.declarations.specs.rules.Pieces.{ByRule}
 
 -- the names that entries may have
 abbrev pub Names : Type 0
@@ -27,7 +24,7 @@ Names = List (Bor (List ℕ))
 
 -- whether the entry's path is this one name
 abbrev pub has_name : Entry → Bor (List ℕ) → Bool
-has_name entry word = is_word entry.path.now (spelled word.now)
+has_name entry word = is_named entry.path.now (spelled word.now)
 
 -- the position of the entry's name among the known names, or their number if it is not among them
 abbrev pub place_of : Names → Entry → ℕ
@@ -44,33 +41,36 @@ pub data HasNames (known : Names) (list : List TokenTree) : List ℕ → List To
 -- the left trees begin with no entry, or with one that neither `,` nor the end follows, and the error is there
 pub record IsNoEntry (list left : List TokenTree) (error : EntryError) : Type 0 where
   pub fault : Fault
-  pub stands : IsListFault (ByRule entry) left fault
+  pub stands : IsEntryListFault left fault
   pub counted : error.at ≡ length list - length left + fault.at
   pub span : error.span ≡ fault.span
   pub unnamed : error.name ≡ None
 
--- the error is just before the left trees
-pub record StandsBefore (list left : List TokenTree) (error : EntryError) : Type 0 where
+-- the error is just before the left trees, which begin with this entry
+pub record StandsBefore (list left : List TokenTree) (entry : Entry) (error : EntryError) : Type 0 where
   pub counted : error.at ≡ length list - length left
-  pub span : error.span ≡ first_extent left
+  pub span : error.span ≡ entry_spot left entry
 
 -- the error has the name of the entry, or none if the entry is a literal or has a longer path
 abbrev pub NamesEntry : EntryError → Entry → Type 0
 NamesEntry error entry = option_copied error.name ≡ sole_name entry.path.now
 
 -- the left trees begin with an entry whose name is not known
-pub record IsUnknown (known : Names) (left : List TokenTree) (error : EntryError) : Type 0 where
+pub record IsUnknown (known : Names) (list left : List TokenTree) (error : EntryError) : Type 0 where
   pub entry : Entry
   pub next : List TokenTree
   pub first : IsFirst IsEntryAt left entry next
+  pub stands : StandsBefore list left entry error
   pub unknown : place_of known entry ≡ length known
   pub named : NamesEntry error entry
 
 -- the left trees begin with an entry that has the name of an earlier entry
-pub record IsRepeated (known : Names) (places : List ℕ) (left : List TokenTree) (error : EntryError) : Type 0 where
+pub record IsRepeated (known : Names) (places : List ℕ) (list left : List TokenTree) (error : EntryError)
+    : Type 0 where
   pub entry : Entry
   pub next : List TokenTree
   pub first : IsFirst IsEntryAt left entry next
+  pub stands : StandsBefore list left entry error
   pub known_name : place_of known entry < length known
   pub before : list_any (λ place. place == place_of known entry) places ≡ true
   pub named : NamesEntry error entry
@@ -78,9 +78,8 @@ pub record IsRepeated (known : Names) (places : List ℕ) (left : List TokenTree
 -- the left trees are wrong in the way that this kind of error says
 abbrev pub IsWrong : EntryProblem → Names → List TokenTree → List ℕ → List TokenTree → EntryError → Type 0
 IsWrong problems.NoEntry known list places left error = IsNoEntry list left error
-IsWrong problems.Unknown known list places left error = IsUnknown known left error × StandsBefore list left error
-IsWrong problems.Repeated known list places left error =
-    IsRepeated known places left error × StandsBefore list left error
+IsWrong problems.Unknown known list places left error = IsUnknown known list left error
+IsWrong problems.Repeated known list places left error = IsRepeated known places list left error
 
 -- all entries before the error have known names, no two the same, and the trees after them are wrong as the error says
 pub record IsEntryError (known : Names) (list : List TokenTree) (error : EntryError) : Type 0 where

@@ -1,15 +1,14 @@
 -- The entries of an attribute's list, one at a time.
-use Rattle.std.specs.Prelude.{◌≡◌, [], Option, Result, MatchOption}
-use Rattle.declarations.specs.Entry.{IsEntryAt}
-use Rattle.declarations.specs.List.{BeginsList}
+use Rattle.std.specs.Prelude.{◌≡◌, [], Option, Result, MatchOption, MatchResult}
+use Rattle.declarations.specs.Entry.{IsEntryAt, IsEntryListFault}
+use Rattle.declarations.specs.List.{IsFirst}
 use Rattle.declarations.specs.declared.entry.Entry.{Entry}
 use Rattle.declarations.specs.declared.entry_list.Entries.{Entries}
 use Rattle.declarations.specs.declared.fault.Fault.{Fault}
-use Rattle.declarations.specs.rules.Entries.{entry}
-use Rattle.declarations.specs.rules.Pieces.{ByRule}
 
 -- a call of `next` gives the next entry or an error, and nothing if no trees are left
 abbrev pub GivesEntry : Entries → Option (Result Entry Fault) → Entries → Type 0
 GivesEntry old given new =
     MatchOption given ((old.left.now ≡ []) × (new ≡ old))
-    (λ found. BeginsList IsEntryAt (ByRule entry) old.left.now found new.left.now)
+    (λ found. MatchResult found (λ entry. IsFirst IsEntryAt old.left.now entry new.left.now)
+    (λ fault. IsEntryListFault old.left.now fault × (new.left.now ≡ [])))

@@ -6,6 +6,7 @@ pub mod Header
 pub mod Front
 pub mod Grammar
 pub mod Forms
+pub mod Bare
 pub mod Signs
 pub mod Reading
 pub mod Reader

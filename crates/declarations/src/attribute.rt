@@ -4,17 +4,18 @@ ghost use Rattle.std.specs.Prelude.{option_copied};
 ghost use Rattle.std.specs.List.{prefix_len};
 ghost use Rattle.pm_token.specs.Leaf.{Mark};
 ghost use Rattle.pm_token.specs.Spelling.{spelled};
-ghost use Rattle.pm_stream.specs.DocGroup.{doc_of};
+ghost use Rattle.pm_stream.specs.DocGroup.{is_equals};
 ghost use Rattle.pm_stream.specs.declared.stream.Group.{Group as Grouped};
 ghost use Rattle.pm_stream.specs.declared.stream.TokenTree.{TokenTree as Tree};
 ghost use Rattle.pm_stream.specs.declared.stream.TokenTree.TheVariants as trees_are;
 ghost use Rattle.declarations.specs.Attribute.{AreArgs, IsAttributeAt, after_path, attributes_in, goes_on};
-ghost use Rattle.declarations.specs.Attribute.{has_no_delimiters, inside, is_bracket, is_inner, is_outer, is_word};
-ghost use Rattle.declarations.specs.Attribute.{parts_of, path_of};
+ghost use Rattle.declarations.specs.Attribute.{doc_of, inside, is_bracket, is_inner, is_named, is_outer, is_word};
+ghost use Rattle.declarations.specs.Attribute.{literal_after, only_literal, parts_of, path_of};
 
+use crate::bare::{bared, has_no_delimiters, inside_of};
 use crate::item::split_group;
 use pm_stream::{Group, TokenTree};
-use pm_token::{Delimiter, Literal, Punct};
+use pm_token::{Delimiter, Literal, Punct, Spacing};
 
 /// An attribute, such as `#[derive(Clone)]` or `#![no_std]`. A doc comment is an attribute too.
 #[derive(Clone, Copy, Debug)]
@@ -163,39 +164,97 @@ impl<'a> Attribute<'a> {
     /// Returns the path: the trees in the brackets before the first `=` or the first group with delimiters.
     ///
     /// It is `rustfmt::skip` in `#[rustfmt::skip]`, `doc` in `#[doc = "a"]`, and `unsafe` in `#[unsafe(no_mangle)]`.
+    ///
+    /// If the trees in the brackets are one group without delimiters, as a macro by example passes `$m:meta`, the path
+    /// is that of the trees in this group, or in the innermost of several such groups. So are what
+    /// [`args`](Attribute::args), [`is`](Attribute::is) and [`doc`](Attribute::doc) return. A path that is such a group
+    /// itself, as in `#[$p = 1]`, is returned as it is.
     pub fn path(&self) -> &'a [TokenTree]
         ensures { result.now ≡ path_of (inside self.now) }
     {
-        let inside = self.group.stream_ref().trees();
-        let (path, _) = inside.split_at(path_len(inside));
-        path
+        split_path(inside_of(self.group)).0
     }
 
-    /// Returns what comes after the path.
+    /// Returns what comes after the path. A value that is a group without delimiters, as in `#[a = $e]`, is returned as
+    /// it is.
     pub fn args(&self) -> AttributeArgs<'a>
         ensures { AreArgs (after_path (inside self.now)) result }
     {
-        let inside = self.group.stream_ref().trees();
-        let (_, rest) = inside.split_at(path_len(inside));
-        args_of(rest)
+        args_of(split_path(inside_of(self.group)).1)
     }
 
-    /// Returns whether the path is this one identifier. A raw identifier is compared with its `r#`.
+    /// Returns whether the path is this one identifier, perhaps in groups without delimiters. A raw identifier is
+    /// compared with its `r#`.
     pub fn is(&self, word: &str) -> bool
-        ensures { result ≡ is_word (path_of (inside self.now)) (spelled word.now) }
+        ensures { result ≡ is_named (path_of (inside self.now)) (spelled word.now) }
     {
-        match self.path() {
-            [TokenTree::Ident(name)] => name.eq_str(word),
-            _ => false,
+        is_named(self.path(), word)
+    }
+
+    /// Returns the literal of a doc comment or of `#[doc = "text"]`, and `None` for every other attribute. The literal
+    /// may be in groups without delimiters.
+    pub fn doc(&self) -> Option<&'a Literal>
+        ensures { option_copied result ≡ doc_of (inside self.now) }
+    {
+        let (path, rest) = split_path(inside_of(self.group));
+        if is_named(path, "doc") {
+            literal_after(rest)
+        } else {
+            None
         }
     }
+}
 
-    /// Returns the literal of a doc comment or of `#[doc = "text"]`, and `None` for every other attribute.
-    pub fn doc(&self) -> Option<&'a Literal>
-        ensures { option_copied result ≡ doc_of self.now.group.now }
-    {
-        self.group.doc()
+/// Whether the trees are this one identifier, perhaps in groups without delimiters.
+pub(crate) fn is_named(trees: &[TokenTree], word: &str) -> bool
+    ensures { result ≡ is_named trees.now (spelled word.now) }
+{
+    is_word(bared(trees), word)
+}
+
+/// Whether the trees are this one identifier.
+fn is_word(trees: &[TokenTree], word: &str) -> bool
+    ensures { result ≡ is_word trees.now (spelled word.now) }
+{
+    match trees {
+        [TokenTree::Ident(name)] => name.eq_str(word),
+        _ => false,
     }
+}
+
+/// The literal after `=` Alone, perhaps in groups without delimiters, if there are no other trees.
+fn literal_after(trees: &[TokenTree]) -> Option<&Literal>
+    ensures { option_copied result ≡ literal_after trees.now }
+{
+    match trees.split_first() {
+        Some((TokenTree::Punct(mark), value)) if is_equals(mark) => only_literal(bared(value)),
+        _ => None,
+    }
+}
+
+/// Whether it is the mark `=` Alone.
+fn is_equals(mark: &Punct) -> bool
+    ensures { result ≡ is_equals mark.now }
+{
+    mark.as_char() == '=' && mark.spacing() == Spacing::Alone
+}
+
+/// The literal, if it is the only tree.
+fn only_literal(trees: &[TokenTree]) -> Option<&Literal>
+    ensures { option_copied result ≡ only_literal trees.now }
+{
+    match trees {
+        [TokenTree::Literal(literal)] => Some(literal),
+        _ => None,
+    }
+}
+
+/// The path at the start of the trees, and the trees after it.
+fn split_path(trees: &[TokenTree]) -> (&[TokenTree], &[TokenTree])
+    ensures path { result.0.now ≡ path_of trees.now }
+    ensures rest { result.1.now ≡ after_path trees.now }
+{
+    trees.split_at(path_len(trees))
 }
 
 /// The number of trees in the path at the start of the trees.
@@ -220,15 +279,6 @@ fn goes_on(tree: &TokenTree) -> bool
         TokenTree::Group(group) => has_no_delimiters(group.delimiter()),
         TokenTree::Punct(mark) => mark.as_char() != '=',
         TokenTree::Ident(_) | TokenTree::Literal(_) => true,
-    }
-}
-
-pub(crate) fn has_no_delimiters(delimiter: Delimiter) -> bool
-    ensures { result ≡ has_no_delimiters delimiter }
-{
-    match delimiter {
-        Delimiter::None => true,
-        Delimiter::Parenthesis | Delimiter::Bracket | Delimiter::Brace => false,
     }
 }
 

@@ -1,7 +1,7 @@
 //! An attribute as one entry.
 ghost use Rattle.std.specs.Prelude.{[], IfErr, IfOk};
-ghost use Rattle.declarations.specs.Attribute.{inside};
 ghost use Rattle.declarations.specs.Entry.{IsEntryAt, IsEntryFault};
+ghost use Rattle.pm_stream.specs.DocGroup.{trees_of};
 
 use crate::attribute::Attribute;
 use crate::entry::{Entry, whole_entry};
@@ -14,9 +14,13 @@ impl<'a> Attribute<'a> {
     /// entry `path = "a.rs"`. If the trees in the brackets are not exactly one entry, the call returns a `Fault`, whose
     /// `at` counts the trees in the brackets. [`args`](Attribute::args) returns trees of any other form as they are.
     /// The call allocates nothing.
+    ///
+    /// If a macro by example passed the entry or its path in a group without delimiters, as `$m:meta` or `$p:path`,
+    /// the trees inside are read, as by [`parse_entry`](crate::parse_entry). That call also says where an
+    /// error inside of such a group is.
     pub fn entry(&self) -> Result<Entry<'a>, Fault>
-        ensures ok { IfOk result (λ entry. IsEntryAt (inside self.now) entry []) }
-        ensures err { IfErr result (λ fault. IsEntryFault (inside self.now) fault) }
+        ensures ok { IfOk result (λ entry. IsEntryAt (trees_of self.now.group.now.stream) entry []) }
+        ensures err { IfErr result (λ fault. IsEntryFault (trees_of self.now.group.now.stream) fault) }
     {
         whole_entry(self.group.stream_ref().trees())
     }

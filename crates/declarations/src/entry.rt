@@ -1,16 +1,19 @@
 //! The entries of an attribute's list.
-ghost use Rattle.std.specs.Prelude.{◌≡◌, ◌<◌, [], IfErr, IfNone, IfOk, IfSome, MatchResult};
-ghost use Rattle.std.specs.Prelude.{false, length, option_copied};
+ghost use Rattle.std.specs.Prelude.{◌≡◌, ◌<◌, ◌≤◌, ◌⊎◌, [], IfErr, IfNone, IfOk, IfSome, MatchResult};
+ghost use Rattle.std.specs.Prelude.{None, Some, false, length, option_copied};
 ghost use Rattle.grammars.specs.First.{heads, may_begin};
 ghost use Rattle.grammars.specs.Grammar.{Sign, perhaps};
 ghost use Rattle.pm_stream.specs.declared.stream.TokenTree.TheVariants as trees_are;
 ghost use Rattle.pm_token.specs.Spelling.{spelled};
-ghost use Rattle.declarations.specs.Attribute.{is_word};
-ghost use Rattle.declarations.specs.Entry.{HasArgs, IsEntryAt, IsEntryFault, IsListAt, IsOnlyRest, ReadsEntry};
-ghost use Rattle.declarations.specs.Entry.{entry_extent, sole_name};
+ghost use Rattle.declarations.specs.Attribute.{is_named};
+ghost use Rattle.declarations.specs.Bare.{bare_first, inside_of};
+ghost use Rattle.declarations.specs.Entry.{BeginsWithNone, GoesOn, HasArgs, IsArgsFault, IsEntryAt, IsEntryFault};
+ghost use Rattle.declarations.specs.Entry.{IsFaultAfter, IsFaultWithin, IsHeldEntryAt, IsListAt, IsNearEntryAt};
+ghost use Rattle.declarations.specs.Entry.{IsNearFault, IsNoEntry, IsOnlyPlainRest, IsOnlyRest, IsPlainEntryAt};
+ghost use Rattle.declarations.specs.Entry.{IsPlainEntryFault, IsPlainFault, ReadsEntry};
+ghost use Rattle.declarations.specs.Entry.{entry_extent, entry_spot, only_name, sole_name, span_or};
 ghost use Rattle.declarations.specs.Fault.{extent_at, first_extent};
 ghost use Rattle.declarations.specs.Reader.{Finds, ReadsRule, Sticks, classes_in};
-ghost use Rattle.declarations.specs.Reading.{FaultAt};
 ghost use Rattle.declarations.specs.rules.Entries.{continues, entry, entry_list, entry_literal, entry_path};
 ghost use Rattle.declarations.specs.rules.Entries.{entry_rest, entry_value, is_entry_segment, is_literal};
 ghost use Rattle.declarations.specs.rules.Entries.{literal_entry, more_segments, named_entry, next_segment, segments};
@@ -19,7 +22,8 @@ ghost use Rattle.declarations.specs.rules.Names.{one};
 ghost use Rattle.declarations.specs.rules.Pieces.{ByRule};
 ghost use Rattle.declarations.specs.declared.class.Class.TheVariants as signs;
 
-use crate::attribute::has_no_delimiters;
+use crate::attribute::is_named;
+use crate::bare::{bared, has_no_delimiters, inside_of};
 use crate::class::Class;
 use crate::fault::Fault;
 use crate::item::split_group;
@@ -62,12 +66,31 @@ pub struct Entry<'a> {
 ///
 /// If the trees begin with no entry, the call returns a `Fault`. The rule `entry` is in crates/declarations/README.md.
 /// The call allocates nothing. For `a::b = f(1) + 2, c` the path is `a::b`, the value `f(1) + 2`, and the rest `, c`.
+///
+/// A macro by example passes `$m:meta` and `$p:path` as groups without delimiters. If the trees begin with such a
+/// group, the entry is the one that the group holds, and its parts are trees inside of the group. If the group holds a
+/// path alone, a list or `=` and a value can come after the group. In the group the path of the entry may be in a
+/// group of its own. Groups that hold nothing but such a group are looked through. An error inside of the group has an
+/// `at` of 0, since no tree comes before the group. Its span is that of the first wrong tree inside, or that of the
+/// group if trees are missing at its end.
 pub fn parse_entry(trees: &[TokenTree]) -> Result<(Entry<'_>, &[TokenTree]), Fault>
     ensures ok { IfOk result (λ found. IsEntryAt trees.now found.0 found.1.now) }
+    ensures only { IfOk result (λ found. IsOnlyPlainRest trees.now found.1.now) }
+    ensures fewer { IfOk result (λ found. length found.1.now < length trees.now) }
+    ensures fault { IfErr result (λ fault. IsNoEntry trees.now fault) }
+{
+    match split_bare(trees) {
+        Some((group, after)) => held_entry(group, after),
+        None => plain_entry(trees),
+    }
+}
+
+/// The entry at the start of the trees, which is not in a group without delimiters, and the trees after it.
+fn plain_entry(trees: &[TokenTree]) -> Result<(Entry<'_>, &[TokenTree]), Fault>
+    ensures ok { IfOk result (λ found. IsPlainEntryAt trees.now found.0 found.1.now) }
     ensures only { IfOk result (λ found. IsOnlyRest entry trees.now found.1.now) }
     ensures fewer { IfOk result (λ found. length found.1.now < length trees.now) }
-    ensures fault { IfErr result (λ fault. FaultAt (ByRule entry) trees.now fault.at) }
-    ensures span { IfErr result (λ fault. fault.span ≡ extent_at trees.now fault.at) }
+    ensures fault { IfErr result (λ fault. IsPlainFault trees.now fault) }
 {
     match entry_of(trees) {
         Ok((entry, rest)) => Ok((entry, rest)),
@@ -75,15 +98,100 @@ pub fn parse_entry(trees: &[TokenTree]) -> Result<(Entry<'_>, &[TokenTree]), Fau
     }
 }
 
+/// The entry that the group holds, or whose path it holds, and the trees after the entry.
+fn held_entry<'a>(
+    group: &'a Group,
+    after: &'a [TokenTree],
+) -> Result<(Entry<'a>, &'a [TokenTree]), Fault>
+    ensures ok { IfOk result (λ found.
+        IsHeldEntryAt IsNearEntryAt (inside_of group.now) after.now found.0 found.1.now) }
+    ensures within { IfOk result (λ found. length found.1.now ≤ length after.now) }
+    ensures fault { IfErr result (λ fault.
+        IsFaultWithin IsNearFault group.now fault ⊎ IsFaultAfter IsNearEntryAt group.now after.now fault) }
+{
+    match whole_near_entry(inside_of(group)) {
+        Ok(held) => match held.kind {
+            EntryKind::Path => go_on(held.path, after),
+            EntryKind::List(_) | EntryKind::Value(_) | EntryKind::Literal(_) => Ok((held, after)),
+        },
+        Err(fault) => Err(fault_within(group, fault)),
+    }
+}
+
+/// The entry at the start of the trees, perhaps in a group without delimiters that holds no such group.
+fn near_entry(trees: &[TokenTree]) -> Result<(Entry<'_>, &[TokenTree]), Fault>
+    ensures ok { IfOk result (λ found. IsNearEntryAt trees.now found.0 found.1.now) }
+    ensures fewer { IfOk result (λ found. length found.1.now < length trees.now) }
+    ensures fault { IfErr result (λ fault. BeginsWithNone IsPlainEntryAt IsPlainEntryFault trees.now fault) }
+{
+    match split_bare(trees) {
+        Some((group, after)) => near_held(group, after),
+        None => plain_entry(trees),
+    }
+}
+
+/// The entry that the group holds, or whose path it holds. In the group there is no group without delimiters.
+fn near_held<'a>(
+    group: &'a Group,
+    after: &'a [TokenTree],
+) -> Result<(Entry<'a>, &'a [TokenTree]), Fault>
+    ensures ok { IfOk result (λ found.
+        IsHeldEntryAt IsPlainEntryAt (inside_of group.now) after.now found.0 found.1.now) }
+    ensures within { IfOk result (λ found. length found.1.now ≤ length after.now) }
+    ensures fault { IfErr result (λ fault.
+        IsFaultWithin IsPlainEntryFault group.now fault ⊎ IsFaultAfter IsPlainEntryAt group.now after.now fault) }
+{
+    match whole_plain_entry(inside_of(group)) {
+        Ok(plain) => match plain.kind {
+            EntryKind::Path => go_on(plain.path, after),
+            EntryKind::List(_) | EntryKind::Value(_) | EntryKind::Literal(_) => Ok((plain, after)),
+        },
+        Err(fault) => Err(fault_within(group, fault)),
+    }
+}
+
+/// The error in the trees before which the group is, for this error in the trees inside of the group.
+fn fault_within(group: &Group, inner: Fault) -> Fault
+    ensures at { result.at ≡ 0 }
+    ensures span { result.span ≡ Some (span_or inner.span group.now.span) }
+{
+    Fault {
+        at: 0,
+        span: Some(span_or(inner.span, group.span())),
+    }
+}
+
+/// The span, or else the other one.
+fn span_or(span: Option<Span>, other: Span) -> Span
+    ensures { result ≡ span_or span other }
+{
+    match span {
+        Some(span) => span,
+        None => other,
+    }
+}
+
+/// The entry that has this path, and at the start of the trees what comes after its path; and the trees after it.
+fn go_on<'a>(
+    path: &'a [TokenTree],
+    after: &'a [TokenTree],
+) -> Result<(Entry<'a>, &'a [TokenTree]), Fault>
+    ensures read { MatchResult result (λ found. GoesOn path.now after.now found.0 found.1.now)
+        (λ fault. IsArgsFault after.now fault) }
+    ensures within { IfOk result (λ found. length found.1.now ≤ length after.now) }
+{
+    match args_of(after) {
+        Ok((kind, rest)) => Ok((Entry { path, kind }, rest)),
+        Err(left) => Err(Fault::ahead_of(1 + (after.len() - left.len()), left)),
+    }
+}
+
 impl<'a> Entry<'a> {
     /// Returns whether the path is this one identifier. A raw identifier is compared with its `r#`.
     pub fn is(&self, word: &str) -> bool
-        ensures { result ≡ is_word self.now.path.now (spelled word.now) }
+        ensures { result ≡ is_named self.now.path.now (spelled word.now) }
     {
-        match self.path {
-            [TokenTree::Ident(name)] => name.eq_str(word),
-            _ => false,
-        }
+        is_named(self.path, word)
     }
 
     /// Returns the path if it is one identifier, and `None` for a literal or a longer path.
@@ -92,13 +200,11 @@ impl<'a> Entry<'a> {
     pub fn name(&self) -> Option<&'a Ident>
         ensures { option_copied result ≡ sole_name self.now.path.now }
     {
-        match self.path {
-            [TokenTree::Ident(name)] => Some(name),
-            _ => None,
-        }
+        only_name(bared(self.path))
     }
 
-    /// Returns the span of the first tree. An entry that a call of this crate returned always has one.
+    /// Returns the span of the first tree. An entry that a call of this crate returned always has one. For an entry in
+    /// a group without delimiters it is that of the first tree inside.
     pub fn span(&self) -> Option<Span>
         ensures { result ≡ entry_extent self.now.kind self.now.path.now }
     {
@@ -106,6 +212,37 @@ impl<'a> Entry<'a> {
             EntryKind::Literal(literal) => first_span(literal),
             EntryKind::Path | EntryKind::List(_) | EntryKind::Value(_) => first_span(self.path),
         }
+    }
+}
+
+/// The identifier, if it is the only tree.
+fn only_name(trees: &[TokenTree]) -> Option<&Ident>
+    ensures { option_copied result ≡ only_name trees.now }
+{
+    match trees {
+        [TokenTree::Ident(name)] => Some(name),
+        _ => None,
+    }
+}
+
+/// The group without delimiters that the trees begin with, and the trees after it.
+fn split_bare(trees: &[TokenTree]) -> Option<(&Group, &[TokenTree])>
+    ensures found { IfSome result (λ found. bare_first trees.now ≡ Some (found.0.now, found.1.now)) }
+    ensures none { IfNone result (bare_first trees.now ≡ None) }
+{
+    match split_group(trees) {
+        Some((group, rest)) if has_no_delimiters(group.delimiter()) => Some((group, rest)),
+        _ => None,
+    }
+}
+
+/// The span of the first tree, or if that is a group without delimiters, that of the entry in it.
+pub(crate) fn spot_of(trees: &[TokenTree], entry: &Entry<'_>) -> Option<Span>
+    ensures { result ≡ entry_spot trees.now entry.now }
+{
+    match split_bare(trees) {
+        Some(_) => entry.span(),
+        None => first_span(trees),
     }
 }
 
@@ -130,6 +267,40 @@ pub(crate) fn whole_entry(trees: &[TokenTree]) -> Result<Entry<'_>, Fault>
                 Ok(entry)
             } else {
                 Err(Fault::ahead_of(trees.len() - rest.len(), rest))
+            }
+        }
+        Err(fault) => Err(fault),
+    }
+}
+
+/// The entry that all of the trees are, perhaps in a group without delimiters that holds no such group.
+fn whole_near_entry(trees: &[TokenTree]) -> Result<Entry<'_>, Fault>
+    ensures ok { IfOk result (λ entry. IsNearEntryAt trees.now entry []) }
+    ensures err { IfErr result (λ fault. IsNearFault trees.now fault) }
+{
+    match near_entry(trees) {
+        Ok((entry, after)) => {
+            if after.is_empty() {
+                Ok(entry)
+            } else {
+                Err(Fault::ahead_of(trees.len() - after.len(), after))
+            }
+        }
+        Err(fault) => Err(fault),
+    }
+}
+
+/// The entry that all of the trees are. It is not in a group without delimiters.
+fn whole_plain_entry(trees: &[TokenTree]) -> Result<Entry<'_>, Fault>
+    ensures ok { IfOk result (λ entry. IsPlainEntryAt trees.now entry []) }
+    ensures err { IfErr result (λ fault. IsPlainEntryFault trees.now fault) }
+{
+    match plain_entry(trees) {
+        Ok((entry, left)) => {
+            if left.is_empty() {
+                Ok(entry)
+            } else {
+                Err(Fault::ahead_of(trees.len() - left.len(), left))
             }
         }
         Err(fault) => Err(fault),

@@ -4,7 +4,7 @@ ghost use Rattle.std.specs.Fmt.{WritesOnOk};
 ghost use Rattle.declarations.specs.EntryCheck.{HasNames, IsEntryError, known_part, more_known, name_part, next_known};
 ghost use Rattle.declarations.specs.EntryCheck.{number_of, place_of, quoted};
 
-use crate::entry::Entry;
+use crate::entry::{Entry, spot_of};
 use crate::entry_list::first_entry;
 use crate::fault::{Fault, are_same};
 use pm_span::Span;
@@ -33,7 +33,8 @@ pub struct EntryError<'a> {
     pub problem: EntryProblem,
     /// The number of trees of the list before the error.
     pub at: usize,
-    /// The span of the first wrong tree, or `None` if the list ends too early.
+    /// The span of the first wrong tree, or `None` if the list ends too early. In a group without delimiters it is
+    /// that of a tree inside, as [`parse_entry`](crate::parse_entry) says.
     pub span: Option<Span>,
     /// The name of the unknown or repeated entry. It is `None` if the entry is a literal or a path of several segments,
     /// or if there is no entry.
@@ -73,11 +74,17 @@ pub fn check_entries<'a>(list: &'a [TokenTree], known: &'a [&'a str]) -> Result<
             Ok((entry, next)) => {
                 let place = place_of(&entry, known);
                 if place == known.len() {
-                    let fault = Fault::ahead_of(before, left);
+                    let fault = Fault {
+                        at: before,
+                        span: spot_of(left, &entry),
+                    };
                     return Err(wrong(EntryProblem::Unknown, fault, entry.name(), known));
                 }
                 if seen[place] {
-                    let fault = Fault::ahead_of(before, left);
+                    let fault = Fault {
+                        at: before,
+                        span: spot_of(left, &entry),
+                    };
                     return Err(wrong(EntryProblem::Repeated, fault, entry.name(), known));
                 }
                 seen[place] = true;

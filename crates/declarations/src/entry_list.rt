@@ -1,9 +1,7 @@
 //! The entries of an attribute's list, one at a time.
 ghost use Rattle.std.specs.Prelude.{◌≡◌, ◌<◌, IfOk, MatchResult, length};
-ghost use Rattle.declarations.specs.Entry.{IsEntryAt};
-ghost use Rattle.declarations.specs.List.{AreInside, IsFirst, IsListFault};
-ghost use Rattle.declarations.specs.rules.Entries.{entry};
-ghost use Rattle.declarations.specs.rules.Pieces.{ByRule};
+ghost use Rattle.declarations.specs.Entry.{IsEntryAt, IsEntryListFault};
+ghost use Rattle.declarations.specs.List.{AreInside, IsFirst};
 
 use crate::entry::{Entry, parse_entry};
 use crate::fault::Fault;
@@ -70,7 +68,7 @@ impl<'a> Iterator for Entries<'a> {
 /// The first entry of a list, and the trees after its comma.
 pub(crate) fn first_entry(trees: &[TokenTree]) -> Result<(Entry<'_>, &[TokenTree]), Fault>
     ensures given { MatchResult result (λ found. IsFirst IsEntryAt trees.now found.0 found.1.now)
-        (λ fault. IsListFault (ByRule entry) trees.now fault) }
+        (λ fault. IsEntryListFault trees.now fault) }
     ensures fewer { IfOk result (λ found. length found.1.now < length trees.now) }
 {
     match parse_entry(trees) {

@@ -2,7 +2,7 @@
 use declarations::{
     AttributeArgs, Attributes, Entries, Entry, EntryKind, EntryProblem, check_entries, parse_entry,
 };
-use proc_macro2::{SourceMap, TokenStream};
+use proc_macro2::{Delimiter, Group, SourceMap, TokenStream, TokenTree};
 use std::process::Abort;
 use std::test::Fail;
 
@@ -340,4 +340,158 @@ fn an_attribute_is_one_entry(rt: HostRuntime) -> Result<(), Fail> {
             ("#[]", &[Parts::Fault(0)]),
         ],
     )
+}
+
+/// The list that begins with a text in so many groups without delimiters, and goes on with another text.
+fn held(
+    rt: &(impl Abort + AllocGlobal),
+    inside: &str,
+    groups: usize,
+    after: &str,
+) -> Result<TokenStream, Fail> {
+    let mut map = SourceMap::new(rt.alloc());
+    let mut stream = TokenStream::from_str(inside, &mut map)?;
+    for _ in 0..groups {
+        let group = Group::new(Delimiter::None, stream);
+        stream = TokenStream::from_tree(rt.alloc(), TokenTree::Group(group))?;
+    }
+    stream.extend_streams([TokenStream::from_str(after, &mut map)?])?;
+    Ok(stream)
+}
+
+// A macro by example passes `$m:meta`, `$p:path` and `$l:literal` in such groups. Each row is what is in the groups,
+// their number, the text after them, and the entries.
+#[test]
+fn an_entry_in_a_group_without_delimiters_is_read(rt: HostRuntime) -> Result<(), Fail> {
+    let rows: &[(&str, usize, &str, &[Parts])] = &[
+        ("skip", 1, "", &[Parts::Path(1)]),
+        (
+            "rename = \"a\"",
+            2,
+            ", b",
+            &[Parts::Value(1, 1), Parts::Path(1)],
+        ),
+        ("a::b(c, d)", 4, ",", &[Parts::List(4, 3)]),
+        (
+            "a::b",
+            1,
+            " = 1 + 2, c",
+            &[Parts::Value(4, 3), Parts::Path(1)],
+        ),
+        ("::a", 2, "(b)", &[Parts::List(3, 1)]),
+        ("-1", 1, "", &[Parts::Literal(2)]),
+        ("\"x\"", 1, "", &[Parts::Literal(1)]),
+        ("pub", 1, "", &[Parts::Path(1)]),
+        ("a = 1", 1, " = 2", &[Parts::Fault(1)]),
+        ("a b", 1, "", &[Parts::Fault(0)]),
+        ("", 1, "", &[Parts::Fault(0)]),
+        ("a =", 2, ", b", &[Parts::Fault(0)]),
+        ("a", 1, " =", &[Parts::Fault(2)]),
+        ("a", 1, " => b", &[Parts::Fault(2)]),
+        ("a", 1, " b", &[Parts::Fault(1)]),
+        ("'a", 1, "", &[Parts::Fault(0)]),
+    ];
+    for (inside, groups, after, wanted) in rows {
+        let stream = held(&rt, inside, *groups, after)?;
+        let mut list = Entries {
+            left: stream.trees(),
+        };
+        for one in *wanted {
+            match list.next() {
+                Some(Ok(entry)) => assert_eq!(rt; shown(&entry), *one, "{inside:?} {after:?}"),
+                Some(Err(fault)) => assert_eq!(rt;
+                    Parts::Fault(fault.at),
+                    *one,
+                    "{inside:?} {after:?}"
+                ),
+                None => assert!(rt; false, "{inside:?} {after:?}"),
+            }
+        }
+        assert!(rt; list.next().is_none(), "{inside:?} {after:?}");
+    }
+    Ok(())
+}
+
+// Here a path in such a group is in another one: `$m:meta` is passed on with `$p = 1` in it. Each row is the path, the
+// number of its groups, the text after it, the number of groups around both, the text after them, and the entries.
+#[test]
+fn a_path_in_a_group_without_delimiters_is_read_in_another(rt: HostRuntime) -> Result<(), Fail> {
+    let rows: &[(&str, usize, &str, usize, &str, &[Parts])] = &[
+        (
+            "a",
+            1,
+            " = 1 + 2",
+            1,
+            ", b",
+            &[Parts::Value(1, 3), Parts::Path(1)],
+        ),
+        ("a::b", 3, "(c)", 2, "", &[Parts::List(4, 1)]),
+        ("a", 1, "", 1, " = 1", &[Parts::Value(1, 1)]),
+        ("a", 1, " b", 1, "", &[Parts::Fault(0)]),
+        ("a = 1", 1, " = 2", 1, "", &[Parts::Fault(0)]),
+        ("a", 1, " =", 1, ", b", &[Parts::Fault(0)]),
+        ("a", 1, "(b)", 1, "(c)", &[Parts::Fault(1)]),
+    ];
+    for (path, groups, args, around, after, wanted) in rows {
+        let mut stream = held(&rt, path, *groups, args)?;
+        for _ in 0..*around {
+            let group = Group::new(Delimiter::None, stream);
+            stream = TokenStream::from_tree(rt.alloc(), TokenTree::Group(group))?;
+        }
+        stream.extend_streams([TokenStream::from_str(after, &mut SourceMap::new(rt.alloc()))?])?;
+        let mut list = Entries {
+            left: stream.trees(),
+        };
+        for one in *wanted {
+            match list.next() {
+                Some(Ok(entry)) => assert_eq!(rt;
+                    shown(&entry),
+                    *one,
+                    "{path:?} {args:?} {after:?}"
+                ),
+                Some(Err(fault)) => {
+                    assert_eq!(rt; Parts::Fault(fault.at), *one, "{path:?} {args:?} {after:?}")
+                }
+                None => assert!(rt; false, "{path:?} {args:?} {after:?}"),
+            }
+        }
+        assert!(rt; list.next().is_none(), "{path:?} {args:?} {after:?}");
+    }
+    Ok(())
+}
+
+// The span of an error is that of the wrong tree in the group, or that of the group if trees are missing.
+#[test]
+fn an_error_in_a_group_without_delimiters_has_a_span(rt: HostRuntime) -> Result<(), Fail> {
+    let stream = held(&rt, "a b", 2, ", c")?;
+    match parse_entry(stream.trees()) {
+        Ok(_) => assert!(rt; false),
+        Err(fault) => {
+            assert_eq!(rt; fault.at, 0);
+            let span = fault.span();
+            let shown = format!(in rt.alloc(); "{span:?}")?;
+            assert_eq!(rt; shown.as_str(), "Some(bytes(3..4))");
+        }
+    }
+    let stream = held(&rt, "a = ", 1, ", c")?;
+    match parse_entry(stream.trees()) {
+        Ok(_) => assert!(rt; false),
+        Err(fault) => {
+            let span = fault.span();
+            let shown = format!(in rt.alloc(); "{span:?}")?;
+            assert_eq!(rt; shown.as_str(), "Some(bytes(0..0))");
+        }
+    }
+    let stream = held(&rt, "a = 1", 1, ", b")?;
+    match check_entries(stream.trees(), &["b"]) {
+        Ok(()) => assert!(rt; false),
+        Err(error) => {
+            assert_eq!(rt; error.problem, EntryProblem::Unknown);
+            assert_eq!(rt; error.at, 0);
+            let span = error.span();
+            let shown = format!(in rt.alloc(); "{span:?}")?;
+            assert_eq!(rt; shown.as_str(), "Some(bytes(1..2))");
+        }
+    }
+    Ok(())
 }

@@ -9,7 +9,8 @@ use Rattle.proc_macro2.specs.declared.Delimiter.TheVariants.{Parenthesis}
 use Rattle.proc_macro2.specs.declared.TokenTree.{TokenTree}
 use Rattle.proc_macro2.specs.declared.TokenTree.TheVariants.{Group, Ident, Punct}
 use Rattle.proc_macro2.specs.DocGroup.{trees_of}
-use Rattle.declarations.specs.Attribute.{Parts, after_path, attributes_in, is_word, path_of}
+use Rattle.declarations.specs.Attribute.{Parts, after_path, attributes_in, is_named, is_word, path_of}
+use Rattle.declarations.specs.Bare.{inside_of}
 use Rattle.declarations.specs.declared.field.Field.{Field}
 use Rattle.write_getters.specs.Copies.{copied}
 
@@ -21,8 +22,8 @@ is_group_of _ word = false
 -- whether the attribute is `#[getter(skip)]`
 abbrev pub is_skip : Parts → Bool
 is_skip attribute =
-    let inside = trees_of attribute.group.stream in
-    is_word (path_of inside) (codes "getter") && is_group_of (after_path inside) (codes "skip")
+    let inside = inside_of attribute.group in
+    is_named (path_of inside) (codes "getter") && is_group_of (after_path inside) (codes "skip")
 
 abbrev pub is_skipped : Field → Bool
 is_skipped field = list_any is_skip (attributes_in field.attributes.now)

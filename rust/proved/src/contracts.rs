@@ -123,7 +123,8 @@
 //! - <a id="declarations.Attribute.IsAttributeAt"></a>**IsAttributeAt**: the trees are the attribute and then
 //!   the rest
 //! - <a id="declarations.Entry.IsEntryAt"></a>**IsEntryAt**: the trees begin with an entry that has these
-//!   parts, and the rest comes after it
+//!   parts, and the rest comes after it. The entry may be in a group without delimiters, and its path in
+//!   another one
 //! - <a id="declarations.EntryCheck.IsEntryError"></a>**IsEntryError**: all entries before the error have known
 //!   names, no two the same, and the trees after them are wrong as the error says
 //! - <a id="declarations.Entry.IsEntryFault"></a>**IsEntryFault**: the trees are not exactly one entry. The
@@ -139,10 +140,14 @@
 //!   parts
 //! - <a id="declarations.Forms.IsItem"></a>**IsItem**: a struct, an enum or a union: attributes, a visibility,
 //!   its keyword and name, generics, where clause and body
+//! - <a id="declarations.Entry.IsNoEntry"></a>**IsNoEntry**: the trees begin with no entry, and this is the
+//!   error
 //! - <a id="declarations.Reading.IsOnly"></a>**IsOnly**: no other part and rest can be read from these trees by
 //!   the form
 //! - <a id="declarations.Param.IsOnlyParam"></a>**IsOnlyParam**: no other parameter, and none with another
 //!   rest, is at the start of the trees
+//! - <a id="declarations.Entry.IsOnlyPlainRest"></a>**IsOnlyPlainRest**: the trees begin with no group without
+//!   delimiters, or whatever the rule reads there, this is the rest after it
 //! - <a id="declarations.Param.IsOnlyPredicate"></a>**IsOnlyPredicate**: no other predicate, and none with
 //!   another rest, is at the start of the trees
 //! - <a id="declarations.Entry.IsOnlyRest"></a>**IsOnlyRest**: whatever the rule reads at the start of the
@@ -195,9 +200,9 @@
 //! - <a id="declarations.rules.Types.bounds"></a>**bounds**: bounds, with `+` between two
 //! - <a id="declarations.CompileError.compile_error"></a>**compile_error**: the trees of
 //!   `::core::compile_error! { "text" }`, each with this span
+//! - <a id="declarations.Attribute.doc_of"></a>**doc_of**: the literal, if the trees in the brackets are `doc`,
+//!   `=` Alone and that literal
 //! - <a id="declarations.Grammar.ends"></a>**ends**: whether the part that is read may end in this state
-//! - <a id="declarations.rules.Entries.entry"></a>**entry**: an entry: a literal, or a path with what follows
-//!   it
 //! - <a id="declarations.Entry.entry_extent"></a>**entry_extent**: the span of the first tree of an entry that
 //!   has this kind and this path
 //! - <a id="declarations.rules.Expressions.expression"></a>**expression**: an expression, from where an operand
@@ -218,11 +223,12 @@
 //! - <a id="declarations.rules.Parts.generics"></a>**generics**: generic parameters in angle brackets, or
 //!   nothing
 //! - <a id="declarations.rules.Parts.inner_attributes"></a>**inner_attributes**: any number of inner attributes
-//! - <a id="declarations.Attribute.inside"></a>**inside**: the trees in the attribute's brackets
+//! - <a id="declarations.Attribute.inside"></a>**inside**: the trees in the attribute's brackets; or if these
+//!   are one group without delimiters, the trees in it
 //! - <a id="declarations.Item.is_keyword"></a>**is_keyword**: whether an identifier is a keyword, and so cannot
 //!   be a name
-//! - <a id="declarations.Attribute.is_word"></a>**is_word**: whether the trees are one identifier with this
-//!   text
+//! - <a id="declarations.Attribute.is_named"></a>**is_named**: whether the trees are one identifier with this
+//!   text, perhaps in groups without delimiters
 //! - <a id="declarations.Grammar.names"></a>**names**: whether a sign of this class is the name of the item, in
 //!   this state
 //! - <a id="declarations.Param.param_trees"></a>**param_trees**: the parts of a generic parameter that the
@@ -234,7 +240,8 @@
 //! - <a id="declarations.Param.predicate_trees"></a>**predicate_trees**: the parts of a predicate that the
 //!   library returns, as lists of trees
 //! - <a id="declarations.rules.Rules.rules"></a>**rules**: the grammar of each named rule
-//! - <a id="declarations.Entry.sole_name"></a>**sole_name**: the identifier, if it is the only tree
+//! - <a id="declarations.Entry.sole_name"></a>**sole_name**: the identifier, if it is the only tree, perhaps in
+//!   groups without delimiters
 //! - <a id="declarations.Grammar.step"></a>**step**: the state that a sign of this class leads to, or nothing
 //!   if the sign cannot come next
 //! - <a id="declarations.CompileError.told_at"></a>**told_at**: the span at which an error is reported: that of
@@ -670,6 +677,8 @@
 //! - <a id="pm_stream.Steps.step_of"></a>**step_of**: the value in contracts of a step that the traversal gave
 //! - <a id="pm_stream.Steps.steps"></a>**steps**: the steps over a stream
 //! - <a id="pm_stream.Steps.steps_onto"></a>**steps_onto**: the steps over these trees, and then others
+//! - <a id="pm_stream.DocGroup.trees_of"></a>**trees_of**: the trees of a stream as a list, without those
+//!   inside groups
 //! - <a id="pm_stream.TreeSpan.with_span"></a>**with_span**: the tree with this span; the trees in a group keep
 //!   their spans
 //!

@@ -13,6 +13,7 @@
 mod any_item;
 mod attribute;
 mod attribute_entry;
+mod bare;
 mod class;
 mod entry;
 mod entry_check;

@@ -35,31 +35,89 @@ fn a_field_that_has_to_be_set_is_named() {
     assert_eq!(told, "the field `r#type` is not set");
 }
 
-/// Types and expressions that a `macro_rules!` macro passes are groups without delimiters.
+/// The value of a default.
+static NINE: u8 = 9;
+
+/// Fragments that a `macro_rules!` macro passes are groups without delimiters.
 macro_rules! made {
-    ($vis:vis $name:ident, $t:ty, $e:expr, $l:literal, $p:path) => {
+    (
+        $vis:vis $name:ident, $t:ty, $e:expr, $l:literal, $p:path, $m:meta, $n:meta, $bound:path, $b:block
+    ) => {
         #[derive(Builder, Debug, PartialEq)]
-        $vis struct $name {
-            a: $t,
+        $vis struct $name<T: $bound>
+        where
+            Vec<T>: $bound,
+        {
+            $vis a: $t,
             #[builder(default = $e)]
             b: $t,
             #[builder(default = $l)]
             c: u8,
-            #[builder(default)]
+            #[$m]
             d: $p,
+            #[builder($n)]
+            e: Option<&'static u8>,
+            f: [u8; $b],
+            g: Option<T>,
         }
     };
 }
 
 macro_rules! twice_made {
-    ($vis:vis $name:ident, $t:ty, $e:expr, $l:literal, $p:path) => { made!($vis $name, $t, $e, $l, $p); };
+    (
+        $vis:vis $name:ident, $t:ty, $e:expr, $l:literal, $p:path, $m:meta, $n:meta, $bound:path, $b:block
+    ) => {
+        made!($vis $name, $t, $e, $l, $p, $m, $n, $bound, $b);
+    };
 }
 
-made!(pub Once, u8, 1 + 1, 3, std::string::String);
-twice_made!(pub(crate) Twice, (u8, u8), (1, 2), 3, Vec<u8>);
+/// The attributes are made of paths, which stay in groups of their own.
+macro_rules! made_of_paths {
+    ($name:ident, $attribute:path, $entry:path, $e:expr) => {
+        made!($name, u8, 1, 3, Vec<u8>, $attribute($entry), $entry = $e, Debug, { 1 });
+    };
+}
+
+/// Items that are passed as a whole.
+macro_rules! item {
+    ($i:item) => {
+        #[derive(Builder, Debug, PartialEq)]
+        $i
+    };
+}
+
+macro_rules! twice_item {
+    ($i:item) => {
+        item! { $i }
+    };
+}
+
+made!(pub Once, u8, 1 + 1, 3, std::string::String, builder(default), default = Some(&NINE), Debug, { 2 });
+twice_made!(
+    pub(crate) Twice, (u8, u8), (1, 2), 3, Vec<u8>, builder(default), default = Some(&NINE), std::fmt::Debug, { 1 }
+);
+made_of_paths!(OfPaths, builder, default, Some(&NINE));
+item! {
+    pub(crate) struct Whole {
+        #[builder(default = 7)]
+        a: u8,
+    }
+}
+twice_item! {
+    pub struct TwiceWhole<'a> {
+        #[builder(default)]
+        a: Option<&'a u8>,
+    }
+}
 
 #[test]
 fn fragments_are_taken_over() {
-    assert_eq!(Once::builder().a(1).build(), Ok(Once { a: 1, b: 2, c: 3, d: String::new() }));
-    assert_eq!(Twice::builder().a((0, 0)).build(), Ok(Twice { a: (0, 0), b: (1, 2), c: 3, d: vec![] }));
+    let once = Once { a: 1, b: 2, c: 3, d: String::new(), e: Some(&9), f: [0; 2], g: Some("x") };
+    assert_eq!(Once::builder().g("x").a(1).f([0; 2]).build(), Ok(once));
+    let twice = Twice { a: (0, 0), b: (1, 2), c: 3, d: vec![], e: Some(&9), f: [0], g: Some(1.5) };
+    assert_eq!(Twice::builder().g(1.5).a((0, 0)).f([0]).build(), Ok(twice));
+    let of_paths = OfPaths { a: 1, b: 1, c: 3, d: vec![], e: Some(&9), f: [0], g: Some('y') };
+    assert_eq!(OfPaths::builder().g('y').a(1).f([0]).build(), Ok(of_paths));
+    assert_eq!(Whole::builder().build(), Ok(Whole { a: 7 }));
+    assert_eq!(TwiceWhole::builder().build(), Ok(TwiceWhole { a: None }));
 }

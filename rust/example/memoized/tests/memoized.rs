@@ -58,19 +58,29 @@ fn patterns_and_names_of_the_body_stay_its_own() {
 }
 
 macro_rules! function {
-    ($vis:vis $name:ident($argument:ident: $t:ty) -> $answer:ty, $e:expr) => {
+    ($vis:vis $name:ident($argument:ident: $t:ty) -> $answer:path, $e:expr, $m:meta, $b:block) => {
         #[memoized]
+        #[$m]
         $vis fn $name($argument: $t) -> $answer {
             called();
+            let _: u8 = $b;
             $e * 2
         }
     };
 }
 
-function!(pub twice(number: u32) -> u32, number + 1);
+macro_rules! twice_function {
+    ($vis:vis $name:ident($argument:ident: $t:ty) -> $answer:path, $e:expr, $m:meta, $b:block) => {
+        function!($vis $name($argument: $t) -> $answer, $e, $m, $b);
+    };
+}
+
+function!(pub twice(number: u32) -> u32, number + 1, allow(dead_code), { 1 });
+twice_function!(pub(crate) passed_on(number: u8) -> std::primitive::u8, number + 1, inline, { 1 });
 
 #[test]
 fn fragments_are_taken_over() {
     CALLS.set(0);
     assert_eq!((twice(1), twice(1), CALLS.get()), (4, 4, 1));
+    assert_eq!((passed_on(2), passed_on(2), CALLS.get()), (6, 6, 2));
 }

@@ -42,7 +42,7 @@ fn names(item: &TokenStream) -> Result<TokenStream, CompileError> {
     })
 }
 
-/// The text of a variant: that of its attribute, or its name. An attribute that is passed on as `$m:meta` isn't seen.
+/// The text of a variant: that of its attribute, or its name.
 fn text(variant: &Variant) -> Result<Literal, CompileError> {
     let Some(attribute) = Attributes::new(variant.attributes).find(|attribute| attribute.is("name")) else {
         return Ok(Literal::from(variant.name.to_string().as_str()));

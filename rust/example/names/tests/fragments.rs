@@ -2,7 +2,7 @@
 use names::Names;
 
 macro_rules! shape {
-    ($name:ident, $t:ty, $e:expr, $m:meta, $v:vis, $p:path, $l:literal) => {
+    ($name:ident, $t:ty, $e:expr, $m:meta, $v:vis, $p:path, $l:literal, $n:meta) => {
         #[derive(Names)]
         #[$m]
         $v enum $name<const N: $t = 2>
@@ -13,13 +13,15 @@ macro_rules! shape {
             First = $e,
             #[name = $l]
             Second,
+            #[$n]
+            Third,
         }
     };
 }
 
 macro_rules! twice_shape {
-    ($name:ident, $t:ty, $e:expr, $m:meta, $v:vis, $p:path, $l:literal) => {
-        shape!($name, $t, $e, $m, $v, $p, $l);
+    ($name:ident, $t:ty, $e:expr, $m:meta, $v:vis, $p:path, $l:literal, $n:meta) => {
+        shape!($name, $t, $e, $m, $v, $p, $l, $n);
     };
 }
 
@@ -31,8 +33,8 @@ macro_rules! item {
     };
 }
 
-shape!(Once, usize, 1 + 1, allow(dead_code), pub(crate), Sized, "second");
-twice_shape!(Twice, usize, 1 + 1, allow(dead_code), pub, ::core::marker::Sized, "second");
+shape!(Once, usize, 1 + 1, allow(dead_code), pub(crate), Sized, "second", name = "third");
+twice_shape!(Twice, usize, 1 + 1, allow(dead_code), pub, ::core::marker::Sized, "second", name = "third");
 item! {
     #[allow(dead_code)]
     pub enum Whole {
@@ -43,7 +45,8 @@ item! {
 
 #[test]
 fn fragments_are_taken_over() {
-    assert_eq!([Once::<3>::First, Once::Second].map(|value| value.name()), ["First", "second"]);
-    assert_eq!([Twice::<3>::First, Twice::Second].map(|value| value.name()), ["First", "second"]);
+    let names = ["First", "second", "third"];
+    assert_eq!([Once::<3>::First, Once::Second, Once::Third].map(|value| value.name()), names);
+    assert_eq!([Twice::<3>::First, Twice::Second, Twice::Third].map(|value| value.name()), names);
     assert_eq!(Whole::First.name(), "w");
 }

@@ -11,26 +11,26 @@ fn log(name: &'static str, begins: bool) {
 }
 
 macro_rules! function {
-    ($v:vis $name:ident, $t:ty, $e:expr, $p:path, $m:meta) => {
+    ($v:vis $name:ident, $t:ty, $e:expr, $p:path, $m:meta, $b:block) => {
         #[traced(log)]
         #[$m]
         $v fn $name<T: $p>(number: $t, _other: &T) -> $t
         where
             $t: $p,
         {
-            number + $e * 2
+            number + $e * 2 + $b
         }
     };
 }
 
 macro_rules! twice_function {
-    ($v:vis $name:ident, $t:ty, $e:expr, $p:path, $m:meta) => {
-        function!($v $name, $t, $e, $p, $m);
+    ($v:vis $name:ident, $t:ty, $e:expr, $p:path, $m:meta, $b:block) => {
+        function!($v $name, $t, $e, $p, $m, $b);
     };
 }
 
-function!(pub(crate) once, u32, 1 + 1, Copy, inline);
-twice_function!(twice, u32, 1 + 1, std::marker::Copy, allow(dead_code));
+function!(pub(crate) once, u32, 1 + 1, Copy, inline, { 0 });
+twice_function!(twice, u32, 1 + 1, std::marker::Copy, allow(dead_code), { 0 });
 
 macro_rules! item {
     ($i:item) => {
@@ -39,9 +39,20 @@ macro_rules! item {
     };
 }
 
+macro_rules! twice_item {
+    ($i:item) => {
+        item! { $i }
+    };
+}
+
 item! {
     fn whole() -> u8 {
         3
+    }
+}
+twice_item! {
+    pub(crate) fn twice_whole() -> u8 {
+        5
     }
 }
 
@@ -54,12 +65,20 @@ macro_rules! path {
     };
 }
 
+macro_rules! twice_path {
+    ($name:ident, $p:path) => {
+        path!($name, $p);
+    };
+}
+
 path!(by_path, crate::log);
+twice_path!(twice_by_path, self::log);
 
 #[test]
 fn fragments_are_taken_over() {
-    assert_eq!((once(1, &2u8), twice(1, &'a'), whole(), by_path()), (5, 5, 3, 4));
-    let names = ["once", "twice", "whole", "by_path"];
+    assert_eq!((once(1, &2u8), twice(1, &'a'), whole(), twice_whole()), (5, 5, 3, 5));
+    assert_eq!((by_path(), twice_by_path()), (4, 4));
+    let names = ["once", "twice", "whole", "twice_whole", "by_path", "twice_by_path"];
     let wanted: Vec<_> = names.into_iter().flat_map(|name| [(name, true), (name, false)]).collect();
     assert_eq!(SEEN.take(), wanted);
 }

@@ -1,9 +1,10 @@
 // Made from crates/declarations/src/attribute.rt by rust/erase: change that file, not this one.
 //! Attributes, one at a time.
 
+use crate::declarations::bare::{bared, has_no_delimiters, inside_of};
 use crate::declarations::item::split_group;
 use crate::pm_stream::{Group, TokenTree};
-use crate::pm_token::{Delimiter, Literal, Punct};
+use crate::pm_token::{Delimiter, Literal, Punct, Spacing};
 
 /// An attribute, such as `#[derive(Clone)]` or `#![no_std]`. A doc comment is an attribute too.
 #[derive(Clone, Copy, Debug)]
@@ -155,6 +156,11 @@ impl<'a> Attribute<'a> {
     ///
     /// It is `rustfmt::skip` in `#[rustfmt::skip]`, `doc` in `#[doc = "a"]`, and `unsafe` in `#[unsafe(no_mangle)]`.
     ///
+    /// If the trees in the brackets are one group without delimiters, as a macro by example passes `$m:meta`, the path
+    /// is that of the trees in this group, or in the innermost of several such groups. So are what
+    /// [`args`](Attribute::args), [`is`](Attribute::is) and [`doc`](Attribute::doc) return. A path that is such a group
+    /// itself, as in `#[$p = 1]`, is returned as it is.
+    ///
     /// # Contract
     ///
     /// - `ensures`: <code>result.now ≡ [path_of] ([inside] self.now)</code>
@@ -163,12 +169,11 @@ impl<'a> Attribute<'a> {
     /// [inside]: crate::contracts#declarations.Attribute.inside
     pub fn path(&self) -> &'a [TokenTree]
     {
-        let inside = self.group.stream_ref().trees();
-        let (path, _) = inside.split_at(path_len(inside));
-        path
+        split_path(inside_of(self.group)).0
     }
 
-    /// Returns what comes after the path.
+    /// Returns what comes after the path. A value that is a group without delimiters, as in `#[a = $e]`, is returned as
+    /// it is.
     ///
     /// # Contract
     ///
@@ -179,41 +184,89 @@ impl<'a> Attribute<'a> {
     /// [inside]: crate::contracts#declarations.Attribute.inside
     pub fn args(&self) -> AttributeArgs<'a>
     {
-        let inside = self.group.stream_ref().trees();
-        let (_, rest) = inside.split_at(path_len(inside));
-        args_of(rest)
+        args_of(split_path(inside_of(self.group)).1)
     }
 
-    /// Returns whether the path is this one identifier. A raw identifier is compared with its `r#`.
+    /// Returns whether the path is this one identifier, perhaps in groups without delimiters. A raw identifier is
+    /// compared with its `r#`.
     ///
     /// # Contract
     ///
-    /// - `ensures`: <code>result ≡ [is_word] ([path_of] ([inside] self.now)) ([spelled] word.now)</code>
+    /// - `ensures`: <code>result ≡ [is_named] ([path_of] ([inside] self.now)) ([spelled] word.now)</code>
     ///
-    /// [is_word]: crate::contracts#declarations.Attribute.is_word
+    /// [is_named]: crate::contracts#declarations.Attribute.is_named
     /// [path_of]: crate::contracts#declarations.Attribute.path_of
     /// [inside]: crate::contracts#declarations.Attribute.inside
     /// [spelled]: crate::contracts#pm_token.Spelling.spelled
     pub fn is(&self, word: &str) -> bool
     {
-        match self.path() {
-            [TokenTree::Ident(name)] => name.eq_str(word),
-            _ => false,
-        }
+        is_named(self.path(), word)
     }
 
-    /// Returns the literal of a doc comment or of `#[doc = "text"]`, and `None` for every other attribute.
+    /// Returns the literal of a doc comment or of `#[doc = "text"]`, and `None` for every other attribute. The literal
+    /// may be in groups without delimiters.
     ///
     /// # Contract
     ///
-    /// - `ensures`: <code>[option_copied] result ≡ [doc_of] self.now.group.now</code>
+    /// - `ensures`: <code>[option_copied] result ≡ [doc_of] ([inside] self.now)</code>
     ///
     /// [option_copied]: crate::contracts#std.option_copied
-    /// [doc_of]: crate::contracts#pm_stream.DocGroup.doc_of
+    /// [doc_of]: crate::contracts#declarations.Attribute.doc_of
+    /// [inside]: crate::contracts#declarations.Attribute.inside
     pub fn doc(&self) -> Option<&'a Literal>
     {
-        self.group.doc()
+        let (path, rest) = split_path(inside_of(self.group));
+        if is_named(path, "doc") {
+            literal_after(rest)
+        } else {
+            None
+        }
     }
+}
+
+/// Whether the trees are this one identifier, perhaps in groups without delimiters.
+pub(crate) fn is_named(trees: &[TokenTree], word: &str) -> bool
+{
+    is_word(bared(trees), word)
+}
+
+/// Whether the trees are this one identifier.
+fn is_word(trees: &[TokenTree], word: &str) -> bool
+{
+    match trees {
+        [TokenTree::Ident(name)] => name.eq_str(word),
+        _ => false,
+    }
+}
+
+/// The literal after `=` Alone, perhaps in groups without delimiters, if there are no other trees.
+fn literal_after(trees: &[TokenTree]) -> Option<&Literal>
+{
+    match trees.split_first() {
+        Some((TokenTree::Punct(mark), value)) if is_equals(mark) => only_literal(bared(value)),
+        _ => None,
+    }
+}
+
+/// Whether it is the mark `=` Alone.
+fn is_equals(mark: &Punct) -> bool
+{
+    mark.as_char() == '=' && mark.spacing() == Spacing::Alone
+}
+
+/// The literal, if it is the only tree.
+fn only_literal(trees: &[TokenTree]) -> Option<&Literal>
+{
+    match trees {
+        [TokenTree::Literal(literal)] => Some(literal),
+        _ => None,
+    }
+}
+
+/// The path at the start of the trees, and the trees after it.
+fn split_path(trees: &[TokenTree]) -> (&[TokenTree], &[TokenTree])
+{
+    trees.split_at(path_len(trees))
 }
 
 /// The number of trees in the path at the start of the trees.
@@ -236,14 +289,6 @@ fn goes_on(tree: &TokenTree) -> bool
         TokenTree::Group(group) => has_no_delimiters(group.delimiter()),
         TokenTree::Punct(mark) => mark.as_char() != '=',
         TokenTree::Ident(_) | TokenTree::Literal(_) => true,
-    }
-}
-
-pub(crate) fn has_no_delimiters(delimiter: Delimiter) -> bool
-{
-    match delimiter {
-        Delimiter::None => true,
-        Delimiter::Parenthesis | Delimiter::Bracket | Delimiter::Brace => false,
     }
 }
 

@@ -13,14 +13,20 @@ impl<'a> Attribute<'a> {
     /// `at` counts the trees in the brackets. [`args`](Attribute::args) returns trees of any other form as they are.
     /// The call allocates nothing.
     ///
+    /// If a macro by example passed the entry or its path in a group without delimiters, as `$m:meta` or `$p:path`,
+    /// the trees inside are read, as by [`parse_entry`](crate::declarations::parse_entry). That call also says where an
+    /// error inside of such a group is.
+    ///
     /// # Contract
     ///
-    /// - `ensures ok`: <code>[IfOk] result (λ entry. [IsEntryAt] ([inside] self.now) entry \[\])</code>
-    /// - `ensures err`: <code>[IfErr] result (λ fault. [IsEntryFault] ([inside] self.now) fault)</code>
+    /// - `ensures ok`: <code>[IfOk] result (λ entry. [IsEntryAt] ([trees_of] self.now.group.now.stream) entry
+    ///   \[\])</code>
+    /// - `ensures err`: <code>[IfErr] result (λ fault. [IsEntryFault] ([trees_of] self.now.group.now.stream)
+    ///   fault)</code>
     ///
     /// [IfOk]: crate::contracts#std.IfOk
     /// [IsEntryAt]: crate::contracts#declarations.Entry.IsEntryAt
-    /// [inside]: crate::contracts#declarations.Attribute.inside
+    /// [trees_of]: crate::contracts#pm_stream.DocGroup.trees_of
     /// [IfErr]: crate::contracts#std.IfErr
     /// [IsEntryFault]: crate::contracts#declarations.Entry.IsEntryFault
     pub fn entry(&self) -> Result<Entry<'a>, Fault>

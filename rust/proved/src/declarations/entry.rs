@@ -1,7 +1,8 @@
 // Made from crates/declarations/src/entry.rt by rust/erase: change that file, not this one.
 //! The entries of an attribute's list.
 
-use crate::declarations::attribute::has_no_delimiters;
+use crate::declarations::attribute::is_named;
+use crate::declarations::bare::{bared, has_no_delimiters, inside_of};
 use crate::declarations::class::Class;
 use crate::declarations::fault::Fault;
 use crate::declarations::item::split_group;
@@ -45,28 +46,109 @@ pub struct Entry<'a> {
 /// If the trees begin with no entry, the call returns a `Fault`. The rule `entry` is in crates/declarations/README.md.
 /// The call allocates nothing. For `a::b = f(1) + 2, c` the path is `a::b`, the value `f(1) + 2`, and the rest `, c`.
 ///
+/// A macro by example passes `$m:meta` and `$p:path` as groups without delimiters. If the trees begin with such a
+/// group, the entry is the one that the group holds, and its parts are trees inside of the group. If the group holds a
+/// path alone, a list or `=` and a value can come after the group. In the group the path of the entry may be in a
+/// group of its own. Groups that hold nothing but such a group are looked through. An error inside of the group has an
+/// `at` of 0, since no tree comes before the group. Its span is that of the first wrong tree inside, or that of the
+/// group if trees are missing at its end.
+///
 /// # Contract
 ///
 /// - `ensures ok`: <code>[IfOk] result (λ found. [IsEntryAt] trees.now found.0 found.1.now)</code>
-/// - `ensures only`: <code>[IfOk] result (λ found. [IsOnlyRest] [entry] trees.now found.1.now)</code>
+/// - `ensures only`: <code>[IfOk] result (λ found. [IsOnlyPlainRest] trees.now found.1.now)</code>
 /// - `ensures fewer`: <code>[IfOk] result (λ found. [length] found.1.now &lt; [length] trees.now)</code>
-/// - `ensures fault`: <code>[IfErr] result (λ fault. [FaultAt] ([ByRule] [entry]) trees.now fault.at)</code>
-/// - `ensures span`: <code>[IfErr] result (λ fault. fault.span ≡ [extent_at] trees.now fault.at)</code>
+/// - `ensures fault`: <code>[IfErr] result (λ fault. [IsNoEntry] trees.now fault)</code>
 ///
 /// [IfOk]: crate::contracts#std.IfOk
 /// [IsEntryAt]: crate::contracts#declarations.Entry.IsEntryAt
-/// [IsOnlyRest]: crate::contracts#declarations.Entry.IsOnlyRest
-/// [entry]: crate::contracts#declarations.rules.Entries.entry
+/// [IsOnlyPlainRest]: crate::contracts#declarations.Entry.IsOnlyPlainRest
 /// [length]: crate::contracts#std.length
 /// [IfErr]: crate::contracts#std.IfErr
-/// [FaultAt]: crate::contracts#declarations.Reading.FaultAt
-/// [ByRule]: crate::contracts#declarations.rules.Pieces.ByRule
-/// [extent_at]: crate::contracts#declarations.Fault.extent_at
+/// [IsNoEntry]: crate::contracts#declarations.Entry.IsNoEntry
 pub fn parse_entry(trees: &[TokenTree]) -> Result<(Entry<'_>, &[TokenTree]), Fault>
+{
+    match split_bare(trees) {
+        Some((group, after)) => held_entry(group, after),
+        None => plain_entry(trees),
+    }
+}
+
+/// The entry at the start of the trees, which is not in a group without delimiters, and the trees after it.
+fn plain_entry(trees: &[TokenTree]) -> Result<(Entry<'_>, &[TokenTree]), Fault>
 {
     match entry_of(trees) {
         Ok((entry, rest)) => Ok((entry, rest)),
         Err(left) => Err(Fault::ahead_of(trees.len() - left.len(), left)),
+    }
+}
+
+/// The entry that the group holds, or whose path it holds, and the trees after the entry.
+fn held_entry<'a>(
+    group: &'a Group,
+    after: &'a [TokenTree],
+) -> Result<(Entry<'a>, &'a [TokenTree]), Fault>
+{
+    match whole_near_entry(inside_of(group)) {
+        Ok(held) => match held.kind {
+            EntryKind::Path => go_on(held.path, after),
+            EntryKind::List(_) | EntryKind::Value(_) | EntryKind::Literal(_) => Ok((held, after)),
+        },
+        Err(fault) => Err(fault_within(group, fault)),
+    }
+}
+
+/// The entry at the start of the trees, perhaps in a group without delimiters that holds no such group.
+fn near_entry(trees: &[TokenTree]) -> Result<(Entry<'_>, &[TokenTree]), Fault>
+{
+    match split_bare(trees) {
+        Some((group, after)) => near_held(group, after),
+        None => plain_entry(trees),
+    }
+}
+
+/// The entry that the group holds, or whose path it holds. In the group there is no group without delimiters.
+fn near_held<'a>(
+    group: &'a Group,
+    after: &'a [TokenTree],
+) -> Result<(Entry<'a>, &'a [TokenTree]), Fault>
+{
+    match whole_plain_entry(inside_of(group)) {
+        Ok(plain) => match plain.kind {
+            EntryKind::Path => go_on(plain.path, after),
+            EntryKind::List(_) | EntryKind::Value(_) | EntryKind::Literal(_) => Ok((plain, after)),
+        },
+        Err(fault) => Err(fault_within(group, fault)),
+    }
+}
+
+/// The error in the trees before which the group is, for this error in the trees inside of the group.
+fn fault_within(group: &Group, inner: Fault) -> Fault
+{
+    Fault {
+        at: 0,
+        span: Some(span_or(inner.span, group.span())),
+    }
+}
+
+/// The span, or else the other one.
+fn span_or(span: Option<Span>, other: Span) -> Span
+{
+    match span {
+        Some(span) => span,
+        None => other,
+    }
+}
+
+/// The entry that has this path, and at the start of the trees what comes after its path; and the trees after it.
+fn go_on<'a>(
+    path: &'a [TokenTree],
+    after: &'a [TokenTree],
+) -> Result<(Entry<'a>, &'a [TokenTree]), Fault>
+{
+    match args_of(after) {
+        Ok((kind, rest)) => Ok((Entry { path, kind }, rest)),
+        Err(left) => Err(Fault::ahead_of(1 + (after.len() - left.len()), left)),
     }
 }
 
@@ -75,16 +157,13 @@ impl<'a> Entry<'a> {
     ///
     /// # Contract
     ///
-    /// - `ensures`: <code>result ≡ [is_word] self.now.path.now ([spelled] word.now)</code>
+    /// - `ensures`: <code>result ≡ [is_named] self.now.path.now ([spelled] word.now)</code>
     ///
-    /// [is_word]: crate::contracts#declarations.Attribute.is_word
+    /// [is_named]: crate::contracts#declarations.Attribute.is_named
     /// [spelled]: crate::contracts#pm_token.Spelling.spelled
     pub fn is(&self, word: &str) -> bool
     {
-        match self.path {
-            [TokenTree::Ident(name)] => name.eq_str(word),
-            _ => false,
-        }
+        is_named(self.path, word)
     }
 
     /// Returns the path if it is one identifier, and `None` for a literal or a longer path.
@@ -99,13 +178,11 @@ impl<'a> Entry<'a> {
     /// [sole_name]: crate::contracts#declarations.Entry.sole_name
     pub fn name(&self) -> Option<&'a Ident>
     {
-        match self.path {
-            [TokenTree::Ident(name)] => Some(name),
-            _ => None,
-        }
+        only_name(bared(self.path))
     }
 
-    /// Returns the span of the first tree. An entry that a call of this crate returned always has one.
+    /// Returns the span of the first tree. An entry that a call of this crate returned always has one. For an entry in
+    /// a group without delimiters it is that of the first tree inside.
     ///
     /// # Contract
     ///
@@ -118,6 +195,33 @@ impl<'a> Entry<'a> {
             EntryKind::Literal(literal) => first_span(literal),
             EntryKind::Path | EntryKind::List(_) | EntryKind::Value(_) => first_span(self.path),
         }
+    }
+}
+
+/// The identifier, if it is the only tree.
+fn only_name(trees: &[TokenTree]) -> Option<&Ident>
+{
+    match trees {
+        [TokenTree::Ident(name)] => Some(name),
+        _ => None,
+    }
+}
+
+/// The group without delimiters that the trees begin with, and the trees after it.
+fn split_bare(trees: &[TokenTree]) -> Option<(&Group, &[TokenTree])>
+{
+    match split_group(trees) {
+        Some((group, rest)) if has_no_delimiters(group.delimiter()) => Some((group, rest)),
+        _ => None,
+    }
+}
+
+/// The span of the first tree, or if that is a group without delimiters, that of the entry in it.
+pub(crate) fn spot_of(trees: &[TokenTree], entry: &Entry<'_>) -> Option<Span>
+{
+    match split_bare(trees) {
+        Some(_) => entry.span(),
+        None => first_span(trees),
     }
 }
 
@@ -139,6 +243,36 @@ pub(crate) fn whole_entry(trees: &[TokenTree]) -> Result<Entry<'_>, Fault>
                 Ok(entry)
             } else {
                 Err(Fault::ahead_of(trees.len() - rest.len(), rest))
+            }
+        }
+        Err(fault) => Err(fault),
+    }
+}
+
+/// The entry that all of the trees are, perhaps in a group without delimiters that holds no such group.
+fn whole_near_entry(trees: &[TokenTree]) -> Result<Entry<'_>, Fault>
+{
+    match near_entry(trees) {
+        Ok((entry, after)) => {
+            if after.is_empty() {
+                Ok(entry)
+            } else {
+                Err(Fault::ahead_of(trees.len() - after.len(), after))
+            }
+        }
+        Err(fault) => Err(fault),
+    }
+}
+
+/// The entry that all of the trees are. It is not in a group without delimiters.
+fn whole_plain_entry(trees: &[TokenTree]) -> Result<Entry<'_>, Fault>
+{
+    match plain_entry(trees) {
+        Ok((entry, left)) => {
+            if left.is_empty() {
+                Ok(entry)
+            } else {
+                Err(Fault::ahead_of(trees.len() - left.len(), left))
             }
         }
         Err(fault) => Err(fault),

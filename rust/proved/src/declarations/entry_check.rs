@@ -1,7 +1,7 @@
 // Made from crates/declarations/src/entry_check.rt by rust/erase: change that file, not this one.
 //! Checks that the entries of a list have known names, and no name twice.
 
-use crate::declarations::entry::Entry;
+use crate::declarations::entry::{Entry, spot_of};
 use crate::declarations::entry_list::first_entry;
 use crate::declarations::fault::{Fault, are_same};
 use crate::pm_span::Span;
@@ -29,7 +29,8 @@ pub struct EntryError<'a> {
     pub problem: EntryProblem,
     /// The number of trees of the list before the error.
     pub at: usize,
-    /// The span of the first wrong tree, or `None` if the list ends too early.
+    /// The span of the first wrong tree, or `None` if the list ends too early. In a group without delimiters it is
+    /// that of a tree inside, as [`parse_entry`](crate::declarations::parse_entry) says.
     pub span: Option<Span>,
     /// The name of the unknown or repeated entry. It is `None` if the entry is a literal or a path of several segments,
     /// or if there is no entry.
@@ -82,11 +83,17 @@ pub fn check_entries<'a>(list: &'a [TokenTree], known: &'a [&'a str]) -> Result<
             Ok((entry, next)) => {
                 let place = place_of(&entry, known);
                 if place == known.len() {
-                    let fault = Fault::ahead_of(before, left);
+                    let fault = Fault {
+                        at: before,
+                        span: spot_of(left, &entry),
+                    };
                     return Err(wrong(EntryProblem::Unknown, fault, entry.name(), known));
                 }
                 if seen[place] {
-                    let fault = Fault::ahead_of(before, left);
+                    let fault = Fault {
+                        at: before,
+                        span: spot_of(left, &entry),
+                    };
                     return Err(wrong(EntryProblem::Repeated, fault, entry.name(), known));
                 }
                 seen[place] = true;

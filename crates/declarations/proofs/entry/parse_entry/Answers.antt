@@ -1,16 +1,36 @@
-use Rattle.declarations.proofs.EntryLemmas.{entry_at, entry_fault, entry_fewer, entry_only}
+use Rattle.declarations.specs.Entry.{IsNearEntryAt, IsNearFault}
+use Rattle.declarations.proofs.HeldLemmas.{held_fails, held_found, held_less, held_only, plain_fails, plain_found}
+use Rattle.declarations.proofs.HeldLemmas.{plain_only}
 use Rattle.declarations.proofs.entry.parse_entry.Goals as goal
 
-pub returns-in-Ok-clause-ok : goal.returns-in-Ok-clause-ok
-returns-in-Ok-clause-ok c =
-    entry_at c.args.trees.now c.in-Ok.rest.now c.in-Ok.entry c.in-Ok.ensures.0 c.in-Ok.ensures.1
+pub returns-in-Some-clause-ok : goal.returns-in-Some-clause-ok
+returns-in-Some-clause-ok c =
+    held_found c.args.trees.now c.held_entry.result IsNearEntryAt c.in-Some.after.now c.in-Some.group.now
+    c.in-Some.ensures.found
+    c.held_entry.ensures.ok
 
-pub returns-in-Ok-clause-only : goal.returns-in-Ok-clause-only
-returns-in-Ok-clause-only c = entry_only c.args.trees.now c.in-Ok.rest.now c.in-Ok.ensures.0
+pub returns-in-Some-clause-fewer : goal.returns-in-Some-clause-fewer
+returns-in-Some-clause-fewer c =
+    held_less c.args.trees.now c.in-Some.after.now c.in-Some.group.now c.held_entry.result c.in-Some.ensures.found
+    c.held_entry.ensures.within
 
-pub returns-in-Ok-clause-fewer : goal.returns-in-Ok-clause-fewer
-returns-in-Ok-clause-fewer c = entry_fewer c.args.trees.now c.in-Ok.rest.now c.in-Ok.ensures.0
+pub returns-in-Some-clause-fault : goal.returns-in-Some-clause-fault
+returns-in-Some-clause-fault c =
+    held_fails c.args.trees.now c.held_entry.result IsNearEntryAt IsNearFault c.in-Some.after.now c.in-Some.group.now
+    c.in-Some.ensures.found c.held_entry.ensures.fault
 
-pub returns-in-Err-clause-fault : goal.returns-in-Err-clause-fault
-returns-in-Err-clause-fault c =
-    entry_fault c.args.trees.now c.in-Err.left.now c.ahead_of.result.at c.in-Err.ensures c.ahead_of.ensures.at
+pub returns-in-None-clause-ok : goal.returns-in-None-clause-ok
+returns-in-None-clause-ok c =
+    plain_found c.args.trees.now c.plain_entry.result IsNearEntryAt c.in-None.ensures.none c.plain_entry.ensures.ok
+
+pub returns-in-None-clause-fault : goal.returns-in-None-clause-fault
+returns-in-None-clause-fault c =
+    plain_fails c.args.trees.now c.plain_entry.result IsNearEntryAt IsNearFault c.in-None.ensures.none
+    c.plain_entry.ensures.fault
+
+pub returns-in-Some-clause-only : goal.returns-in-Some-clause-only
+returns-in-Some-clause-only c =
+    held_only c.args.trees.now c.in-Some.after.now c.in-Some.group.now c.held_entry.result c.in-Some.ensures.found
+
+pub returns-in-None-clause-only : goal.returns-in-None-clause-only
+returns-in-None-clause-only c = plain_only c.args.trees.now c.plain_entry.result c.plain_entry.ensures.only

@@ -1,5 +1,5 @@
 use Rattle.std.proofs.Common.{◌∙◌, ap}
-use Rattle.declarations.specs.Attribute.{has_no_delimiters}
+use Rattle.declarations.specs.Bare.{has_no_delimiters}
 use Rattle.declarations.proofs.EntryLemmas.{bare_group}
 use Rattle.declarations.proofs.entry.split_list.Goals as goal
 

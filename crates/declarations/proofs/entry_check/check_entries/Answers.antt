@@ -1,8 +1,7 @@
 use Rattle.std.proofs.Common.{◌∙◌, ap, arith, option_copied}
-use Rattle.declarations.specs.rules.Entries as rule
-use Rattle.declarations.specs.rules.Pieces.{ByRule}
-use Rattle.declarations.proofs.EntryCheckLemmas.{checked_more, checked_none, list_fault_within, place_below}
+use Rattle.declarations.proofs.EntryCheckLemmas.{checked_more, checked_none, place_below}
 use Rattle.declarations.proofs.EntryCheckLemmas.{repeated_error}
+use Rattle.declarations.proofs.HeldLemmas.{entry_list_fault_within}
 use Rattle.declarations.proofs.entry_check.check_entries.Goals as goal
 
 pub loop-left-init : goal.loop-left-init
@@ -23,11 +22,11 @@ bounds-seen-place-in-Ok c =
 pub returns-then-seen-place-clause-err : goal.returns-then-seen-place-clause-err
 returns-then-seen-place-clause-err c =
     let made = c.wrong-then-seen-place.ensures in
-    let fault = c.ahead_of-fault-then-seen-place.ensures in
+    let spot = c.spot_of-then-seen-place.ensures in
     repeated_error c.args.known.now c.args.list.now c.loop-left.left.now c.in-Ok.next.now c.loop-left.seen
     c.in-Ok.entry c.place_of-place.result c.wrong-then-seen-place.result c.loop-left.invariant c.in-Ok.ensures.given
     c.place_of-place.ensures c.if-place-known.false c.requires c.if-seen-place.true made.problem
-    (made.at ∙ fault.at) (made.span ∙ fault.span)
+    made.at (made.span ∙ spot)
     (ap option_copied made.name ∙ c.name-then-seen-place.ensures) made.known
 
 pub loop-left-preserved : goal.loop-left-preserved
@@ -38,6 +37,6 @@ loop-left-preserved c =
 
 pub overflow_add-at : goal.overflow_add-at
 overflow_add-at c =
-    let within = list_fault_within (ByRule rule.entry) c.loop-left.left.now c.in-Err.fault c.in-Err.ensures.given in
+    let within = entry_list_fault_within c.loop-left.left.now c.in-Err.fault c.in-Err.ensures.given in
     let fewer = c.loop-left.invariant.fewer in
     omega (arith, within, fewer)

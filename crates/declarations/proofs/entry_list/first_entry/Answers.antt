@@ -1,14 +1,11 @@
-use Rattle.std.proofs.Common.{inl, arith}
-use Rattle.declarations.specs.rules.Entries.{entry}
-use Rattle.declarations.specs.rules.Pieces.{ByRule}
-use Rattle.declarations.proofs.ListLemmas.{lacks_comma, past_fewer, rest_within}
+use Rattle.std.proofs.Common.{inl, inr, arith}
+use Rattle.declarations.specs.Entry.{IsNearEntryAt}
+use Rattle.declarations.proofs.HeldLemmas.{after_entry, rest_less}
+use Rattle.declarations.proofs.ListLemmas.{past_fewer}
 use Rattle.declarations.proofs.entry_list.first_entry.Goals as goal
 
 pub returns-in-Err-clause-given : goal.returns-in-Err-clause-given
-returns-in-Err-clause-given c = record {
-  place = inl c.in-Err.ensures.fault;
-  span = c.in-Err.ensures.span;
-}
+returns-in-Err-clause-given c = inl c.in-Err.ensures.fault
 
 pub returns-in-Some-clause-given : goal.returns-in-Some-clause-given
 returns-in-Some-clause-given c = (c.in-Ok.rest.now, c.in-Ok.ensures.ok, c.in-Some.ensures.found)
@@ -21,11 +18,13 @@ returns-in-Some-clause-fewer c =
 
 pub returns-in-None-clause-given : goal.returns-in-None-clause-given
 returns-in-None-clause-given c =
-    let at = c.in-Ok.ensures.ok in
-    lacks_comma (ByRule entry) c.args.trees.now at.part c.in-Ok.rest.now _ at.reads c.in-None.ensures.none
-    c.fault_after.ensures.at c.fault_after.ensures.span
+    inr (
+      c.in-Ok.rest.now,
+      after_entry IsNearEntryAt c.args.trees.now c.in-Ok.rest.now c.in-Ok.entry c.in-Ok.ensures.ok _
+          c.fault_after.ensures.at c.fault_after.ensures.span,
+      c.in-None.ensures.none,
+    )
 
 pub fault_after-requires : goal.fault_after-requires
 fault_after-requires c =
-    let at = c.in-Ok.ensures.ok in
-    rest_within (ByRule entry) c.args.trees.now at.part c.in-Ok.rest.now at.reads
+    rest_less IsNearEntryAt c.args.trees.now c.in-Ok.rest.now c.in-Ok.entry c.in-Ok.ensures.ok

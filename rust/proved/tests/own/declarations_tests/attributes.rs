@@ -4,7 +4,7 @@ use crate::shim::prelude::{AllocGlobal, HostRuntime};
 
 // Attributes, and the trees in their brackets.
 use proved_tokens::declarations::{AttributeArgs, Attributes};
-use proved_tokens::proc_macro2::{SourceMap, TokenStream};
+use proved_tokens::proc_macro2::{Delimiter, Group, SourceMap, TokenStream, TokenTree};
 use crate::shim::process::Abort;
 use crate::shim::test::Fail;
 
@@ -96,5 +96,48 @@ fn a_word_is_a_whole_path() -> Result<(), Fail> {
         }
     }
     assert_eq!(found, 2);
+    Ok(())
+}
+
+/// The attribute `#[..]` with this text in the brackets. The text is in so many groups without delimiters.
+fn held(rt: &(impl Abort + AllocGlobal), text: &str, groups: usize) -> Result<TokenStream, Fail> {
+    let mut map = SourceMap::new();
+    let mut inside = TokenStream::from_str(text, &mut map)?;
+    for _ in 0..groups {
+        let group = Group::new(Delimiter::None, inside);
+        inside = TokenStream::from_tree(TokenTree::Group(group))?;
+    }
+    let brackets = Group::new(Delimiter::Bracket, inside);
+    let mut stream = TokenStream::from_str("#", &mut map)?;
+    stream.extend_streams([TokenStream::from_tree(TokenTree::Group(brackets))?])?;
+    Ok(stream)
+}
+
+// Each row is the text, its number of groups, the trees in the path, what comes after it, whether the path is `doc`,
+// and whether the attribute has the text of a doc comment.
+#[test]
+fn what_a_macro_passes_is_looked_through() -> Result<(), Fail> {
+    let rt = HostRuntime;
+    for (text, groups, path, args, doc, comment) in [
+        ("doc", 1, 1, Args::Nothing, true, false),
+        ("doc = \"a\"", 1, 1, Args::Value(1), true, true),
+        ("doc = \"a\"", 5, 1, Args::Value(1), true, true),
+        ("doc = 1 + 2", 2, 1, Args::Value(3), true, false),
+        ("a::doc(b, c)", 1, 4, Args::Group(3), false, false),
+        ("doc(b) c", 2, 1, Args::Other(1), true, false),
+        ("", 1, 0, Args::Nothing, false, false),
+    ] {
+        let stream = held(&rt, text, groups)?;
+        let mut attributes = Attributes::new(stream.trees());
+        match attributes.next() {
+            Some(attribute) => {
+                assert_eq!(attribute.path().len(), path, "{text:?}");
+                assert_eq!(shown(attribute.args()), args, "{text:?}");
+                assert_eq!(attribute.is("doc"), doc, "{text:?}");
+                assert_eq!(attribute.doc().is_some(), comment, "{text:?}");
+            }
+            None => assert!(false, "{text:?}"),
+        }
+    }
     Ok(())
 }
