@@ -481,7 +481,7 @@ fn an_error_in_a_group_without_delimiters_has_a_span() -> Result<(), Fail> {
             assert_eq!(fault.at, 0);
             let span = fault.span();
             let shown = format!("{span:?}")?;
-            assert_eq!(shown, "Some(bytes(3..4))");
+            assert_eq!(shown.as_str(), "Some(bytes(3..4))");
         }
     }
     let stream = held(&rt, "a = ", 1, ", c")?;
@@ -490,7 +490,7 @@ fn an_error_in_a_group_without_delimiters_has_a_span() -> Result<(), Fail> {
         Err(fault) => {
             let span = fault.span();
             let shown = format!("{span:?}")?;
-            assert_eq!(shown, "Some(bytes(0..0))");
+            assert_eq!(shown.as_str(), "Some(bytes(0..0))");
         }
     }
     let stream = held(&rt, "a = 1", 1, ", b")?;
@@ -501,7 +501,7 @@ fn an_error_in_a_group_without_delimiters_has_a_span() -> Result<(), Fail> {
             assert_eq!(error.at, 0);
             let span = error.span();
             let shown = format!("{span:?}")?;
-            assert_eq!(shown, "Some(bytes(1..2))");
+            assert_eq!(shown.as_str(), "Some(bytes(1..2))");
         }
     }
     Ok(())
