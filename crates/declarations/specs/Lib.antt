@@ -6,6 +6,8 @@ pub mod Header
 pub mod Front
 pub mod Grammar
 pub mod Forms
+pub mod Range
+pub mod Parts
 pub mod Signs
 pub mod Reading
 pub mod Reader

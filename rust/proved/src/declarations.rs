@@ -35,6 +35,7 @@ mod param_parts;
 mod parameter;
 mod parts;
 mod place;
+mod range;
 mod reader;
 mod signs;
 mod types;
