@@ -134,7 +134,8 @@ opens_sort (signs.Keyword keywords.Async) h = absurd (both_ways _ refl h)
 opens_sort (signs.Keyword _) h = absurd (both_ways _ refl h)
 opens_sort _ h = absurd (both_ways _ refl h)
 
-generics_heads : (cs : List Class) → heads (Then (Mark Generics) opened) cs ≡ heads {N = Name} {L = Label} (Sign opens) cs
+generics_heads : (cs : List Class)
+    → heads (Then (Mark Generics) opened) cs ≡ heads {N = Name} {L = Label} (Sign opens) cs
 generics_heads [] = refl
 generics_heads (c ∷ cs) =
     go (is signs.Less c) (is signs.LessJoint c) (may_begin closed_parameters c)

@@ -2,7 +2,8 @@
 use Rattle.std.proofs.Common.{◌≡◌, refl, sym, ◌∙◌, ap, ℕ, ◌+◌, ◌≤◌, ◌==◌, Bool, true, false, ◌&&◌, List, [], ◌∷◌}
 use Rattle.std.proofs.Common.{Option, Some, None, length, arith, if◌then◌else◌}
 use Rattle.pm_stream.specs.declared.stream.TokenTree.{TokenTree}
-use Rattle.declarations.specs.Grammar.{after_angle, else_follow, ends, follow, range_state, ranged, shifted, step, turned}
+use Rattle.declarations.specs.Grammar.{after_angle, else_follow, ends, follow, range_state, ranged, shifted, step}
+use Rattle.declarations.specs.Grammar.{turned}
 use Rattle.declarations.specs.Range.{in_range}
 use Rattle.declarations.specs.Reading.{StopsAt, Walked}
 use Rattle.declarations.specs.Signs.{BeginsWith, classes_of, signs}

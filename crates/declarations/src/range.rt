@@ -1,6 +1,6 @@
 //! The walk over a type or bounds alone.
-ghost use Rattle.std.specs.Prelude.{◌≡◌, ◌+◌, ◌≤◌, ◌<◌, ◌^◌, ◌==◌, ◌&&◌, IfNone, IfSome, MatchResult, Some, false, length};
-ghost use Rattle.std.specs.Prelude.{None, true};
+ghost use Rattle.std.specs.Prelude.{◌≡◌, ◌+◌, ◌≤◌, ◌<◌, ◌^◌, ◌==◌, ◌&&◌, IfNone, IfSome};
+ghost use Rattle.std.specs.Prelude.{MatchResult, None, Some, false, length, true};
 ghost use Rattle.declarations.specs.Grammar.{step, turned};
 ghost use Rattle.declarations.specs.Range.{in_range};
 ghost use Rattle.declarations.specs.Reading.{StopsAt};
