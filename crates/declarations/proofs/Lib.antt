@@ -38,3 +38,8 @@ pub mod ParameterLemmas
 pub mod RuleWholeLemmas
 pub mod FunctionPartLemmas
 pub mod FunctionLemmas
+pub mod RangeStepLemmas
+pub mod FrontLemmas
+pub mod TransferLemmas
+pub mod PartReaderLemmas
+pub mod TreeLemmas

@@ -7,6 +7,8 @@ pub mod Front
 pub mod Grammar
 pub mod Forms
 pub mod Bare
+pub mod Range
+pub mod Parts
 pub mod Signs
 pub mod Reading
 pub mod Reader

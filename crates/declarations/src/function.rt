@@ -22,8 +22,8 @@ use crate::class::{Class, Keyword, Word};
 use crate::fault::Fault;
 use crate::item::{split_group, split_name, split_parentheses};
 use crate::parameter::{past_attributes, past_type};
-use crate::place::{Item, Part, Place, Rule, Spot, State};
-use crate::reader::{is, part, past};
+use crate::place::{Item, Place, Rule, Spot, State};
+use crate::reader::{begins_identifier, begins_mark, is, part, past};
 use crate::signs::{first_sign, name_class};
 use crate::walk::walk_past;
 use pm_stream::{Group, TokenTree};
@@ -116,22 +116,38 @@ fn function_of(trees: &[TokenTree]) -> Result<(Function<'_>, &[TokenTree]), &[To
 // ---- parts that are read by the tables
 
 /// Skips a visibility, if one is next.
-#[tactic(auto, using(crate::proofs::FunctionPartLemmas::visibility_reads))]
-fn past_visibility(trees: &[TokenTree]) -> Result<&[TokenTree], &[TokenTree]>
+#[tactic(auto, using(crate::proofs::FrontLemmas::visibilities))]
+pub(crate) fn past_visibility(trees: &[TokenTree]) -> Result<&[TokenTree], &[TokenTree]>
     ensures { ReadsRule visibility trees.now result }
 {
-    let start = Place {
-        item: Item::Alone,
-        rule: Rule::Alone,
-        state: State::At(Spot::Before(Part::Visibility)),
-        depth: 0,
-    };
-    walk_past(trees, start)
+    match first_sign(trees) {
+        Some((class, rest)) => {
+            if is(Class::Keyword(Keyword::Pub), class) {
+                return Ok(may(rest, Class::Restriction));
+            }
+            if is(Class::Visibility, class) {
+                return Ok(rest);
+            }
+            Ok(trees)
+        }
+        None => Ok(trees),
+    }
 }
 
 /// Skips generic parameters, if they are next.
+#[tactic(auto, using(crate::proofs::FrontLemmas::no_generics))]
+pub(crate) fn past_generics(trees: &[TokenTree]) -> Result<&[TokenTree], &[TokenTree]>
+    ensures { ReadsRule generics trees.now result }
+{
+    if begins_mark(trees) {
+        walk_generics(trees)
+    } else {
+        Ok(trees)
+    }
+}
+
 #[tactic(auto, using(crate::proofs::FunctionPartLemmas::generics_read))]
-fn past_generics(trees: &[TokenTree]) -> Result<&[TokenTree], &[TokenTree]>
+fn walk_generics(trees: &[TokenTree]) -> Result<&[TokenTree], &[TokenTree]>
     ensures { ReadsRule generics trees.now result }
 {
     let start = Place {
@@ -144,8 +160,19 @@ fn past_generics(trees: &[TokenTree]) -> Result<&[TokenTree], &[TokenTree]>
 }
 
 /// Skips a where clause, if one is next.
+#[tactic(auto, using(crate::proofs::FrontLemmas::no_where))]
+pub(crate) fn past_where(trees: &[TokenTree]) -> Result<&[TokenTree], &[TokenTree]>
+    ensures { ReadsRule where_clause trees.now result }
+{
+    if begins_identifier(trees) {
+        walk_where(trees)
+    } else {
+        Ok(trees)
+    }
+}
+
 #[tactic(auto, using(crate::proofs::FunctionPartLemmas::where_reads))]
-fn past_where(trees: &[TokenTree]) -> Result<&[TokenTree], &[TokenTree]>
+fn walk_where(trees: &[TokenTree]) -> Result<&[TokenTree], &[TokenTree]>
     ensures { ReadsRule where_clause trees.now result }
 {
     let start = Place {

@@ -36,6 +36,7 @@ mod param_parts;
 mod parameter;
 mod parts;
 mod place;
+mod range;
 mod reader;
 mod signs;
 mod types;

@@ -16,7 +16,7 @@ ghost use Rattle.declarations.specs.rules.Parameters.{function_parameter, is_pat
 ghost use Rattle.declarations.specs.rules.Parameters.{parameter_rest, pattern, pattern_angle, pattern_rest};
 ghost use Rattle.declarations.specs.rules.Parameters.{pattern_sign, pattern_signs, receiver, referred};
 ghost use Rattle.declarations.specs.rules.Parameters.{self_type, two_dots, typed};
-ghost use Rattle.declarations.specs.rules.Parts.{attributes};
+ghost use Rattle.declarations.specs.rules.Parts.{attribute, attributes};
 ghost use Rattle.declarations.specs.rules.Pieces.{ByRule};
 ghost use Rattle.declarations.specs.rules.Types.{type};
 ghost use Rattle.declarations.specs.declared.class.Class.TheVariants as signs;
@@ -25,11 +25,10 @@ ghost use Rattle.declarations.specs.declared.parameter.Shape.TheVariants as shap
 use crate::class::{Class, Keyword};
 use crate::fault::Fault;
 use crate::list::{fault_after, past_comma};
-use crate::place::{Item, Part, Place, Rule, Spot, State};
-use crate::reader::{begins, is, part, past};
+use crate::range::past_range;
+use crate::reader::{begins, begins_mark, is, part, past};
 use crate::signs::first_sign;
 use crate::types::TypeState;
-use crate::walk::walk_past;
 use pm_stream::{Group, TokenTree};
 
 /// The form of a function's parameter.
@@ -112,27 +111,41 @@ fn may_begin(class: Class) -> bool
 pub(crate) fn past_type(trees: &[TokenTree]) -> Result<&[TokenTree], &[TokenTree]>
     ensures { ReadsRule type trees.now result }
 {
-    let start = Place {
-        item: Item::Alone,
-        rule: Rule::Alone,
-        state: State::Range(TypeState::Wanted),
-        depth: 0,
-    };
-    walk_past(trees, start)
+    past_range(trees, TypeState::Wanted)
 }
 
 /// Skips attributes.
-#[tactic(auto, using(crate::proofs::ParameterLemmas::attributes_read))]
 pub(crate) fn past_attributes(trees: &[TokenTree]) -> Result<&[TokenTree], &[TokenTree]>
     ensures { ReadsRule attributes trees.now result }
 {
-    let start = Place {
-        item: Item::Alone,
-        rule: Rule::Alone,
-        state: State::At(Spot::Before(Part::Attributes)),
-        depth: 0,
-    };
-    walk_past(trees, start)
+    let mut left = trees;
+    while begins_attribute(left) {
+        match past_attribute(left) {
+            Ok(next) => left = next,
+            Err(fault) => return Err(fault),
+        }
+    }
+    Ok(left)
+}
+
+/// Whether an attribute is next. The class of a tree that is no mark is not computed.
+#[tactic(auto, using(crate::proofs::FrontLemmas::hashes))]
+fn begins_attribute(trees: &[TokenTree]) -> bool
+    ensures { result ≡ heads attribute (classes_in trees.now) }
+{
+    if begins_mark(trees) {
+        begins(trees, Class::Hash)
+    } else {
+        false
+    }
+}
+
+/// Skips an attribute.
+#[tactic(auto, using(crate::proofs::ReaderLemmas::steps))]
+fn past_attribute(trees: &[TokenTree]) -> Result<&[TokenTree], &[TokenTree]>
+    ensures { ReadsRule attribute trees.now result }
+{
+    past(past(trees, Class::Hash)?, Class::Brackets)
 }
 
 /// Skips one more sign of a pattern, if one is next.

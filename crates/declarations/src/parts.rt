@@ -7,7 +7,10 @@ ghost use Rattle.declarations.specs.Forms.{AreInnerAttributes, AreVariants, IsEx
 ghost use Rattle.declarations.specs.Reading.{FaultAt, IsOnly, Reads};
 
 use crate::fault::Fault;
+use crate::function::{past_generics, past_visibility, past_where};
+use crate::parameter::past_attributes;
 use crate::place::{Item, Part, Place, Rule, Spot, State};
+use crate::reader::part;
 use crate::types::TypeState;
 use crate::walk::split_from;
 use pm_stream::TokenTree;
@@ -74,34 +77,34 @@ pub fn split_bounds(trees: &[TokenTree]) -> Result<(&[TokenTree], &[TokenTree]),
 /// Returns the outer attributes at the start of the trees, perhaps none, and the trees after them.
 ///
 /// The trees in the brackets are not read. For `#[a] #[b] pub x` the attributes are `#[a] #[b]`.
+#[tactic(auto, using(crate::proofs::PartReaderLemmas::attribute_parts))]
 pub fn split_attributes(trees: &[TokenTree]) -> Result<(&[TokenTree], &[TokenTree]), Fault>
     ensures ok { IfOk result (λ found. Reads AreAttributes trees.now found.0.now found.1.now) }
     ensures only { IfOk result (λ found. IsOnly AreAttributes trees.now found.0.now found.1.now) }
     ensures fault { IfErr result (λ fault. FaultAt AreAttributes trees.now fault.at) }
     ensures span { IfErr result (λ fault. fault.span ≡ extent_at trees.now fault.at) }
 {
-    split_alone(
-        trees,
-        Rule::Alone,
-        State::At(Spot::Before(Part::Attributes)),
-    )
+    match past_attributes(trees) {
+        Ok(rest) => Ok((part(trees, rest), rest)),
+        Err(left) => Err(Fault::ahead_of(trees.len() - left.len(), left)),
+    }
 }
 
 /// Returns the visibility at the start of the trees, perhaps no trees, and the trees after it.
 ///
 /// Parentheses after `pub` belong to the visibility if they are `(crate)`, `(self)`, `(super)` or `(in ..)`. The path
 /// after `in` is not read. For `pub (A, B)` the visibility is `pub`.
+#[tactic(auto, using(crate::proofs::PartReaderLemmas::visibility_parts))]
 pub fn split_visibility(trees: &[TokenTree]) -> Result<(&[TokenTree], &[TokenTree]), Fault>
     ensures ok { IfOk result (λ found. Reads IsVisibility trees.now found.0.now found.1.now) }
     ensures only { IfOk result (λ found. IsOnly IsVisibility trees.now found.0.now found.1.now) }
     ensures fault { IfErr result (λ fault. FaultAt IsVisibility trees.now fault.at) }
     ensures span { IfErr result (λ fault. fault.span ≡ extent_at trees.now fault.at) }
 {
-    split_alone(
-        trees,
-        Rule::Alone,
-        State::At(Spot::Before(Part::Visibility)),
-    )
+    match past_visibility(trees) {
+        Ok(rest) => Ok((part(trees, rest), rest)),
+        Err(left) => Err(Fault::ahead_of(trees.len() - left.len(), left)),
+    }
 }
 
 /// Returns the named field at the start of the trees, with attributes and visibility, and the trees after it.
@@ -210,25 +213,33 @@ pub fn split_expression(trees: &[TokenTree]) -> Result<(&[TokenTree], &[TokenTre
 ///
 /// The parameters may be left out. For `<'a, T: A<B> = C, const N: usize = 3> where T: D` they are everything before
 /// `where`.
+#[tactic(auto, using(crate::proofs::PartReaderLemmas::generic_parts))]
 pub fn split_generics(trees: &[TokenTree]) -> Result<(&[TokenTree], &[TokenTree]), Fault>
     ensures ok { IfOk result (λ found. Reads AreGenerics trees.now found.0.now found.1.now) }
     ensures only { IfOk result (λ found. IsOnly AreGenerics trees.now found.0.now found.1.now) }
     ensures fault { IfErr result (λ fault. FaultAt AreGenerics trees.now fault.at) }
     ensures span { IfErr result (λ fault. fault.span ≡ extent_at trees.now fault.at) }
 {
-    split_alone(trees, Rule::Alone, State::At(Spot::Generics))
+    match past_generics(trees) {
+        Ok(rest) => Ok((part(trees, rest), rest)),
+        Err(left) => Err(Fault::ahead_of(trees.len() - left.len(), left)),
+    }
 }
 
 /// Returns the where clause at the start of the trees, perhaps no trees, and the trees after it.
 ///
 /// For `where T: A, [U; 2]: B { .. }` the clause is everything before the braces.
+#[tactic(auto, using(crate::proofs::PartReaderLemmas::where_parts))]
 pub fn split_where(trees: &[TokenTree]) -> Result<(&[TokenTree], &[TokenTree]), Fault>
     ensures ok { IfOk result (λ found. Reads IsWhere trees.now found.0.now found.1.now) }
     ensures only { IfOk result (λ found. IsOnly IsWhere trees.now found.0.now found.1.now) }
     ensures fault { IfErr result (λ fault. FaultAt IsWhere trees.now fault.at) }
     ensures span { IfErr result (λ fault. fault.span ≡ extent_at trees.now fault.at) }
 {
-    split_alone(trees, Rule::Alone, State::At(Spot::Where))
+    match past_where(trees) {
+        Ok(rest) => Ok((part(trees, rest), rest)),
+        Err(left) => Err(Fault::ahead_of(trees.len() - left.len(), left)),
+    }
 }
 
 /// Returns the struct, enum or union at the start of the trees, and the trees after it.

@@ -2,6 +2,7 @@
 //! trees, or the trees from the error on.
 ghost use Rattle.std.specs.Prelude.{◌≡◌, ◌++◌};
 ghost use Rattle.grammars.specs.First.{heads};
+ghost use Rattle.declarations.specs.Parts.{begins_identifier, begins_mark, is_identifier, is_mark};
 ghost use Rattle.declarations.specs.Reader.{Remains, ReadsRule, classes_in};
 ghost use Rattle.declarations.specs.rules.Classes.{is};
 ghost use Rattle.declarations.specs.rules.Names.{one};
@@ -25,6 +26,44 @@ pub(crate) fn begins(trees: &[TokenTree], class: Class) -> bool
     match first_sign(trees) {
         Some((found, _)) => is(class, found),
         None => false,
+    }
+}
+
+/// Whether a punctuation mark is next.
+pub(crate) fn begins_mark(trees: &[TokenTree]) -> bool
+    ensures { result ≡ begins_mark trees.now }
+{
+    match trees.first() {
+        Some(tree) => is_mark(tree),
+        None => false,
+    }
+}
+
+fn is_mark(tree: &TokenTree) -> bool
+    ensures { result ≡ is_mark tree.now }
+{
+    match tree {
+        TokenTree::Punct(_) => true,
+        TokenTree::Group(_) | TokenTree::Ident(_) | TokenTree::Literal(_) => false,
+    }
+}
+
+/// Whether an identifier is next, which may be a keyword.
+pub(crate) fn begins_identifier(trees: &[TokenTree]) -> bool
+    ensures { result ≡ begins_identifier trees.now }
+{
+    match trees.first() {
+        Some(tree) => is_identifier(tree),
+        None => false,
+    }
+}
+
+fn is_identifier(tree: &TokenTree) -> bool
+    ensures { result ≡ is_identifier tree.now }
+{
+    match tree {
+        TokenTree::Ident(_) => true,
+        TokenTree::Group(_) | TokenTree::Punct(_) | TokenTree::Literal(_) => false,
     }
 }
 

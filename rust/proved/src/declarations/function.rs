@@ -5,8 +5,8 @@ use crate::declarations::class::{Class, Keyword, Word};
 use crate::declarations::fault::Fault;
 use crate::declarations::item::{split_group, split_name, split_parentheses};
 use crate::declarations::parameter::{past_attributes, past_type};
-use crate::declarations::place::{Item, Part, Place, Rule, Spot, State};
-use crate::declarations::reader::{is, part, past};
+use crate::declarations::place::{Item, Place, Rule, Spot, State};
+use crate::declarations::reader::{begins_identifier, begins_mark, is, part, past};
 use crate::declarations::signs::{first_sign, name_class};
 use crate::declarations::walk::walk_past;
 use crate::pm_stream::{Group, TokenTree};
@@ -109,19 +109,33 @@ fn function_of(trees: &[TokenTree]) -> Result<(Function<'_>, &[TokenTree]), &[To
 // ---- parts that are read by the tables
 
 /// Skips a visibility, if one is next.
-fn past_visibility(trees: &[TokenTree]) -> Result<&[TokenTree], &[TokenTree]>
+pub(crate) fn past_visibility(trees: &[TokenTree]) -> Result<&[TokenTree], &[TokenTree]>
 {
-    let start = Place {
-        item: Item::Alone,
-        rule: Rule::Alone,
-        state: State::At(Spot::Before(Part::Visibility)),
-        depth: 0,
-    };
-    walk_past(trees, start)
+    match first_sign(trees) {
+        Some((class, rest)) => {
+            if is(Class::Keyword(Keyword::Pub), class) {
+                return Ok(may(rest, Class::Restriction));
+            }
+            if is(Class::Visibility, class) {
+                return Ok(rest);
+            }
+            Ok(trees)
+        }
+        None => Ok(trees),
+    }
 }
 
 /// Skips generic parameters, if they are next.
-fn past_generics(trees: &[TokenTree]) -> Result<&[TokenTree], &[TokenTree]>
+pub(crate) fn past_generics(trees: &[TokenTree]) -> Result<&[TokenTree], &[TokenTree]>
+{
+    if begins_mark(trees) {
+        walk_generics(trees)
+    } else {
+        Ok(trees)
+    }
+}
+
+fn walk_generics(trees: &[TokenTree]) -> Result<&[TokenTree], &[TokenTree]>
 {
     let start = Place {
         item: Item::Alone,
@@ -133,7 +147,16 @@ fn past_generics(trees: &[TokenTree]) -> Result<&[TokenTree], &[TokenTree]>
 }
 
 /// Skips a where clause, if one is next.
-fn past_where(trees: &[TokenTree]) -> Result<&[TokenTree], &[TokenTree]>
+pub(crate) fn past_where(trees: &[TokenTree]) -> Result<&[TokenTree], &[TokenTree]>
+{
+    if begins_identifier(trees) {
+        walk_where(trees)
+    } else {
+        Ok(trees)
+    }
+}
+
+fn walk_where(trees: &[TokenTree]) -> Result<&[TokenTree], &[TokenTree]>
 {
     let start = Place {
         item: Item::Alone,

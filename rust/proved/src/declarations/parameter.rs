@@ -4,11 +4,10 @@
 use crate::declarations::class::{Class, Keyword};
 use crate::declarations::fault::Fault;
 use crate::declarations::list::{fault_after, past_comma};
-use crate::declarations::place::{Item, Part, Place, Rule, Spot, State};
-use crate::declarations::reader::{begins, is, part, past};
+use crate::declarations::range::past_range;
+use crate::declarations::reader::{begins, begins_mark, is, part, past};
 use crate::declarations::signs::first_sign;
 use crate::declarations::types::TypeState;
-use crate::declarations::walk::walk_past;
 use crate::pm_stream::{Group, TokenTree};
 
 /// The form of a function's parameter.
@@ -85,25 +84,36 @@ fn may_begin(class: Class) -> bool
 /// Skips a type.
 pub(crate) fn past_type(trees: &[TokenTree]) -> Result<&[TokenTree], &[TokenTree]>
 {
-    let start = Place {
-        item: Item::Alone,
-        rule: Rule::Alone,
-        state: State::Range(TypeState::Wanted),
-        depth: 0,
-    };
-    walk_past(trees, start)
+    past_range(trees, TypeState::Wanted)
 }
 
 /// Skips attributes.
 pub(crate) fn past_attributes(trees: &[TokenTree]) -> Result<&[TokenTree], &[TokenTree]>
 {
-    let start = Place {
-        item: Item::Alone,
-        rule: Rule::Alone,
-        state: State::At(Spot::Before(Part::Attributes)),
-        depth: 0,
-    };
-    walk_past(trees, start)
+    let mut left = trees;
+    while begins_attribute(left) {
+        match past_attribute(left) {
+            Ok(next) => left = next,
+            Err(fault) => return Err(fault),
+        }
+    }
+    Ok(left)
+}
+
+/// Whether an attribute is next. The class of a tree that is no mark is not computed.
+fn begins_attribute(trees: &[TokenTree]) -> bool
+{
+    if begins_mark(trees) {
+        begins(trees, Class::Hash)
+    } else {
+        false
+    }
+}
+
+/// Skips an attribute.
+fn past_attribute(trees: &[TokenTree]) -> Result<&[TokenTree], &[TokenTree]>
+{
+    past(past(trees, Class::Hash)?, Class::Brackets)
 }
 
 /// Skips one more sign of a pattern, if one is next.

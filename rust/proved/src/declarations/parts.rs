@@ -2,7 +2,10 @@
 //! Calls that split a part of a declaration off the start of trees.
 
 use crate::declarations::fault::Fault;
+use crate::declarations::function::{past_generics, past_visibility, past_where};
+use crate::declarations::parameter::past_attributes;
 use crate::declarations::place::{Item, Part, Place, Rule, Spot, State};
+use crate::declarations::reader::part;
 use crate::declarations::types::TypeState;
 use crate::declarations::walk::split_from;
 use crate::pm_stream::TokenTree;
@@ -102,11 +105,10 @@ pub fn split_bounds(trees: &[TokenTree]) -> Result<(&[TokenTree], &[TokenTree]),
 /// [extent_at]: crate::contracts#declarations.Fault.extent_at
 pub fn split_attributes(trees: &[TokenTree]) -> Result<(&[TokenTree], &[TokenTree]), Fault>
 {
-    split_alone(
-        trees,
-        Rule::Alone,
-        State::At(Spot::Before(Part::Attributes)),
-    )
+    match past_attributes(trees) {
+        Ok(rest) => Ok((part(trees, rest), rest)),
+        Err(left) => Err(Fault::ahead_of(trees.len() - left.len(), left)),
+    }
 }
 
 /// Returns the visibility at the start of the trees, perhaps no trees, and the trees after it.
@@ -132,11 +134,10 @@ pub fn split_attributes(trees: &[TokenTree]) -> Result<(&[TokenTree], &[TokenTre
 /// [extent_at]: crate::contracts#declarations.Fault.extent_at
 pub fn split_visibility(trees: &[TokenTree]) -> Result<(&[TokenTree], &[TokenTree]), Fault>
 {
-    split_alone(
-        trees,
-        Rule::Alone,
-        State::At(Spot::Before(Part::Visibility)),
-    )
+    match past_visibility(trees) {
+        Ok(rest) => Ok((part(trees, rest), rest)),
+        Err(left) => Err(Fault::ahead_of(trees.len() - left.len(), left)),
+    }
 }
 
 /// Returns the named field at the start of the trees, with attributes and visibility, and the trees after it.
@@ -351,7 +352,10 @@ pub fn split_expression(trees: &[TokenTree]) -> Result<(&[TokenTree], &[TokenTre
 /// [extent_at]: crate::contracts#declarations.Fault.extent_at
 pub fn split_generics(trees: &[TokenTree]) -> Result<(&[TokenTree], &[TokenTree]), Fault>
 {
-    split_alone(trees, Rule::Alone, State::At(Spot::Generics))
+    match past_generics(trees) {
+        Ok(rest) => Ok((part(trees, rest), rest)),
+        Err(left) => Err(Fault::ahead_of(trees.len() - left.len(), left)),
+    }
 }
 
 /// Returns the where clause at the start of the trees, perhaps no trees, and the trees after it.
@@ -374,7 +378,10 @@ pub fn split_generics(trees: &[TokenTree]) -> Result<(&[TokenTree], &[TokenTree]
 /// [extent_at]: crate::contracts#declarations.Fault.extent_at
 pub fn split_where(trees: &[TokenTree]) -> Result<(&[TokenTree], &[TokenTree]), Fault>
 {
-    split_alone(trees, Rule::Alone, State::At(Spot::Where))
+    match past_where(trees) {
+        Ok(rest) => Ok((part(trees, rest), rest)),
+        Err(left) => Err(Fault::ahead_of(trees.len() - left.len(), left)),
+    }
 }
 
 /// Returns the struct, enum or union at the start of the trees, and the trees after it.

@@ -21,6 +21,40 @@ pub(crate) fn begins(trees: &[TokenTree], class: Class) -> bool
     }
 }
 
+/// Whether a punctuation mark is next.
+pub(crate) fn begins_mark(trees: &[TokenTree]) -> bool
+{
+    match trees.first() {
+        Some(tree) => is_mark(tree),
+        None => false,
+    }
+}
+
+fn is_mark(tree: &TokenTree) -> bool
+{
+    match tree {
+        TokenTree::Punct(_) => true,
+        TokenTree::Group(_) | TokenTree::Ident(_) | TokenTree::Literal(_) => false,
+    }
+}
+
+/// Whether an identifier is next, which may be a keyword.
+pub(crate) fn begins_identifier(trees: &[TokenTree]) -> bool
+{
+    match trees.first() {
+        Some(tree) => is_identifier(tree),
+        None => false,
+    }
+}
+
+fn is_identifier(tree: &TokenTree) -> bool
+{
+    match tree {
+        TokenTree::Ident(_) => true,
+        TokenTree::Group(_) | TokenTree::Punct(_) | TokenTree::Literal(_) => false,
+    }
+}
+
 /// Skips a sign of this class.
 pub(crate) fn past(trees: &[TokenTree], class: Class) -> Result<&[TokenTree], &[TokenTree]>
 {

@@ -1,0 +1,111 @@
+-- Calls that split off what a function read by a rule.
+use Rattle.std.proofs.Common.{◌≡◌, refl, ℕ, ◌-◌, List, [], ◌∷◌, ◌++◌, Option, length, arith}
+use Rattle.grammars.specs.Deterministic.{IsStart}
+use Rattle.pm_span.specs.Extent.{Extent}
+use Rattle.pm_stream.specs.declared.stream.TokenTree.{TokenTree}
+use Rattle.declarations.specs.Fault.{extent_at, first_extent}
+use Rattle.declarations.specs.Forms.{AreAttributes, AreGenerics, IsVisibility, IsWhere}
+use Rattle.declarations.specs.Reader.{Finds, Sticks}
+use Rattle.declarations.specs.Reading.{FaultAt, IsOnly, Reads}
+use Rattle.declarations.specs.declared.class.Class.{Class}
+use Rattle.declarations.specs.rules.Names.{G}
+use Rattle.declarations.specs.rules.Parts.{attributes, generics, visibility, where_clause}
+use Rattle.declarations.specs.rules.Pieces.{ByRule, ReadsBy}
+use Rattle.declarations.specs.rules.Rules.{follows, rules}
+use Rattle.declarations.proofs.FormLemmas.{attribute_lists, generic_parameters, visibilities, where_clauses}
+use Rattle.declarations.proofs.ReaderLemmas.{remains_span, remains_within}
+use Rattle.declarations.proofs.RuleFormLemmas.{found_reads, only_reading, stuck_fault}
+use Rattle.declarations.proofs.RuleLemmas.{starts}
+use Rattle.declarations.proofs.TransferLemmas.{fault_to, only_to, reads_to}
+
+module _ (g : G) (form : List Class → List Class → Type 0) (by : ReadsBy g form)
+    (start : IsStart rules follows (g ∷ [])) where
+  pub part_reads : (trees part rest : List TokenTree) → Finds g trees rest → trees ≡ part ++ rest
+      → Reads form trees part rest
+  part_reads trees part rest f whole =
+      reads_to (ByRule g) form by trees part rest (found_reads g start trees part rest f whole)
+
+  pub part_only : (trees part rest : List TokenTree) → Finds g trees rest → trees ≡ part ++ rest
+      → IsOnly form trees part rest
+  part_only trees part rest f whole =
+      only_to (ByRule g) form by trees part rest
+      (only_reading g start trees part rest (found_reads g start trees part rest f whole))
+
+  pub part_fault : (trees left : List TokenTree) (at : ℕ) → Sticks g trees left → at ≡ length trees - length left
+      → FaultAt form trees at
+  part_fault trees left at s counted =
+      let within = remains_within trees left s.remains in
+      fault_to (ByRule g) form by trees at (stuck_fault g start trees left at s (omega arith))
+
+pub part_span : (g : G) (trees left : List TokenTree) (at : ℕ) (span : Option Extent) → Sticks g trees left
+    → at ≡ length trees - length left → span ≡ first_extent left
+    → span ≡ extent_at trees at
+part_span g trees left at span s counted first = remains_span trees left at span s.remains counted first
+
+-- ---- attributes
+
+pub attributes_read : (trees part rest : List TokenTree) → Finds attributes trees rest → trees ≡ part ++ rest
+    → Reads AreAttributes trees part rest
+attributes_read = part_reads attributes AreAttributes attribute_lists (starts attributes refl refl)
+
+pub attributes_only : (trees part rest : List TokenTree) → Finds attributes trees rest → trees ≡ part ++ rest
+    → IsOnly AreAttributes trees part rest
+attributes_only = part_only attributes AreAttributes attribute_lists (starts attributes refl refl)
+
+pub attributes_fault : (trees left : List TokenTree) (at : ℕ) → Sticks attributes trees left
+    → at ≡ length trees - length left
+    → FaultAt AreAttributes trees at
+attributes_fault = part_fault attributes AreAttributes attribute_lists (starts attributes refl refl)
+
+pub ruleset attribute_parts = (attributes_read, attributes_only, attributes_fault, part_span)
+
+-- ---- visibilities
+
+pub visibility_reads : (trees part rest : List TokenTree) → Finds visibility trees rest → trees ≡ part ++ rest
+    → Reads IsVisibility trees part rest
+visibility_reads = part_reads visibility IsVisibility visibilities (starts visibility refl refl)
+
+pub visibility_only : (trees part rest : List TokenTree) → Finds visibility trees rest → trees ≡ part ++ rest
+    → IsOnly IsVisibility trees part rest
+visibility_only = part_only visibility IsVisibility visibilities (starts visibility refl refl)
+
+pub visibility_fault : (trees left : List TokenTree) (at : ℕ) → Sticks visibility trees left
+    → at ≡ length trees - length left
+    → FaultAt IsVisibility trees at
+visibility_fault = part_fault visibility IsVisibility visibilities (starts visibility refl refl)
+
+pub ruleset visibility_parts = (visibility_reads, visibility_only, visibility_fault, part_span)
+
+-- ---- generic parameters
+
+pub generics_read : (trees part rest : List TokenTree) → Finds generics trees rest → trees ≡ part ++ rest
+    → Reads AreGenerics trees part rest
+generics_read = part_reads generics AreGenerics generic_parameters (starts generics refl refl)
+
+pub generics_only : (trees part rest : List TokenTree) → Finds generics trees rest → trees ≡ part ++ rest
+    → IsOnly AreGenerics trees part rest
+generics_only = part_only generics AreGenerics generic_parameters (starts generics refl refl)
+
+pub generics_fault : (trees left : List TokenTree) (at : ℕ) → Sticks generics trees left
+    → at ≡ length trees - length left
+    → FaultAt AreGenerics trees at
+generics_fault = part_fault generics AreGenerics generic_parameters (starts generics refl refl)
+
+pub ruleset generic_parts = (generics_read, generics_only, generics_fault, part_span)
+
+-- ---- where clauses
+
+pub where_reads : (trees part rest : List TokenTree) → Finds where_clause trees rest → trees ≡ part ++ rest
+    → Reads IsWhere trees part rest
+where_reads = part_reads where_clause IsWhere where_clauses (starts where_clause refl refl)
+
+pub where_only : (trees part rest : List TokenTree) → Finds where_clause trees rest → trees ≡ part ++ rest
+    → IsOnly IsWhere trees part rest
+where_only = part_only where_clause IsWhere where_clauses (starts where_clause refl refl)
+
+pub where_fault : (trees left : List TokenTree) (at : ℕ) → Sticks where_clause trees left
+    → at ≡ length trees - length left
+    → FaultAt IsWhere trees at
+where_fault = part_fault where_clause IsWhere where_clauses (starts where_clause refl refl)
+
+pub ruleset where_parts = (where_reads, where_only, where_fault, part_span)
