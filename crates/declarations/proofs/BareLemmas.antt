@@ -1,6 +1,5 @@
 -- Groups without delimiters.
 use Rattle.std.proofs.Common.{◌≡◌, refl, sym, ◌∙◌, ap, subst, ◌<◌, ◌==◌, ◌&&◌, Bool, true, false, List, [], ◌∷◌}
-use Rattle.std.proofs.lemmas.Bool.Decides.{nat_tests}
 use Rattle.std.proofs.Common.{Some, None, length, suc, if◌then◌else◌, arith}
 use Rattle.pm_stream.specs.DocGroup.{trees_of}
 use Rattle.pm_stream.specs.Forest.{Forest, nil, leaf, group}
@@ -10,6 +9,7 @@ use Rattle.pm_stream.specs.declared.stream.Group.{Group as Grouped}
 use Rattle.pm_stream.specs.declared.stream.TokenTree.{TokenTree}
 use Rattle.pm_stream.specs.declared.stream.TokenTree.TheVariants.{Group, Ident, Punct, Literal}
 use Rattle.pm_stream.proofs.DocLemmas.{trees_of-forest}
+use Rattle.declarations.proofs.SignLemmas.{nil_forest}
 use Rattle.declarations.specs.Bare.{bare_first, has_no_delimiters, held_alone, held_by, innermost, inside_of}
 
 -- the trees of a stream in a group that holds no other group alone
@@ -44,22 +44,12 @@ held_fewer (group d lo hi inside rest) g e = go (has_no_delimiters d && is_nil r
         subst (λ f. count f < count (group d lo hi inside rest)) same (omega arith)
     go false h = cc
 
-some_left : (rest : List TokenTree) → false ≡ (suc (length rest) == 0)
-some_left rest = grind (arith, nat_tests)
-
-none_left : (rest : List TokenTree) → is_nil (forest rest) ≡ (length rest == 0)
-none_left [] = refl
-none_left (Group g ∷ rest) = some_left rest
-none_left (Ident i ∷ rest) = some_left rest
-none_left (Punct p ∷ rest) = some_left rest
-none_left (Literal l ∷ rest) = some_left rest
-
 pub held_first : (stream : Forest) (trees : List TokenTree) (first : TokenTree) (rest : List TokenTree) (g : Grouped)
     (last : Bool) → forest trees ≡ stream → trees ≡ first ∷ rest → first ≡ Group g → last ≡ (length rest == 0)
     → held_by g.delimiter g.stream last ≡ held_alone stream
 held_first stream trees first rest g last held whole is none =
     let all : stream ≡ forest (Group g ∷ rest) = sym held ∙ ap forest whole ∙ ap (λ f. forest (f ∷ rest)) is in
-    let nil_rest : is_nil (forest rest) ≡ last = none_left rest ∙ sym none in
+    let nil_rest : is_nil (forest rest) ≡ last = nil_forest rest ∙ sym none in
     ap (λ l. held_by g.delimiter g.stream l) (sym nil_rest) ∙ ap held_alone (sym all)
 
 -- the trees of a stream that are the innermost of a group

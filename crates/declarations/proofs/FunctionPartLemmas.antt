@@ -237,7 +237,8 @@ round_delimiter : (d : Delimiter) (f : Forest) → is_round (group_class d f) �
 round_delimiter delimiters.Parenthesis f h = refl
 round_delimiter delimiters.Bracket f h = absurd (both_ways _ refl h)
 round_delimiter delimiters.Brace f h = absurd (both_ways _ refl h)
-round_delimiter delimiters.None f h = absurd (both_ways _ (unseen (λ c. is_round c ≡ false) f refl refl) h)
+round_delimiter delimiters.None f h =
+    absurd (both_ways _ (unseen (λ c. is_round c ≡ false) f refl refl refl refl) h)
 
 pub are_parentheses : (trees rest : List TokenTree) (g : Grouped) → trees ≡ Group g ∷ rest
     → g.delimiter ≡ delimiters.Parenthesis
@@ -323,7 +324,8 @@ brace_sort c h = ap sort_of (same_class signs.Braces c h)
 brace_delimiter : (d : Delimiter) (f : Forest) → is signs.Braces (group_class d f) ≡ true → d ≡ delimiters.Brace
 brace_delimiter delimiters.Brace f h = refl
 brace_delimiter delimiters.Bracket f h = absurd (both_ways _ refl h)
-brace_delimiter delimiters.None f h = absurd (both_ways _ (unseen (λ c. is signs.Braces c ≡ false) f refl refl) h)
+brace_delimiter delimiters.None f h =
+    absurd (both_ways _ (unseen (λ c. is signs.Braces c ≡ false) f refl refl refl refl) h)
 brace_delimiter delimiters.Parenthesis f h = absurd (both_ways _ (round f) h)
   where
     round : (f : Forest) → is signs.Braces (group_class delimiters.Parenthesis f) ≡ false

@@ -1,18 +1,23 @@
 -- How trees begin with a sign.
-use Rattle.std.proofs.Common.{◌≡◌, refl, sym, ◌∙◌, ap, suc, ◌==◌, Bool, false, List, [], ◌∷◌, Option, Some, None}
+use Rattle.std.proofs.Common.{◌≡◌, refl, sym, ◌∙◌, ap, suc, ◌==◌, Bool, true, false, List, [], ◌∷◌, Option, Some, None}
 use Rattle.std.proofs.Common.{◌++◌, length, arith}
 use Rattle.std.proofs.lemmas.Bool.Decides.{nat_tests}
 use Rattle.pm_token.specs.Leaf.{Name}
+use Rattle.pm_stream.specs.DocGroup.{trees_of as list_of}
 use Rattle.pm_stream.specs.Forest.{Forest}
 use Rattle.pm_stream.specs.Size.{is_nil}
 use Rattle.pm_stream.specs.Trees.{forest}
 use Rattle.pm_stream.specs.declared.stream.Group.{Group as Grouped}
 use Rattle.pm_stream.specs.declared.stream.TokenTree.{TokenTree}
 use Rattle.pm_stream.specs.declared.stream.TokenTree.TheVariants.{Group, Ident, Punct, Literal}
+use Rattle.pm_stream.proofs.DocLemmas.{trees_of-forest}
 use Rattle.declarations.specs.Signs.{Sign, signs, signs_after, pair_class, tree_class, BeginsWith, is_restriction}
 use Rattle.declarations.specs.Signs.{classes_of, trees_of}
-use Rattle.declarations.specs.Signs.{is_pub, is_visibility, may_restrict, restricts, restricts_in}
+use Rattle.declarations.specs.Bare.{innermost, innermost_trees}
+use Rattle.declarations.specs.Signs.{held_class, is_pub, is_visibility, may_restrict, restricts, restricts_in}
+use Rattle.declarations.specs.Signs.{unseen_class}
 use Rattle.declarations.specs.declared.class.Class.{Class}
+use Rattle.declarations.specs.declared.class.Class.TheVariants as classes
 
 -- the signs of trees, if it is known whether the first two trees are one sign
 abbrev pub paired : Option Class → TokenTree → TokenTree → List TokenTree → List Sign
@@ -71,7 +76,7 @@ begins_last trees (second ∷ rest) first whole none = absurd (omega arith)
 more_than_none : (rest : List TokenTree) → false ≡ (suc (length rest) == 0)
 more_than_none rest = grind (arith, nat_tests)
 
-nil_forest : (rest : List TokenTree) → is_nil (forest rest) ≡ (length rest == 0)
+pub nil_forest : (rest : List TokenTree) → is_nil (forest rest) ≡ (length rest == 0)
 nil_forest [] = refl
 nil_forest (Group g ∷ rest) = more_than_none rest
 nil_forest (Ident i ∷ rest) = more_than_none rest
@@ -148,6 +153,22 @@ behind_first (first ∷ second ∷ rest) sign after read =
     ] (sym (signs-cons first second rest) ∙ read)
 
 -- ---- groups without delimiters
+
+-- the class of a group without delimiters that holds a visibility
+pub unseen_visible : (inside held : Forest) (b : Bool) → held ≡ innermost inside → b ≡ is_visibility held → b ≡ true
+    → classes.Visibility ≡ unseen_class inside
+unseen_visible inside held b same is shown =
+    let some : is_visibility (innermost inside) ≡ true = ap is_visibility (sym same) ∙ sym is ∙ shown in
+    rw some refl
+
+-- the class of a group without delimiters that holds no visibility
+pub unseen_other : (inside held : Forest) (trees : List TokenTree) (b : Bool) → held ≡ innermost inside
+    → forest trees ≡ held → b ≡ is_visibility held → b ≡ false → (class : Class) → class ≡ held_class trees
+    → class ≡ unseen_class inside
+unseen_other inside held trees b same whole is unlike class found =
+    let all : trees ≡ innermost_trees inside = sym (trees_of-forest trees) ∙ ap list_of (whole ∙ same) in
+    let none : is_visibility (innermost inside) ≡ false = ap is_visibility (sym same) ∙ sym is ∙ unlike in
+    found ∙ ap held_class all ∙ rw none refl
 
 pub visibility_first : (stream : Forest) (trees : List TokenTree) (first : TokenTree) (rest : List TokenTree)
     (ident : Name) → forest trees ≡ stream → trees ≡ first ∷ rest → first ≡ Ident ident

@@ -10,7 +10,8 @@ use Rattle.pm_stream.specs.declared.stream.Group.{Group as Grouped}
 use Rattle.pm_stream.specs.declared.stream.TokenTree.{TokenTree}
 use Rattle.pm_stream.specs.declared.stream.TokenTree.TheVariants.{Group, Ident, Punct, Literal}
 use Rattle.declarations.proofs.SignLemmas.{signs-cons, paired}
-use Rattle.declarations.specs.Signs.{Sign, signs, class_or_name, group_class, is_restriction, is_truth}
+use Rattle.declarations.specs.Bare.{innermost, innermost_trees}
+use Rattle.declarations.specs.Signs.{Sign, signs, class_or_name, group_class, held_class, is_restriction, is_truth}
 use Rattle.declarations.specs.Signs.{is_visibility, is_written, keyword_of, keyword_or_word, mark_class, marks_class}
 use Rattle.declarations.specs.Signs.{name_class, operand_class, operator_class, or_else, pair_class, path_class}
 use Rattle.declarations.specs.Signs.{joint_class, loose_class, parentheses_class, tree_class, unseen_class}
@@ -196,17 +197,42 @@ pair_sort (Group g) second = tt
 pair_sort (Ident i) second = tt
 pair_sort (Literal l) second = tt
 
--- what holds of both classes of groups without delimiters holds of each such group
-pub unseen : (P : Class → Type 0) (inside : Forest) → P signs.Visibility → P signs.Invisible
-    → P (unseen_class inside)
-unseen P inside visibility other = either P (is_visibility inside) signs.Visibility signs.Invisible visibility other
+held : (P : Class → Type 0) (trees : List TokenTree) → P signs.Lifetime → P signs.Literal → P signs.Invisible
+    → P (held_class trees)
+held P [] lifetime literal other = other
+held P (Group g ∷ rest) lifetime literal other = other
+held P (Ident i ∷ rest) lifetime literal other = other
+held P (Literal l ∷ []) lifetime literal other = literal
+held P (Literal l ∷ tree ∷ rest) lifetime literal other = other
+held P (Punct p ∷ []) lifetime literal other = other
+held P (Punct p ∷ Group g ∷ rest) lifetime literal other = other
+held P (Punct p ∷ Punct q ∷ rest) lifetime literal other = other
+held P (Punct p ∷ Literal l ∷ rest) lifetime literal other = other
+held P (Punct p ∷ Ident i ∷ []) lifetime literal other =
+    either P (p.mark == 39) signs.Lifetime signs.Invisible lifetime other
+held P (Punct p ∷ Ident i ∷ tree ∷ rest) lifetime literal other = other
 
-group_sort : (g : Grouped) (d : Delimiter) → IsSort groups (group_class d g.stream)
+-- what holds of all classes of groups without delimiters holds of each such group
+pub unseen : (P : Class → Type 0) (inside : Forest) → P signs.Visibility → P signs.Lifetime → P signs.Literal
+    → P signs.Invisible
+    → P (unseen_class inside)
+unseen P inside visibility lifetime literal other =
+    either P (is_visibility (innermost inside)) signs.Visibility (held_class (innermost_trees inside)) visibility
+    (held P (innermost_trees inside) lifetime literal other)
+
+-- the kinds of signs that a group can be
+abbrev MayBeGroup : Sort → Type 0
+MayBeGroup groups = Unit {0}
+MayBeGroup pairs = Unit {0}
+MayBeGroup literals = Unit {0}
+MayBeGroup _ = ⊥
+
+group_sort : (g : Grouped) (d : Delimiter) → MayBeGroup (sort_of (group_class d g.stream))
 group_sort g delimiters.Parenthesis =
-    elim (is_restriction g.stream) as (λ b. IsSort groups (parentheses_class b)) [ true ↦ refl | false ↦ refl ]
-group_sort g delimiters.Bracket = refl
-group_sort g delimiters.Brace = refl
-group_sort g delimiters.None = unseen (IsSort groups) g.stream refl refl
+    elim (is_restriction g.stream) as (λ b. MayBeGroup (sort_of (parentheses_class b))) [ true ↦ tt | false ↦ tt ]
+group_sort g delimiters.Bracket = tt
+group_sort g delimiters.Brace = tt
+group_sort g delimiters.None = unseen (λ c. MayBeGroup (sort_of c)) g.stream tt tt tt tt
 
 -- the first sign is this one tree
 pub record IsTree (trees : List TokenTree) (sign : Sign) (tree : TokenTree) : Type 0 where
@@ -250,9 +276,7 @@ name_tree trees sign (two pair) sort =
     cc
 name_tree trees sign (one (Ident i) is) sort = (i, is)
 name_tree trees sign (one (Group g) is) sort =
-    let same : names ≡ groups =
-    clash sign (Group g) names groups (ap (λ s. s.class) is.is) sort (group_sort g g.delimiter) in
-    cc
+    absurd (subst MayBeGroup (sym (ap (λ s. sort_of s.class) is.is) ∙ sort) (group_sort g g.delimiter))
 name_tree trees sign (one (Punct p) is) sort =
     let same : names ≡ marks =
     clash sign (Punct p) names marks (ap (λ s. s.class) is.is) sort (mark_sort p.mark (is_joint p.spacing)) in

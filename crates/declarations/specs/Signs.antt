@@ -13,6 +13,7 @@ use Rattle.pm_stream.specs.Forest.{Forest, nil, leaf, group}
 use Rattle.pm_stream.specs.Size.{is_nil}
 use Rattle.pm_stream.specs.declared.stream.TokenTree.{TokenTree}
 use Rattle.pm_stream.specs.declared.stream.TokenTree.TheVariants.{Group, Ident, Punct, Literal}
+use Rattle.declarations.specs.Bare.{innermost, innermost_trees}
 use Rattle.declarations.specs.declared.class.Class.{Class}
 use Rattle.declarations.specs.declared.class.Class.TheVariants as classes
 use Rattle.declarations.specs.declared.class.Keyword.{Keyword}
@@ -210,9 +211,17 @@ is_visibility nil = true
 is_visibility (leaf token lo hi rest) = is_pub_by token (may_restrict rest)
 is_visibility (group d lo hi inside rest) = false
 
--- the class of a group without delimiters
+-- the class of trees in a group without delimiters that are no visibility: a literal, `'` (39) and an identifier, or
+-- other trees
+abbrev pub held_class : List TokenTree → Class
+held_class (Literal l ∷ []) = classes.Literal
+held_class (Punct p ∷ Ident i ∷ []) = if p.mark == 39 then classes.Lifetime else classes.Invisible
+held_class _ = classes.Invisible
+
+-- the class of a group without delimiters. What is in the innermost of such groups decides
 abbrev pub unseen_class : Forest → Class
-unseen_class inside = if is_visibility inside then classes.Visibility else classes.Invisible
+unseen_class inside =
+    if is_visibility (innermost inside) then classes.Visibility else held_class (innermost_trees inside)
 
 abbrev pub group_class : Delimiter → Forest → Class
 group_class delimiters.Parenthesis inside = parentheses_class (is_restriction inside)

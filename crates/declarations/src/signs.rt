@@ -3,13 +3,14 @@ ghost use Rattle.std.specs.Prelude.{◌≡◌, [], MatchOption, get_or, nat_eq};
 ghost use Rattle.std.specs.Cmp.Lexicographic.{pointwise};
 ghost use Rattle.pm_token.specs.Spelling.{name_text, spelled, spelling};
 ghost use Rattle.pm_stream.specs.Trees.{forest};
-ghost use Rattle.declarations.specs.Signs.{BeginsWith, group_class, is_early_keyword};
+ghost use Rattle.declarations.specs.Signs.{BeginsWith, group_class, held_class, is_early_keyword};
 ghost use Rattle.declarations.specs.Signs.{is_late_keyword, is_pub, is_restriction, is_truth, is_visibility};
 ghost use Rattle.declarations.specs.Signs.{item_keyword, joint_class, keyword_of, loose_class, mark_class};
 ghost use Rattle.declarations.specs.Signs.{marks_class, may_restrict};
 ghost use Rattle.declarations.specs.Signs.{name_class, operand_class, operator_class, pair_class, path_class};
 ghost use Rattle.declarations.specs.Signs.{restricts, restricts_in, tree_class, type_keyword, unseen_class, word_of};
 
+use crate::bare::innermost;
 use crate::class::{Class, Keyword, Word};
 use pm_stream::{Group, TokenStream, TokenTree};
 use pm_token::{Delimiter, Ident, Spacing};
@@ -17,7 +18,12 @@ use pm_token::{Delimiter, Ident, Spacing};
 /// Returns the class of the first sign, and the trees after this sign. Returns `None` if there are no trees.
 ///
 /// `::`, `->`, `<=` and `||` are one sign if the first mark is `Joint`. A `'` and an identifier are one sign, and so
-/// are `#` and `!`. Every other tree is a sign of its own. The call takes O(1) time, and allocates nothing.
+/// are `#` and `!`. Every other tree is a sign of its own. A group without delimiters that holds a visibility, a
+/// lifetime or a literal has the class of what it holds. If it holds one such group alone, the innermost of these
+/// groups decides.
+///
+/// The call takes O(1) time, and for groups without delimiters in one another time in proportion to their number. It
+/// allocates nothing.
 #[tactic(auto, using(crate::proofs::SignLemmas::begins_one, crate::proofs::SignLemmas::begins_last))]
 pub fn first_sign<'a>(trees: &'a [TokenTree]) -> Option<(Class, &'a [TokenTree])>
     ensures { MatchOption result (trees.now ≡ []) (λ sign. BeginsWith trees.now sign.0 sign.1.now) }
@@ -129,10 +135,22 @@ fn group_class(group: &Group) -> Class
 fn unseen_class(inside: &TokenStream) -> Class
     ensures { result ≡ unseen_class inside.now }
 {
-    if is_visibility(inside) {
+    let held = innermost(inside);
+    if is_visibility(held) {
         return Class::Visibility;
     }
-    Class::Invisible
+    held_class(held.trees())
+}
+
+/// The class of trees in a group without delimiters that are no visibility.
+fn held_class(trees: &[TokenTree]) -> Class
+    ensures { result ≡ held_class trees.now }
+{
+    match trees {
+        [TokenTree::Literal(_)] => Class::Literal,
+        [TokenTree::Punct(mark), TokenTree::Ident(_)] if mark.as_char() == '\'' => Class::Lifetime,
+        _ => Class::Invisible,
+    }
 }
 
 /// Whether the trees are a visibility: no trees, or `pub` with a restriction or without.

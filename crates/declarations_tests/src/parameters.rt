@@ -1,6 +1,6 @@
 // The parameters of functions. The crate syn 2 reads each text in the same way, unless a row says otherwise.
 use declarations::{ParameterKind, Parameters, parse_parameter, split_pattern};
-use proc_macro2::{SourceMap, TokenStream};
+use proc_macro2::{Delimiter, Group, SourceMap, TokenStream, TokenTree};
 use std::process::Abort;
 use std::test::Fail;
 
@@ -19,29 +19,68 @@ enum Parts {
 fn check(rt: &(impl Abort + AllocGlobal), rows: &[(&str, &[Parts])]) -> Result<(), Fail> {
     for (text, wanted) in rows {
         let stream = TokenStream::from_str(text, &mut SourceMap::new(rt.alloc()))?;
-        let mut list = Parameters {
-            left: stream.trees(),
-        };
-        for one in *wanted {
-            match list.next() {
-                Some(Ok(parameter)) => {
-                    let given = parameter.attributes.len();
-                    let pattern = parameter.pattern.len();
-                    let parts = match parameter.kind {
-                        ParameterKind::Receiver => Parts::Receiver(given, pattern),
-                        ParameterKind::TypedReceiver(ty) => {
-                            Parts::TypedReceiver(given, pattern, ty.len())
-                        }
-                        ParameterKind::Typed(ty) => Parts::Typed(given, pattern, ty.len()),
-                        ParameterKind::Variadic => Parts::Variadic(given, pattern),
-                    };
-                    assert_eq!(rt; parts, *one, "{text:?}");
-                }
-                Some(Err(fault)) => assert_eq!(rt; Parts::Fault(fault.at), *one, "{text:?}"),
-                None => assert!(rt; false, "{text:?}"),
+        check_trees(rt, stream.trees(), text, wanted)?;
+    }
+    Ok(())
+}
+
+/// Checks the parameters that the trees are.
+fn check_trees(
+    rt: &(impl Abort + AllocGlobal),
+    trees: &[TokenTree],
+    text: &str,
+    wanted: &[Parts],
+) -> Result<(), Fail> {
+    let mut list = Parameters { left: trees };
+    for one in wanted {
+        match list.next() {
+            Some(Ok(parameter)) => {
+                let given = parameter.attributes.len();
+                let pattern = parameter.pattern.len();
+                let parts = match parameter.kind {
+                    ParameterKind::Receiver => Parts::Receiver(given, pattern),
+                    ParameterKind::TypedReceiver(ty) => {
+                        Parts::TypedReceiver(given, pattern, ty.len())
+                    }
+                    ParameterKind::Typed(ty) => Parts::Typed(given, pattern, ty.len()),
+                    ParameterKind::Variadic => Parts::Variadic(given, pattern),
+                };
+                assert_eq!(rt; parts, *one, "{text:?}");
             }
+            Some(Err(fault)) => assert_eq!(rt; Parts::Fault(fault.at), *one, "{text:?}"),
+            None => assert!(rt; false, "{text:?}"),
         }
-        assert!(rt; list.next().is_none(), "{text:?}");
+    }
+    assert!(rt; list.next().is_none(), "{text:?}");
+    Ok(())
+}
+
+// A macro by example passes `$l:lifetime` in a group without delimiters. Each row is the text before the lifetime `'a`,
+// the number of groups around it, the text after it, and the parameters.
+#[test]
+fn a_lifetime_may_be_in_a_group_without_delimiters(rt: HostRuntime) -> Result<(), Fail> {
+    let rows: &[(&str, usize, &str, &[Parts])] = &[
+        ("&", 1, "self", &[Parts::Receiver(0, 3)]),
+        (
+            "&",
+            4,
+            "mut self, x: u8",
+            &[Parts::Receiver(0, 4), Parts::Typed(0, 1, 1)],
+        ),
+        ("self: &", 1, "Self", &[Parts::TypedReceiver(0, 1, 3)]),
+        ("x: &", 2, "str", &[Parts::Typed(0, 1, 3)]),
+        ("&", 1, "x: u8", &[Parts::Fault(2)]),
+    ];
+    for (before, groups, after, wanted) in rows {
+        let mut map = SourceMap::new(rt.alloc());
+        let mut held = TokenStream::from_str("'a", &mut map)?;
+        for _ in 0..*groups {
+            let group = Group::new(Delimiter::None, held);
+            held = TokenStream::from_tree(rt.alloc(), TokenTree::Group(group))?;
+        }
+        let mut stream = TokenStream::from_str(before, &mut map)?;
+        stream.extend_streams([held, TokenStream::from_str(after, &mut map)?])?;
+        check_trees(&rt, stream.trees(), before, wanted)?;
     }
     Ok(())
 }

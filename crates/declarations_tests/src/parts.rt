@@ -382,3 +382,76 @@ fn what_is_no_item_has_a_fault(rt: HostRuntime) -> Result<(), Fail> {
         ],
     )
 }
+
+/// A text in groups without delimiters between two texts: what comes before, what is in the groups, the number of
+/// groups, what comes after, and the answer.
+type Held<'a> = (&'a str, &'a str, usize, &'a str, Answer);
+
+/// Checks the part in trees with groups without delimiters.
+fn check_held(rt: &(impl Abort + AllocGlobal), part: Part, rows: &[Held<'_>]) -> Result<(), Fail> {
+    for (before, inside, groups, after, wanted) in rows {
+        let mut map = SourceMap::new(rt.alloc());
+        let mut held = TokenStream::from_str(inside, &mut map)?;
+        for _ in 0..*groups {
+            let group = Group::new(Delimiter::None, held);
+            held = TokenStream::from_tree(rt.alloc(), TokenTree::Group(group))?;
+        }
+        let mut stream = TokenStream::from_str(before, &mut map)?;
+        stream.extend_streams([held, TokenStream::from_str(after, &mut map)?])?;
+        let found = read(part, stream.trees());
+        assert!(rt;
+            found == *wanted,
+            "{part:?} of {before:?}, {inside:?}, {after:?}: {found:?}"
+        );
+    }
+    Ok(())
+}
+
+// A macro by example passes `$l:lifetime`, `$l:literal` and `$v:vis` so.
+#[test]
+fn a_group_without_delimiters_has_the_class_of_what_it_holds(rt: HostRuntime) -> Result<(), Fail> {
+    check_held(
+        &rt,
+        Part::Type,
+        &[
+            ("&", "'a", 1, "u8, x", Reads(3)),
+            ("&", "'a", 7, "mut u8, x", Reads(4)),
+            ("Vec<", "'a", 2, ", T> = x", Reads(6)),
+            ("dyn A +", "'a", 1, ", x", Reads(4)),
+            ("&", "'a b", 1, "u8, x", Reads(2)),
+            ("&", "1", 1, ", x", FaultAt(1)),
+            ("A<", "1", 2, ">, x", Reads(4)),
+            ("A<-", "1", 1, ">, x", Reads(5)),
+            ("extern", "\"C\"", 1, "fn(), x", Reads(4)),
+            ("extern", "f()", 1, "fn(), x", Reads(2)),
+            ("", "Vec<A>", 5, "::B, x", Reads(4)),
+        ],
+    )?;
+    check_held(
+        &rt,
+        Part::Generics,
+        &[
+            ("<", "'a", 1, ": 'b, T> x", Reads(8)),
+            ("<T:", "'a", 3, "> x", Reads(5)),
+            ("<T:", "'a", 1, " + B> x", Reads(7)),
+        ],
+    )?;
+    check_held(
+        &rt,
+        Part::Where,
+        &[
+            ("where T:", "'a", 1, ", {}", Reads(5)),
+            ("where", "'a", 2, ": 'b {}", Reads(5)),
+        ],
+    )?;
+    check_held(
+        &rt,
+        Part::Visibility,
+        &[
+            ("", "pub", 2, "x", Reads(1)),
+            ("", "", 3, "x", Reads(1)),
+            ("", "pub(crate)", 9, "x", Reads(1)),
+            ("", "'a", 2, "x", Reads(0)),
+        ],
+    )
+}

@@ -41,12 +41,13 @@ static NINE: u8 = 9;
 /// Fragments that a `macro_rules!` macro passes are groups without delimiters.
 macro_rules! made {
     (
-        $vis:vis $name:ident, $t:ty, $e:expr, $l:literal, $p:path, $m:meta, $n:meta, $bound:path, $b:block
+        $vis:vis $name:ident, $t:ty, $e:expr, $l:literal, $p:path, $lt:lifetime, $m:meta, $n:meta, $bound:path, $b:block
     ) => {
         #[derive(Builder, Debug, PartialEq)]
-        $vis struct $name<T: $bound>
+        $vis struct $name<$lt, T: $bound + $lt>
         where
-            Vec<T>: $bound,
+            T: $lt,
+            &$lt T: $bound,
         {
             $vis a: $t,
             #[builder(default = $e)]
@@ -56,25 +57,25 @@ macro_rules! made {
             #[$m]
             d: $p,
             #[builder($n)]
-            e: Option<&'static u8>,
+            e: Option<&$lt u8>,
             f: [u8; $b],
-            g: Option<T>,
+            g: Option<&$lt T>,
         }
     };
 }
 
 macro_rules! twice_made {
     (
-        $vis:vis $name:ident, $t:ty, $e:expr, $l:literal, $p:path, $m:meta, $n:meta, $bound:path, $b:block
+        $vis:vis $name:ident, $t:ty, $e:expr, $l:literal, $p:path, $lt:lifetime, $m:meta, $n:meta, $bound:path, $b:block
     ) => {
-        made!($vis $name, $t, $e, $l, $p, $m, $n, $bound, $b);
+        made!($vis $name, $t, $e, $l, $p, $lt, $m, $n, $bound, $b);
     };
 }
 
 /// The attributes are made of paths, which stay in groups of their own.
 macro_rules! made_of_paths {
     ($name:ident, $attribute:path, $entry:path, $e:expr) => {
-        made!($name, u8, 1, 3, Vec<u8>, $attribute($entry), $entry = $e, Debug, { 1 });
+        made!($name, u8, 1, 3, Vec<u8>, 'c, $attribute($entry), $entry = $e, Debug, { 1 });
     };
 }
 
@@ -92,9 +93,9 @@ macro_rules! twice_item {
     };
 }
 
-made!(pub Once, u8, 1 + 1, 3, std::string::String, builder(default), default = Some(&NINE), Debug, { 2 });
+made!(pub Once, u8, 1 + 1, 3, std::string::String, 'a, builder(default), default = Some(&NINE), Debug, { 2 });
 twice_made!(
-    pub(crate) Twice, (u8, u8), (1, 2), 3, Vec<u8>, builder(default), default = Some(&NINE), std::fmt::Debug, { 1 }
+    pub(crate) Twice, (u8, u8), (1, 2), 3, Vec<u8>, 'b, builder(default), default = Some(&NINE), std::fmt::Debug, { 1 }
 );
 made_of_paths!(OfPaths, builder, default, Some(&NINE));
 item! {
@@ -112,12 +113,12 @@ twice_item! {
 
 #[test]
 fn fragments_are_taken_over() {
-    let once = Once { a: 1, b: 2, c: 3, d: String::new(), e: Some(&9), f: [0; 2], g: Some("x") };
-    assert_eq!(Once::builder().g("x").a(1).f([0; 2]).build(), Ok(once));
-    let twice = Twice { a: (0, 0), b: (1, 2), c: 3, d: vec![], e: Some(&9), f: [0], g: Some(1.5) };
-    assert_eq!(Twice::builder().g(1.5).a((0, 0)).f([0]).build(), Ok(twice));
-    let of_paths = OfPaths { a: 1, b: 1, c: 3, d: vec![], e: Some(&9), f: [0], g: Some('y') };
-    assert_eq!(OfPaths::builder().g('y').a(1).f([0]).build(), Ok(of_paths));
+    let once = Once { a: 1, b: 2, c: 3, d: String::new(), e: Some(&9), f: [0; 2], g: Some(&"x") };
+    assert_eq!(Once::builder().g(&"x").a(1).f([0; 2]).build(), Ok(once));
+    let twice = Twice { a: (0, 0), b: (1, 2), c: 3, d: vec![], e: Some(&9), f: [0], g: Some(&1.5) };
+    assert_eq!(Twice::builder().g(&1.5).a((0, 0)).f([0]).build(), Ok(twice));
+    let of_paths = OfPaths { a: 1, b: 1, c: 3, d: vec![], e: Some(&9), f: [0], g: Some(&'y') };
+    assert_eq!(OfPaths::builder().g(&'y').a(1).f([0]).build(), Ok(of_paths));
     assert_eq!(Whole::builder().build(), Ok(Whole { a: 7 }));
     assert_eq!(TwiceWhole::builder().build(), Ok(TwiceWhole { a: None }));
 }

@@ -58,10 +58,10 @@ fn patterns_and_names_of_the_body_stay_its_own() {
 }
 
 macro_rules! function {
-    ($vis:vis $name:ident($argument:ident: $t:ty) -> $answer:path, $e:expr, $m:meta, $b:block) => {
+    ($vis:vis $name:ident($argument:ident: $t:ty) -> $answer:path, $e:expr, $m:meta, $l:literal, $b:block) => {
         #[memoized]
         #[$m]
-        $vis fn $name($argument: $t) -> $answer {
+        $vis extern $l fn $name($argument: $t) -> $answer {
             called();
             let _: u8 = $b;
             $e * 2
@@ -70,13 +70,13 @@ macro_rules! function {
 }
 
 macro_rules! twice_function {
-    ($vis:vis $name:ident($argument:ident: $t:ty) -> $answer:path, $e:expr, $m:meta, $b:block) => {
-        function!($vis $name($argument: $t) -> $answer, $e, $m, $b);
+    ($vis:vis $name:ident($argument:ident: $t:ty) -> $answer:path, $e:expr, $m:meta, $l:literal, $b:block) => {
+        function!($vis $name($argument: $t) -> $answer, $e, $m, $l, $b);
     };
 }
 
-function!(pub twice(number: u32) -> u32, number + 1, allow(dead_code), { 1 });
-twice_function!(pub(crate) passed_on(number: u8) -> std::primitive::u8, number + 1, inline, { 1 });
+function!(pub twice(number: u32) -> u32, number + 1, allow(dead_code), "Rust", { 1 });
+twice_function!(pub(crate) passed_on(number: u8) -> std::primitive::u8, number + 1, inline, "C", { 1 });
 
 #[test]
 fn fragments_are_taken_over() {

@@ -11,12 +11,13 @@ fn log(name: &'static str, begins: bool) {
 }
 
 macro_rules! function {
-    ($v:vis $name:ident, $t:ty, $e:expr, $p:path, $m:meta, $b:block) => {
+    ($v:vis $name:ident, $t:ty, $e:expr, $p:path, $m:meta, $lt:lifetime, $l:literal, $b:block) => {
         #[traced(log)]
         #[$m]
-        $v fn $name<T: $p>(number: $t, _other: &T) -> $t
+        $v extern $l fn $name<$lt, T: $p + $lt>(number: $t, _other: &$lt T) -> $t
         where
             $t: $p,
+            &$lt T: $p,
         {
             number + $e * 2 + $b
         }
@@ -24,13 +25,36 @@ macro_rules! function {
 }
 
 macro_rules! twice_function {
-    ($v:vis $name:ident, $t:ty, $e:expr, $p:path, $m:meta, $b:block) => {
-        function!($v $name, $t, $e, $p, $m, $b);
+    ($v:vis $name:ident, $t:ty, $e:expr, $p:path, $m:meta, $lt:lifetime, $l:literal, $b:block) => {
+        function!($v $name, $t, $e, $p, $m, $lt, $l, $b);
     };
 }
 
-function!(pub(crate) once, u32, 1 + 1, Copy, inline, { 0 });
-twice_function!(twice, u32, 1 + 1, std::marker::Copy, allow(dead_code), { 0 });
+function!(pub(crate) once, u32, 1 + 1, Copy, inline, 'a, "C", { 0 });
+twice_function!(twice, u32, 1 + 1, std::marker::Copy, allow(dead_code), 'b, "Rust", { 0 });
+
+struct Number(u8);
+
+/// A method, whose receiver has a lifetime.
+macro_rules! method {
+    ($name:ident, $lt:lifetime, $t:ty) => {
+        impl Number {
+            #[traced(log)]
+            fn $name<$lt>(self: &$lt Self, _other: &$lt $t) -> &$lt $t {
+                &self.0
+            }
+        }
+    };
+}
+
+macro_rules! twice_method {
+    ($name:ident, $lt:lifetime, $t:ty) => {
+        method!($name, $lt, $t);
+    };
+}
+
+method!(method_once, 'a, u8);
+twice_method!(method_twice, 'b, u8);
 
 macro_rules! item {
     ($i:item) => {
@@ -78,7 +102,10 @@ twice_path!(twice_by_path, self::log);
 fn fragments_are_taken_over() {
     assert_eq!((once(1, &2u8), twice(1, &'a'), whole(), twice_whole()), (5, 5, 3, 5));
     assert_eq!((by_path(), twice_by_path()), (4, 4));
-    let names = ["once", "twice", "whole", "twice_whole", "by_path", "twice_by_path"];
+    assert_eq!((*Number(6).method_once(&0), *Number(7).method_twice(&0)), (6, 7));
+    let names = [
+        "once", "twice", "whole", "twice_whole", "by_path", "twice_by_path", "method_once", "method_twice",
+    ];
     let wanted: Vec<_> = names.into_iter().flat_map(|name| [(name, true), (name, false)]).collect();
     assert_eq!(SEEN.take(), wanted);
 }

@@ -1,6 +1,7 @@
 // Made from crates/declarations/src/signs.rt by rust/erase: change that file, not this one.
 //! The signs of trees. A sign is one tree, or two trees that are read as one.
 
+use crate::declarations::bare::innermost;
 use crate::declarations::class::{Class, Keyword, Word};
 use crate::pm_stream::{Group, TokenStream, TokenTree};
 use crate::pm_token::{Delimiter, Ident, Spacing};
@@ -8,7 +9,12 @@ use crate::pm_token::{Delimiter, Ident, Spacing};
 /// Returns the class of the first sign, and the trees after this sign. Returns `None` if there are no trees.
 ///
 /// `::`, `->`, `<=` and `||` are one sign if the first mark is `Joint`. A `'` and an identifier are one sign, and so
-/// are `#` and `!`. Every other tree is a sign of its own. The call takes O(1) time, and allocates nothing.
+/// are `#` and `!`. Every other tree is a sign of its own. A group without delimiters that holds a visibility, a
+/// lifetime or a literal has the class of what it holds. If it holds one such group alone, the innermost of these
+/// groups decides.
+///
+/// The call takes O(1) time, and for groups without delimiters in one another time in proportion to their number. It
+/// allocates nothing.
 ///
 /// # Contract
 ///
@@ -119,10 +125,21 @@ fn group_class(group: &Group) -> Class
 /// The class of a group without delimiters, in which a `macro_rules!` macro passes a fragment.
 fn unseen_class(inside: &TokenStream) -> Class
 {
-    if is_visibility(inside) {
+    let held = innermost(inside);
+    if is_visibility(held) {
         return Class::Visibility;
     }
-    Class::Invisible
+    held_class(held.trees())
+}
+
+/// The class of trees in a group without delimiters that are no visibility.
+fn held_class(trees: &[TokenTree]) -> Class
+{
+    match trees {
+        [TokenTree::Literal(_)] => Class::Literal,
+        [TokenTree::Punct(mark), TokenTree::Ident(_)] if mark.as_char() == '\'' => Class::Lifetime,
+        _ => Class::Invisible,
+    }
 }
 
 /// Whether the trees are a visibility: no trees, or `pub` with a restriction or without.

@@ -1,0 +1,11 @@
+use Rattle.std.proofs.Common.{◌∙◌, ap, refl}
+use Rattle.declarations.specs.Signs.{held_class}
+use Rattle.declarations.proofs.BareLemmas.{inside_trees}
+use Rattle.declarations.proofs.SignLemmas.{unseen_other}
+use Rattle.declarations.proofs.signs.unseen_class.Goals as goal
+
+pub returns : goal.returns
+returns c =
+    unseen_other c.args.inside.now c.innermost-held.result.now c.trees.result.now c.is_visibility.result
+    c.innermost-held.ensures c.trees.ensures.value c.is_visibility.ensures c.if-is_visibility.false
+    c.held_class.result c.held_class.ensures
