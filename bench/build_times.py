@@ -3,14 +3,14 @@
 
 Usage: bench/build_times.py REGISTRY [--runs N] [--crate FOLDER] [--only BUILD..] [--modules]
 
-REGISTRY is a folder of unpacked crates, as rust/packages.sh makes it: syn 2, quote, unicode-ident and the public crate,
-or FOLDER has that. The builds are `check`, `dev` and `release`, each of proc-macro2 alone, and with quote and syn, with
-syn's features `full`, `extra-traits`, `visit` and `visit-mut`; each from nothing, by one job. The two sides are built
-in turn, N times each, 5 if left out. Printed are the least user seconds, of each build and of each crate in it. With
-more load than processors all times grow, and their ratios are less certain, so the load is printed too.
+REGISTRY is a folder of unpacked crates, as cargo/packages.sh makes it: syn 2, quote, unicode-ident and the public
+crate, or FOLDER has that. The builds are `check`, `dev` and `release`, each of proc-macro2 alone, and with quote and
+syn, with syn's features `full`, `extra-traits`, `visit` and `visit-mut`; each from nothing, by one job. The two sides
+are built in turn, N times each, 5 if left out. Printed are the least user seconds, of each build and of each crate in
+it. With more load than processors all times grow, and their ratios are less certain, so the load is printed too.
 
-With `--modules` the library rust/proved is built alone, with one module more each time, lowest first. Printed is what
-each adds.
+With `--modules` the library cargo/proved-tokens is built alone, with one module more each time, lowest first. Printed
+is what each adds.
 """
 import argparse
 import os
@@ -20,6 +20,8 @@ import shutil
 import subprocess
 import sys
 import tempfile
+
+from workspace import place
 
 TOP = pathlib.Path(__file__).resolve().parent.parent
 BUILDS = {"check": ["check"], "dev": ["build"], "release": ["build", "--release"]}
@@ -108,7 +110,8 @@ def compare(room: pathlib.Path, registry: pathlib.Path, sides: dict[str, pathlib
 def modules(room: pathlib.Path, builds: list[str], runs: int) -> None:
     """Prints what each module of the library adds to its build, without features."""
     library = room / "library"
-    shutil.copytree(TOP / "rust/proved", library, ignore=shutil.ignore_patterns("target", "Cargo.lock", "tests"))
+    ignored = shutil.ignore_patterns("target", "Cargo.lock", "tests")
+    shutil.copytree(TOP / place("cargo/proved-tokens"), library, ignore=ignored)
     manifest = library / "Cargo.toml"
     name = re.search(r'(?m)^name = "(.*)"', manifest.read_text())[1].replace("-", "_")
     # The examples and tests are left out.
@@ -154,8 +157,8 @@ def main() -> None:
         if asked.modules:
             modules(room, asked.only, asked.runs)
         else:
-            compare(room, registry, {"package": TOP / "rust/proc-macro2", "public": public.resolve()}, asked.only,
-                    asked.runs)
+            sides = {"package": TOP / place("cargo/proc-macro2"), "public": public.resolve()}
+            compare(room, registry, sides, asked.only, asked.runs)
     print(f"load {os.getloadavg()[0]:.1f} at the end")
 
 

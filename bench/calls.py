@@ -18,8 +18,10 @@ import tempfile
 
 sys.dont_write_bytecode = True
 HERE = pathlib.Path(__file__).resolve().parent
-sys.path.insert(0, str(HERE.parent / "bugs"))
 from compare import SIZE, source  # noqa: E402
+from workspace import TOP, place  # noqa: E402
+
+sys.path.insert(0, str(TOP / place("dev/bugs")))
 from try_edits import copy_repository  # noqa: E402
 
 ORDERS = ("forwards", "backwards", "random")

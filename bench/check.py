@@ -3,9 +3,9 @@
 
 Usage: bench/check.py TOKENS FOLDER
 
-TOKENS is the program that `cargo build --release` in rust/tools makes. Each command is run once for each file, in turn
-with the others, five times over. What is printed is the processor time of each over all files, the least of five, and
-the ratio.
+TOKENS is the program that `cargo build --release` in cargo/tokens makes. Each command is run once for each file, in
+turn with the others, five times over. What is printed is the processor time of each over all files, the least of five,
+and the ratio.
 """
 import os
 import pathlib

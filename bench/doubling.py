@@ -4,10 +4,11 @@ long.
 
 Usage: bench/doubling.py [--named] [--jobs N] [--size BYTES] [--only NAME..]
 
-The programs are the commands of `tokens`, of rust/tools, the calls those of the program in bench/doubling, over
-rust/proved: both as Cargo builds them, into CARGO_TARGET_DIR where that is set. bench/doubling/shapes.py has the
-shapes. `--named` takes the named shapes alone, on `pretty`, `outline` and eleven calls; `--only` takes the commands and
-calls of these names. BYTES is 50,000 if left out. All take about two hours of one processor, the named shapes a minute.
+The programs are the commands of `tokens`, of cargo/tokens, the calls those of the program in bench/doubling, over
+cargo/proved-tokens: both as Cargo builds them, into CARGO_TARGET_DIR where that is set. bench/doubling/shapes.py has
+the shapes. `--named` takes the named shapes alone, on `pretty`, `outline` and eleven calls; `--only` takes the commands
+and calls of these names. BYTES is 50,000 if left out. All take about two hours of one processor, the named shapes a
+minute.
 
 valgrind counts: of a program, by cachegrind with no caches, all that it runs less what it runs on an empty text; of a
 call, by callgrind, what is within it, on a heap on which no count depends on what was freed before. libc is set so that
@@ -28,6 +29,7 @@ import tempfile
 HERE = pathlib.Path(__file__).resolve().parent
 sys.path.insert(0, str(HERE / "doubling"))
 from shapes import shapes, text_of  # noqa: E402
+from workspace import TOP, package, place  # noqa: E402
 
 LIMIT = 2.1
 # libc copies and frees in another way from some size on, and counts would take a step there that is no growth. Set so
@@ -51,9 +53,10 @@ QUICK = ["pretty", "to_pretty_string", "text_with", "from_str", "reprint", "plac
 def build() -> pathlib.Path:
     """Builds the programs and the calls, and answers the folder that they are in."""
     target = os.environ.get("CARGO_TARGET_DIR", str(HERE / "doubling/target"))
-    for package in (HERE / "doubling", HERE.parent / "rust/tools"):
-        subprocess.run(["cargo", "build", "--offline", "--quiet", "--release"], cwd=package, check=True,
-                       env={**os.environ, "CARGO_TARGET_DIR": target})
+    with tempfile.TemporaryDirectory() as room:
+        for folder in (package("bench/doubling", room), TOP / place("cargo/tokens")):
+            subprocess.run(["cargo", "build", "--offline", "--quiet", "--release"], cwd=folder, check=True,
+                           env={**os.environ, "CARGO_TARGET_DIR": target})
     return pathlib.Path(target) / "release"
 
 

@@ -16,7 +16,9 @@ import tempfile
 from pathlib import Path
 
 sys.dont_write_bytecode = True
-sys.path.insert(0, str(Path(__file__).resolve().parent.parent / "bugs"))
+from workspace import TOP, place  # noqa: E402
+
+sys.path.insert(0, str(TOP / place("dev/bugs")))
 from try_edits import copy_repository  # noqa: E402
 
 TICK = os.sysconf("SC_CLK_TCK")

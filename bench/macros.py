@@ -3,7 +3,7 @@
 
 Usage: bench/macros.py REGISTRY [rows | inside | builds | derives].. [--runs N] [--derives N] [--library OTHER]
 
-REGISTRY is a folder of unpacked crates, as rust/packages.sh makes it: syn 2, quote, proc-macro2 and unicode-ident. The
+REGISTRY is a folder of unpacked crates, as cargo/packages.sh makes it: syn 2, quote, proc-macro2 and unicode-ident. The
 packages of bench/macros are copied into a folder of their own, and Cargo builds them there, over the packages of this
 checkout or of OTHER. Without a word all is done:
 
@@ -13,7 +13,7 @@ checkout or of OTHER. Without a word all is done:
     inside   The same calls in a macro inside the compiler, whose tokens proc-macro2 then hands on. Counted is all that
              rustc takes for 600 calls less what it takes for 200, so the compiler's side of each token is counted too.
              The macro is built with optimisations and, in the second column, as cargo builds macros by default.
-    builds   User seconds of `cargo build` of macros from nothing, by one job: those of rust/example and the same ones
+    builds   User seconds of `cargo build` of macros from nothing, by one job: those of cargo/examples and the same ones
              over syn and quote, with the features of syn that they need. The least of N runs by turns, 5 if left out.
              This library is built without parts that are kept for a next build, as cargo builds packages of a registry.
     derives  User seconds of `cargo check` of a crate with 2000 structs of 8 fields, each with a derive, less those of
@@ -36,16 +36,15 @@ sys.dont_write_bytecode = True
 import workspace  # noqa: E402
 
 TOP = pathlib.Path(__file__).resolve().parent.parent
-PACKAGES = ["rust/proved", "rust/bridge", "rust/example/names", "rust/example/traced", "bench/macros"]
-WORDS = ("rows", "inside", "builds", "derives")
-TOKENS = 75
+PACKAGES = ["cargo/proved-tokens", "cargo/proved-macros", "cargo/examples/names", "cargo/examples/traced",
+"bench/macros"] WORDS = ("rows", "inside", "builds", "derives") TOKENS = 75
 # How many derives are counted: what rustc takes for the second number less what it takes for the first.
 FEW, MANY = 50, 150
 # How many processes run at once where instructions are counted.
 AT_ONCE = 2
 # The folder of each macro over this library, and over syn and quote.
-PAIRS = {"names": ("rust/example/names", "bench/macros/syn_names"),
-         "traced": ("rust/example/traced", "bench/macros/syn_traced")}
+PAIRS = {"names": ("cargo/examples/names", "bench/macros/syn_names"),
+         "traced": ("cargo/examples/traced", "bench/macros/syn_traced")}
 GETTERS = {"this library": "bench/macros/getters", "syn and quote": "bench/macros/syn_getters"}
 CONFIG = '[source.crates-io]\nreplace-with = "here"\n[source.here]\ndirectory = "{}"\n'
 USER = '[package]\nname = "user"\nversion = "0.1.0"\nedition = "2021"\n\n[workspace]\n\n[dependencies]\n'

@@ -3,10 +3,10 @@
 
 Usage: bench/numbers.py CRATE IDENT SOURCES REGISTRY [RUNS]
 CRATE and IDENT are the folders of the Rust crates proc-macro2 and unicode-ident, SOURCES is a folder of Rust files, and
-REGISTRY is what rust/packages.sh FOLDER leaves in FOLDER/registry. Programs run in turn with the twin over the Rust
+REGISTRY is what cargo/packages.sh FOLDER leaves in FOLDER/registry. Programs run in turn with the twin over the Rust
 crate, RUNS times (else 3), on 1, 10 and 100 MB of the sources, and the least processor time and the most memory of each
 are told, with the growth from 1 to 100 MB. Where valgrind is there, instructions are counted on 1 MB. The rows of Cargo
-are those of rust/bench.sh and rust/bench_flat.sh. Ends with an error where a run fails or two outputs differ.
+are those of dev/bench.sh and dev/bench_flat.sh. Ends with an error where a run fails or two outputs differ.
 """
 import multiprocessing
 import os
@@ -18,6 +18,7 @@ import sys
 import tempfile
 
 import compare
+from workspace import place
 
 TOP = pathlib.Path(__file__).resolve().parent.parent
 SIZES = (1, 10, 100)
@@ -31,7 +32,7 @@ CALLS = {
     "parse_word": "from_str of a word",
     "quote_small": "a small quote!",
 }
-# What rust/bench_flat.sh tells of the public crate.
+# What dev/bench_flat.sh tells of the public crate.
 FLAT = {
     "trees_make_and_walk": "flat tokens of 3 MB, beside trees",
     "syn_make_and_walk": "  beside syn's buffer",
@@ -110,10 +111,10 @@ def said(command: list) -> dict[str, list[float]]:
 
 def calls(crate: str, sources: pathlib.Path, registry: pathlib.Path, runs: int) -> None:
     os.environ["CARGO_REGISTRY"] = str(registry)
-    found = said([TOP / "rust/bench.sh", crate, sources, str(runs)])
+    found = said([TOP / place("dev/bench.sh"), crate, sources, str(runs)])
     for name, what in CALLS.items():
         time_row(what, *found[name][:2])
-    flat = said([TOP / "rust/bench_flat.sh", registry, sources])
+    flat = said([TOP / place("dev/bench_flat.sh"), registry, sources])
     for name, what in FLAT.items():
         time_row(what, flat["flat_make_and_walk"][0], flat[name][0])
 

@@ -9,7 +9,7 @@ Takes files of Rust below FOLDER at random. Of each, rustfmt formats the text wi
 reads that and prints its tokens. Printed are the share of rustfmt's lines that stand in that order in the program's
 text, and the files with the most lines that don't. Blank lines and those of doc comments don't count. All files go
 through one run of the program, with a statement between two. PROGRAM is that of crates/pretty where it isn't given, or
-`'FOLDER/tokens pretty'`, with the program of rust/tools.
+`'FOLDER/tokens pretty'`, with the program of cargo/tokens.
 """
 import argparse
 import difflib

@@ -2,9 +2,9 @@
 """Times `tokens pretty` beside `tokens print` on 10 MB of real source.
 
 Usage: bench/pretty_time.py TOKENS SOURCES [RUNS]
-TOKENS is the program that `cargo build --release` in rust/tools makes, and SOURCES is a folder of Rust files. Runs the
-two commands in turn on its files one after another, and prints the least processor time (user and system time together)
-and the most memory of each, with the ratios. Ends with an error where a run fails.
+TOKENS is the program that `cargo build --release` in cargo/tokens makes, and SOURCES is a folder of Rust files. Runs
+the two commands in turn on its files one after another, and prints the least processor time (user and system time
+together) and the most memory of each, with the ratios. Ends with an error where a run fails.
 """
 import multiprocessing
 import os

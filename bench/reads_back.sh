@@ -4,7 +4,7 @@
 #
 #   bench/reads_back.sh TOKENS FOLDER
 #
-# TOKENS is the program that `cargo build --release` in rust/tools makes. Every file below FOLDER is read whose name
+# TOKENS is the program that `cargo build --release` in cargo/tokens makes. Every file below FOLDER is read whose name
 # ends with `.rs`. The last line is `N read back, M don't, K don't parse`, and the status is 0 only if all files read
 # back, and there are some.
 set -u

@@ -5,7 +5,7 @@ Usage: bench/searches.py SOURCES [NAME..]
        TOKENS=PROGRAM bench/searches.py SOURCES [NAME..]
 SOURCES is a folder of Rust files. For each NAME (else `new`, `unwrap`, `clone`, `parse`) it tells the least of 25 runs
 in turn, of `find_calls NAME` and of `grep -nE 'NAME *\\('`, which finds calls in comments and literals too. The program
-is crates/find_calls, as `rt run` builds it, or `PROGRAM find`, the program of rust/tools.
+is crates/find_calls, as `rt run` builds it, or `PROGRAM find`, the program of cargo/tokens.
 """
 import os
 import pathlib

@@ -5,7 +5,7 @@
 #   bench/declarations/compare.sh FOLDER..
 #
 # syn, quote and proc-macro2 are the distribution's, from CARGO_REGISTRY or /usr/share/cargo/registry, where
-# rust/packages.sh puts them; nothing is fetched. Files that syn doesn't read are left out, and so are items in macros.
+# cargo/packages.sh puts them; nothing is fetched. Files that syn doesn't read are left out, and so are items in macros.
 # Each difference without a known cause is printed, then counts and times: for each file the least of 5 runs over its
 # items' streams, by the clock. The status is 1 if there is such a difference.
 set -eu

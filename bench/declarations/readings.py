@@ -6,7 +6,8 @@ must be one at most. The walk by the tables in `specs/` must end exactly where t
 the list is a front of one. The tables are read from the definitions, so a wrong row of these shows here.
 
 Entries of attributes and parameters of functions have no table. In place of a walk by tables, these are read by their
-rules in `specs/rules`, as `checks/grammar_value.py` reads this value. So are generic parameters, without the brackets.
+rules in `specs/rules`, as `dev/checks/grammar_value.py` reads this value. So are generic parameters, without the
+brackets.
 
 Usage: readings.py [--code] [LENGTH [PART..]]
 
@@ -24,7 +25,10 @@ import tempfile
 sys.dont_write_bytecode = True
 HERE = os.path.dirname(os.path.abspath(__file__))
 SPECS = os.path.join(HERE, "..", "..", "crates", "declarations", "specs")
-sys.path.insert(0, os.path.join(HERE, "..", "..", "checks"))
+sys.path.insert(0, os.path.join(HERE, ".."))
+from workspace import TOP, package, place  # noqa: E402
+
+sys.path.insert(0, str(TOP / place("dev/checks")))
 from grammar_value import Machine, Value, start  # noqa: E402
 
 
@@ -485,11 +489,11 @@ def lists(reader, part, alphabets, longest):
 
 
 def compare_code(reader, longest, wanted):
-    package = os.path.join(HERE, "answers")
     count = wrong = 0
     with tempfile.TemporaryDirectory() as folder:
-        subprocess.run(["cargo", "build", "--release", "--offline", "--quiet", "-j1", "--manifest-path",
-                        os.path.join(package, "Cargo.toml")], env=dict(os.environ, CARGO_TARGET_DIR=folder), check=True)
+        manifest = package("bench/declarations/answers", folder) / "Cargo.toml"
+        subprocess.run(["cargo", "build", "--release", "--offline", "--quiet", "-j1", "--manifest-path", manifest],
+                       env=dict(os.environ, CARGO_TARGET_DIR=folder), check=True)
         for part, _, alphabets in PROVED:
             if part not in CALLED or wanted and part not in wanted:
                 continue

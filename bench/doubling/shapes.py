@@ -3,10 +3,11 @@
 A shape is a name and what stands first, what is repeated, what stands inside, what closes each repetition, and what
 stands last. What is left out is empty.
 """
-import pathlib
 import re
 
-REASONS = pathlib.Path(__file__).resolve().parents[2] / "checks/reasons.txt"
+from workspace import TOP, place
+
+REASONS = TOP / place("dev/checks/reasons.txt")
 
 # Those that took to_pretty_string quadratic time, and those that would if a rule of it forgot what it had looked at.
 NAMED = [
@@ -128,7 +129,7 @@ TEXTS = [
 
 
 def faults() -> list[tuple[str, ...]]:
-    """For each kind of fault the first text of checks/reasons.txt, after names, and over and over."""
+    """For each kind of fault the first text of dev/checks/reasons.txt, after names, and over and over."""
     rows, seen = [], set()
     for line in REASONS.read_text().split("\n"):
         reason, *rest = line.split("\t")
@@ -141,7 +142,7 @@ def faults() -> list[tuple[str, ...]]:
 
 
 def unescaped(found: re.Match) -> str:
-    """What an escape of checks/reasons.txt stands for."""
+    """What an escape of dev/checks/reasons.txt stands for."""
     return chr(int(found[2], 16)) if found[2] else {"n": "\n", "r": "\r", "t": "\t"}.get(found[1], found[1])
 
 

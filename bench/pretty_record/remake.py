@@ -3,9 +3,10 @@
 
 Usage: bench/pretty_record/remake.py [COMMIT]
 
-It erases the sources of this checkout, builds the example `pretty_tests` of rust/proved over them and over those of
-COMMIT, HEAD if left out, and writes the record. It tells how many of the streams, those of this checkout, moved since
-COMMIT, and shows ten of them before and after: put that into the message of the commit that changes the record.
+It erases the sources of this checkout, builds the example `pretty_tests` of cargo/proved-tokens over them and over
+those of COMMIT, HEAD if left out, and writes the record. It tells how many of the streams, those of this checkout,
+moved since COMMIT, and shows ten of them before and after: put that into the message of the commit that changes the
+record.
 
 The record detects change and proves nothing right: read what moved.
 """
@@ -17,6 +18,10 @@ import sys
 import tempfile
 
 TOP = pathlib.Path(__file__).resolve().parents[2]
+sys.dont_write_bytecode = True
+sys.path.insert(0, str(TOP / "bench"))
+from workspace import OLDER, place  # noqa: E402
+
 CRATE = TOP / "crates/pretty_tests"
 SHOWN = 10
 
@@ -46,17 +51,21 @@ def main() -> None:
     if len(sys.argv) > 2 or sys.argv[1:2] in (["-h"], ["--help"]):
         sys.exit(__doc__)
     commit = sys.argv[1] if len(sys.argv) > 1 else "HEAD"
-    subprocess.run([sys.executable, TOP / "rust/erase"], check=True, stderr=subprocess.DEVNULL)
+    subprocess.run([sys.executable, TOP / place("dev/erase")], check=True, stderr=subprocess.DEVNULL)
     with tempfile.TemporaryDirectory() as folder:
         room = pathlib.Path(folder)
-        archive = ["git", "archive", commit, "rust/proved/src"]
+        # A commit from before the folder cargo/ has the package where it was then.
+        here = there = place("cargo/proved-tokens")
+        if subprocess.run(["git", "cat-file", "-e", f"{commit}:{here}"], cwd=TOP, stderr=subprocess.DEVNULL).returncode:
+            there = OLDER["cargo/proved-tokens"]
+        archive = ["git", "archive", commit, f"{there}/src"]
         sources = subprocess.run(archive, cwd=TOP, stdout=subprocess.PIPE, check=True).stdout
         subprocess.run(["tar", "-x", "-C", room], input=sources, check=True)
         for name in ("Cargo.toml", "tests"):
-            subprocess.run(["cp", "-r", TOP / "rust/proved" / name, room / "rust/proved"], check=True)
-        now = built(TOP / "rust/proved", room / "now")
+            subprocess.run(["cp", "-r", TOP / here / name, room / there], check=True)
+        now = built(TOP / here, room / "now")
         record, after = answers(now), rows(answers(now, "whole"))
-        before = rows(answers(built(room / "rust/proved", room / "then"), "whole"))
+        before = rows(answers(built(room / there, room / "then"), "whole"))
     (CRATE / "stdout").write_bytes(record.encode())
     moved = [number for number in after if before.get(number) != after[number]]
     print(f"{len(moved)} of {len(after)} streams moved since {commit}")

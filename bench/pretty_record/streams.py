@@ -5,8 +5,8 @@ bench/items.txt.
 
 Usage: bench/pretty_record/streams.py PROGRAM > crates/pretty_tests/stdin
 
-PROGRAM is the example `pretty_tests` of rust/proved, which says what is no stream. choices.txt has what is chosen from.
-The numbers are those of a seed, so that the streams are the same each time.
+PROGRAM is the example `pretty_tests` of cargo/proved-tokens, which says what is no stream. choices.txt has what is
+chosen from. The numbers are those of a seed, so that the streams are the same each time.
 """
 import pathlib
 import random

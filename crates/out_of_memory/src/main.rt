@@ -1,7 +1,7 @@
 //! Makes one call of the library twice, and writes what each call returned and what it left.
 //!
-//! It is for `checks/out_of_memory`, which runs each case once for each allocation of the first call, and makes that
-//! allocation fail. The three arguments name the group of cases, the call, and the input of the call.
+//! It is for `dev/checks/out_of_memory`, which runs each case once for each allocation of the first call, and makes
+//! that allocation fail. The three arguments name the group of cases, the call, and the input of the call.
 #![tactic(auto)]
 
 mod building;

@@ -1,4 +1,4 @@
-//! The codes that calls return. `rust/c/header.py` makes the codes of `pm_c.h` from these lines, and lists the codes of
+//! The codes that calls return. `dev/header.py` makes the codes of `pm_c.h` from these lines, and lists the codes of
 //! each call.
 
 /// The call succeeded.

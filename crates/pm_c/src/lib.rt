@@ -1,5 +1,5 @@
 //! The C interface to token streams. A session reads texts into streams, lists and prints them, makes literals, and
-//! finds lines, columns and source text. `rust/c/header.py` makes `pm_c.h` from this file: from the comments and types
+//! finds lines, columns and source text. `dev/header.py` makes `pm_c.h` from this file: from the comments and types
 //! of the exports, and from the codes that each one's record in `specs/Calls.antt` lists.
 //!
 //! The record says what the call returns and how the session changes. The clause `handle` says of each call that a

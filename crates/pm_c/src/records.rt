@@ -1,4 +1,4 @@
-//! The records that calls return to C. `rust/c/header.py` makes the structs of `pm_c.h` from these.
+//! The records that calls return to C. `dev/header.py` makes the structs of `pm_c.h` from these.
 ghost use Rattle.std.specs.Prelude.{◌≡◌};
 ghost use Rattle.pm_c.specs.declared.codes.TheConstants.{DONE};
 

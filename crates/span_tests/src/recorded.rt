@@ -1,6 +1,6 @@
 //! The results of all look-ups of each test, as one number, when the record was last made.
 //!
-//! The record detects changes; it does not show that results are right. `checks/record_spans` makes it again. A
+//! The record detects changes; it does not show that results are right. `dev/checks/record_spans` makes it again. A
 //! commit that does so says which results changed, and why.
 
 /// Each test with its number.

@@ -1,4 +1,4 @@
-//! Rows through the package in the public crate's place: those of rust/bench.
+//! Rows through the package in the public crate's place: those of dev/bench.
 #[path = "../../calls.rs"]
 mod calls;
 mod quoted;

@@ -1,4 +1,4 @@
-//! Rows over the library with the features of the programs in rust/tools.
+//! Rows over the library with the features of the programs in cargo/tokens.
 #[path = "../../calls.rs"]
 mod calls;
 mod templates;

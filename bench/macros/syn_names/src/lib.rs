@@ -1,4 +1,4 @@
-//! The derive of rust/example/names over syn and quote, with the same answers.
+//! The derive of cargo/examples/names over syn and quote, with the same answers.
 use proc_macro2::TokenStream;
 use quote::{quote, ToTokens};
 use syn::{parse_macro_input, Data, DeriveInput, Error, Expr, Fields, Lit, Meta, Result, Variant};

@@ -1,4 +1,4 @@
-//! The attribute of rust/example/traced over syn and quote, with the same answers.
+//! The attribute of cargo/examples/traced over syn and quote, with the same answers.
 use proc_macro2::{Span, TokenStream};
 use quote::quote;
 use syn::{parse_macro_input, AttrStyle, Ident, ItemFn, Path};

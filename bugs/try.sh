@@ -1,3 +1,0 @@
-#!/bin/sh
-# Tries edits that plant bugs: the prover must refuse each. `bugs/try.sh --help` says more.
-exec python3 "$(dirname "$0")/try_edits.py" "$@"

@@ -1,0 +1,70 @@
+// Made from crates/declarations/src/lib.rt by dev/erase: change that file, not this one.
+//! Finds items and their parts in token trees: attributes, visibilities, fields, variants, generic parameters, where
+//! clauses, and whole structs, enums and unions. It also finds where a type, a pattern or an expression ends.
+//!
+//! A call that splits borrows trees, and returns the part at their start and the trees after it. It takes time in
+//! proportion to the trees of the part, with each group as one tree, and allocates nothing. If it returns a part, the
+//! part is what the grammar reads (clause `ok`), and no other part can be read there (`only`). Otherwise no part can be
+//! read, and the error is at the end of the longest prefix that other trees could complete (`fault`).
+//!
+//! The grammar reads signs. A sign is one tree, or two trees that are read as one, such as `::`. The page
+//! crates/declarations/README.md has the whole grammar.
+
+mod any_item;
+mod attribute;
+mod attribute_entry;
+mod bare;
+mod class;
+mod entry;
+mod entry_check;
+mod entry_list;
+mod expression;
+mod fault;
+mod field;
+mod file;
+mod front;
+mod function;
+mod generics;
+mod grammar;
+mod header;
+mod item;
+mod keyword;
+pub mod laws;
+mod list;
+mod message;
+mod param_parts;
+mod parameter;
+mod parts;
+mod place;
+mod range;
+mod reader;
+mod signs;
+mod types;
+mod variant;
+mod walk;
+
+pub use any_item::{AnyItem, ItemKind, split_any_item};
+pub use attribute::{Attribute, AttributeArgs, Attributes, split_attribute};
+pub use class::{Class, Keyword, Word};
+pub use entry::{Entry, EntryKind, parse_entry};
+pub use entry_check::{EntryError, EntryProblem, check_entries};
+pub use entry_list::Entries;
+pub use fault::Fault;
+pub use field::{Field, parse_field, parse_tuple_field};
+pub use file::{File, Items, parse_file, parse_item};
+pub use function::{Function, parse_function};
+pub use generics::{
+    Param, ParamKind, Predicate, after_where, parse_param, parse_predicate, within_generics,
+};
+pub use item::{Body, Fields, TypeItem, parse_type_item};
+pub use keyword::is_keyword;
+pub use list::{FieldList, VariantList};
+pub use message::compile_error;
+pub use parameter::{Parameter, ParameterKind, Parameters, parse_parameter, split_pattern};
+pub use parts::{
+    split_attributes, split_bounds, split_expression, split_field, split_fields, split_generics,
+    split_inner_attributes, split_item, split_tuple_field, split_tuple_fields, split_type,
+    split_variant, split_variants, split_visibility, split_where,
+};
+pub use signs::first_sign;
+pub use variant::{Variant, parse_variant};

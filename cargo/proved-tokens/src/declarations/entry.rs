@@ -1,0 +1,514 @@
+// Made from crates/declarations/src/entry.rt by dev/erase: change that file, not this one.
+//! The entries of an attribute's list.
+
+use crate::declarations::attribute::is_named;
+use crate::declarations::bare::{bared, has_no_delimiters, inside_of};
+use crate::declarations::class::Class;
+use crate::declarations::fault::Fault;
+use crate::declarations::item::split_group;
+use crate::declarations::place::{Item, Place, Rule, Spot, State};
+use crate::declarations::reader::{begins, is, part, past};
+use crate::declarations::signs::first_sign;
+use crate::declarations::walk::walk_past;
+use crate::pm_span::Span;
+use crate::pm_stream::{Group, TokenTree};
+use crate::pm_token::Ident;
+
+/// The form of an entry in an attribute's list.
+#[derive(Clone, Copy, Debug)]
+pub enum EntryKind<'a> {
+    /// A path alone, such as `skip`.
+    Path,
+    /// A path and a group, such as `rename(a, b)`. The trees inside the group are not read.
+    List(&'a Group),
+    /// A path, `=` and this expression, such as `rename = "a"`.
+    Value(&'a [TokenTree]),
+    /// This literal, such as `"a"`, `-1` or `true`. There is no path.
+    Literal(&'a [TokenTree]),
+}
+
+/// An entry of an attribute's list, such as `skip`, `rename = "a"` or `bound(T, U)`.
+#[derive(Clone, Copy, Debug)]
+pub struct Entry<'a> {
+    /// The path, such as `a` or `a::b`. It has no trees if the entry is a literal.
+    pub path: &'a [TokenTree],
+    /// The form of the entry, with what comes after its path.
+    pub kind: EntryKind<'a>,
+}
+
+/// Returns the entry at the start of the trees, and the trees after it.
+///
+/// Pass the trees in a group of an attribute, or the rest that an earlier call returned. An entry is a literal or a
+/// path. After a path there may be a group, or `=` and an expression; of an expression only the end is found. A segment
+/// of a path is any identifier except `_`, `true` and `false`. It may be a keyword: `unsafe(no_mangle)` has the path
+/// `unsafe`.
+///
+/// If the trees begin with no entry, the call returns a `Fault`. The rule `entry` is in crates/declarations/README.md.
+/// The call allocates nothing. For `a::b = f(1) + 2, c` the path is `a::b`, the value `f(1) + 2`, and the rest `, c`.
+///
+/// A macro by example passes `$m:meta` and `$p:path` as groups without delimiters. If the trees begin with such a
+/// group, the entry is the one that the group holds, and its parts are trees inside of the group. If the group holds a
+/// path alone, a list or `=` and a value can come after the group. In the group the path of the entry may be in a
+/// group of its own. Groups that hold nothing but such a group are looked through. An error inside of the group has an
+/// `at` of 0, since no tree comes before the group. Its span is that of the first wrong tree inside, or that of the
+/// group if trees are missing at its end.
+///
+/// # Contract
+///
+/// - `ensures ok`: <code>[IfOk] result (λ found. [IsEntryAt] trees.now found.0 found.1.now)</code>
+/// - `ensures only`: <code>[IfOk] result (λ found. [IsOnlyPlainRest] trees.now found.1.now)</code>
+/// - `ensures fewer`: <code>[IfOk] result (λ found. [length] found.1.now &lt; [length] trees.now)</code>
+/// - `ensures fault`: <code>[IfErr] result (λ fault. [IsNoEntry] trees.now fault)</code>
+///
+/// [IfOk]: crate::contracts#std.IfOk
+/// [IsEntryAt]: crate::contracts#declarations.Entry.IsEntryAt
+/// [IsOnlyPlainRest]: crate::contracts#declarations.Entry.IsOnlyPlainRest
+/// [length]: crate::contracts#std.length
+/// [IfErr]: crate::contracts#std.IfErr
+/// [IsNoEntry]: crate::contracts#declarations.Entry.IsNoEntry
+pub fn parse_entry(trees: &[TokenTree]) -> Result<(Entry<'_>, &[TokenTree]), Fault>
+{
+    match split_bare(trees) {
+        Some((group, after)) => held_entry(group, after),
+        None => plain_entry(trees),
+    }
+}
+
+/// The entry at the start of the trees, which is not in a group without delimiters, and the trees after it.
+fn plain_entry(trees: &[TokenTree]) -> Result<(Entry<'_>, &[TokenTree]), Fault>
+{
+    match entry_of(trees) {
+        Ok((entry, rest)) => Ok((entry, rest)),
+        Err(left) => Err(Fault::ahead_of(trees.len() - left.len(), left)),
+    }
+}
+
+/// The entry that the group holds, or whose path it holds, and the trees after the entry.
+fn held_entry<'a>(
+    group: &'a Group,
+    after: &'a [TokenTree],
+) -> Result<(Entry<'a>, &'a [TokenTree]), Fault>
+{
+    match whole_near_entry(inside_of(group)) {
+        Ok(held) => match held.kind {
+            EntryKind::Path => go_on(held.path, after),
+            EntryKind::List(_) | EntryKind::Value(_) | EntryKind::Literal(_) => Ok((held, after)),
+        },
+        Err(fault) => Err(fault_within(group, fault)),
+    }
+}
+
+/// The entry at the start of the trees, perhaps in a group without delimiters that holds no such group.
+fn near_entry(trees: &[TokenTree]) -> Result<(Entry<'_>, &[TokenTree]), Fault>
+{
+    match split_bare(trees) {
+        Some((group, after)) => near_held(group, after),
+        None => plain_entry(trees),
+    }
+}
+
+/// The entry that the group holds, or whose path it holds. In the group there is no group without delimiters.
+fn near_held<'a>(
+    group: &'a Group,
+    after: &'a [TokenTree],
+) -> Result<(Entry<'a>, &'a [TokenTree]), Fault>
+{
+    match whole_plain_entry(inside_of(group)) {
+        Ok(plain) => match plain.kind {
+            EntryKind::Path => go_on(plain.path, after),
+            EntryKind::List(_) | EntryKind::Value(_) | EntryKind::Literal(_) => Ok((plain, after)),
+        },
+        Err(fault) => Err(fault_within(group, fault)),
+    }
+}
+
+/// The error in the trees before which the group is, for this error in the trees inside of the group.
+fn fault_within(group: &Group, inner: Fault) -> Fault
+{
+    Fault {
+        at: 0,
+        span: Some(span_or(inner.span, group.span())),
+    }
+}
+
+/// The span, or else the other one.
+fn span_or(span: Option<Span>, other: Span) -> Span
+{
+    match span {
+        Some(span) => span,
+        None => other,
+    }
+}
+
+/// The entry that has this path, and at the start of the trees what comes after its path; and the trees after it.
+fn go_on<'a>(
+    path: &'a [TokenTree],
+    after: &'a [TokenTree],
+) -> Result<(Entry<'a>, &'a [TokenTree]), Fault>
+{
+    match args_of(after) {
+        Ok((kind, rest)) => Ok((Entry { path, kind }, rest)),
+        Err(left) => Err(Fault::ahead_of(1 + (after.len() - left.len()), left)),
+    }
+}
+
+impl<'a> Entry<'a> {
+    /// Returns whether the path is this one identifier. A raw identifier is compared with its `r#`.
+    ///
+    /// # Contract
+    ///
+    /// - `ensures`: <code>result ≡ [is_named] self.now.path.now ([spelled] word.now)</code>
+    ///
+    /// [is_named]: crate::contracts#declarations.Attribute.is_named
+    /// [spelled]: crate::contracts#pm_token.Spelling.spelled
+    pub fn is(&self, word: &str) -> bool
+    {
+        is_named(self.path, word)
+    }
+
+    /// Returns the path if it is one identifier, and `None` for a literal or a longer path.
+    ///
+    /// For `rename = "a"` it returns `rename`.
+    ///
+    /// # Contract
+    ///
+    /// - `ensures`: <code>[option_copied] result ≡ [sole_name] self.now.path.now</code>
+    ///
+    /// [option_copied]: crate::contracts#std.option_copied
+    /// [sole_name]: crate::contracts#declarations.Entry.sole_name
+    pub fn name(&self) -> Option<&'a Ident>
+    {
+        only_name(bared(self.path))
+    }
+
+    /// Returns the span of the first tree. An entry that a call of this crate returned always has one. For an entry in
+    /// a group without delimiters it is that of the first tree inside.
+    ///
+    /// # Contract
+    ///
+    /// - `ensures`: <code>result ≡ [entry_extent] self.now.kind self.now.path.now</code>
+    ///
+    /// [entry_extent]: crate::contracts#declarations.Entry.entry_extent
+    pub fn span(&self) -> Option<Span>
+    {
+        match self.kind {
+            EntryKind::Literal(literal) => first_span(literal),
+            EntryKind::Path | EntryKind::List(_) | EntryKind::Value(_) => first_span(self.path),
+        }
+    }
+}
+
+/// The identifier, if it is the only tree.
+fn only_name(trees: &[TokenTree]) -> Option<&Ident>
+{
+    match trees {
+        [TokenTree::Ident(name)] => Some(name),
+        _ => None,
+    }
+}
+
+/// The group without delimiters that the trees begin with, and the trees after it.
+fn split_bare(trees: &[TokenTree]) -> Option<(&Group, &[TokenTree])>
+{
+    match split_group(trees) {
+        Some((group, rest)) if has_no_delimiters(group.delimiter()) => Some((group, rest)),
+        _ => None,
+    }
+}
+
+/// The span of the first tree, or if that is a group without delimiters, that of the entry in it.
+pub(crate) fn spot_of(trees: &[TokenTree], entry: &Entry<'_>) -> Option<Span>
+{
+    match split_bare(trees) {
+        Some(_) => entry.span(),
+        None => first_span(trees),
+    }
+}
+
+/// The span of the first tree.
+fn first_span(trees: &[TokenTree]) -> Option<Span>
+{
+    match trees.first() {
+        Some(tree) => Some(tree.span()),
+        None => None,
+    }
+}
+
+/// The entry that all of the trees are.
+pub(crate) fn whole_entry(trees: &[TokenTree]) -> Result<Entry<'_>, Fault>
+{
+    match parse_entry(trees) {
+        Ok((entry, rest)) => {
+            if rest.is_empty() {
+                Ok(entry)
+            } else {
+                Err(Fault::ahead_of(trees.len() - rest.len(), rest))
+            }
+        }
+        Err(fault) => Err(fault),
+    }
+}
+
+/// The entry that all of the trees are, perhaps in a group without delimiters that holds no such group.
+fn whole_near_entry(trees: &[TokenTree]) -> Result<Entry<'_>, Fault>
+{
+    match near_entry(trees) {
+        Ok((entry, after)) => {
+            if after.is_empty() {
+                Ok(entry)
+            } else {
+                Err(Fault::ahead_of(trees.len() - after.len(), after))
+            }
+        }
+        Err(fault) => Err(fault),
+    }
+}
+
+/// The entry that all of the trees are. It is not in a group without delimiters.
+fn whole_plain_entry(trees: &[TokenTree]) -> Result<Entry<'_>, Fault>
+{
+    match plain_entry(trees) {
+        Ok((entry, left)) => {
+            if left.is_empty() {
+                Ok(entry)
+            } else {
+                Err(Fault::ahead_of(trees.len() - left.len(), left))
+            }
+        }
+        Err(fault) => Err(fault),
+    }
+}
+
+fn is_segment(class: Class) -> bool
+{
+    match class {
+        Class::Word(_) | Class::Keyword(_) => true,
+        Class::SelfValue | Class::SelfType | Class::Super | Class::Crate => true,
+        Class::As | Class::Await | Class::Jump => true,
+        _ => false,
+    }
+}
+
+/// Skips a segment of a path.
+fn segment(trees: &[TokenTree]) -> Result<&[TokenTree], &[TokenTree]>
+{
+    match first_sign(trees) {
+        Some((found, rest)) => {
+            if is_segment(found) {
+                Ok(rest)
+            } else {
+                Err(trees)
+            }
+        }
+        None => Err(trees),
+    }
+}
+
+/// Skips `::`, if it is next.
+fn separator(trees: &[TokenTree]) -> Result<&[TokenTree], &[TokenTree]>
+{
+    if begins(trees, Class::PathSeparator) {
+        past(trees, Class::PathSeparator)
+    } else {
+        Ok(trees)
+    }
+}
+
+/// Skips `::` and a segment.
+fn next_segment(trees: &[TokenTree]) -> Result<&[TokenTree], &[TokenTree]>
+{
+    segment(past(trees, Class::PathSeparator)?)
+}
+
+/// Skips more segments, each after `::`.
+fn more_segments(trees: &[TokenTree]) -> Result<&[TokenTree], &[TokenTree]>
+{
+    let mut left = trees;
+    while begins(left, Class::PathSeparator) {
+        match next_segment(left) {
+            Ok(next) => left = next,
+            Err(fault) => return Err(fault),
+        }
+    }
+    Ok(left)
+}
+
+/// Skips a segment and all that follow it after `::`.
+fn segments(trees: &[TokenTree]) -> Result<&[TokenTree], &[TokenTree]>
+{
+    more_segments(segment(trees)?)
+}
+
+/// Skips the path of an entry.
+fn entry_path(trees: &[TokenTree]) -> Result<&[TokenTree], &[TokenTree]>
+{
+    segments(separator(trees)?)
+}
+
+fn is_literal(class: Class) -> bool
+{
+    match class {
+        Class::Literal | Class::Truth => true,
+        _ => false,
+    }
+}
+
+/// Skips a literal without a minus sign.
+fn plain_literal(trees: &[TokenTree]) -> Result<&[TokenTree], &[TokenTree]>
+{
+    match first_sign(trees) {
+        Some((found, rest)) => {
+            if is_literal(found) {
+                Ok(rest)
+            } else {
+                Err(trees)
+            }
+        }
+        None => Err(trees),
+    }
+}
+
+/// Skips a literal, with a minus sign or without.
+fn literal(trees: &[TokenTree]) -> Result<&[TokenTree], &[TokenTree]>
+{
+    if begins(trees, Class::Minus) {
+        past(past(trees, Class::Minus)?, Class::Literal)
+    } else {
+        plain_literal(trees)
+    }
+}
+
+/// Skips an expression.
+fn past_expression(trees: &[TokenTree]) -> Result<&[TokenTree], &[TokenTree]>
+{
+    let start = Place {
+        item: Item::Alone,
+        rule: Rule::Alone,
+        state: State::At(Spot::Expression),
+        depth: 0,
+    };
+    walk_past(trees, start)
+}
+
+/// Whether the sign can go on after an operand but can begin no value: `=`, `>` or `->`.
+fn continues(class: Class) -> bool
+{
+    match class {
+        Class::Equals | Class::Greater | Class::Arrow => true,
+        _ => false,
+    }
+}
+
+/// Skips the value of an entry.
+fn past_value(trees: &[TokenTree]) -> Result<&[TokenTree], &[TokenTree]>
+{
+    match first_sign(trees) {
+        Some((class, _)) => {
+            if continues(class) {
+                Err(trees)
+            } else {
+                past_expression(trees)
+            }
+        }
+        None => Err(trees),
+    }
+}
+
+/// The group with delimiters at the start of the trees, and the trees after it.
+fn split_list(trees: &[TokenTree]) -> Option<(&Group, &[TokenTree])>
+{
+    match split_group(trees) {
+        Some((group, rest)) => {
+            if has_no_delimiters(group.delimiter()) {
+                None
+            } else {
+                Some((group, rest))
+            }
+        }
+        None => None,
+    }
+}
+
+/// What comes after the path of an entry, and the trees after the entry.
+fn args_of(trees: &[TokenTree]) -> Result<(EntryKind<'_>, &[TokenTree]), &[TokenTree]>
+{
+    match split_list(trees) {
+        Some((group, rest)) => Ok((EntryKind::List(group), rest)),
+        None => value_of(trees),
+    }
+}
+
+/// The value of an entry, if `=` is next, and the trees after the entry.
+fn value_of(trees: &[TokenTree]) -> Result<(EntryKind<'_>, &[TokenTree]), &[TokenTree]>
+{
+    match first_sign(trees) {
+        Some((class, from_value)) => {
+            if is(Class::Equals, class) {
+                match past_value(from_value) {
+                    Ok(rest) => Ok((EntryKind::Value(part(from_value, rest)), rest)),
+                    Err(left) => Err(left),
+                }
+            } else {
+                Ok((EntryKind::Path, trees))
+            }
+        }
+        None => Ok((EntryKind::Path, trees)),
+    }
+}
+
+/// Whether a literal can begin with a sign of this class.
+fn begins_literal(class: Class) -> bool
+{
+    match class {
+        Class::Minus | Class::Literal | Class::Truth => true,
+        _ => false,
+    }
+}
+
+/// The entry at the start of the trees, and the trees after it; or the trees from the error on.
+fn entry_of(trees: &[TokenTree]) -> Result<(Entry<'_>, &[TokenTree]), &[TokenTree]>
+{
+    match first_sign(trees) {
+        Some((class, _)) => {
+            if begins_literal(class) {
+                literal_of(trees)
+            } else {
+                named_of(trees)
+            }
+        }
+        None => named_of(trees),
+    }
+}
+
+/// The literal at the start of the trees as an entry, and the trees after it; or the trees from the error on.
+fn literal_of(trees: &[TokenTree]) -> Result<(Entry<'_>, &[TokenTree]), &[TokenTree]>
+{
+    match literal(trees) {
+        Ok(rest) => {
+            let literal = part(trees, rest);
+            Ok((
+                Entry {
+                    path: &[],
+                    kind: EntryKind::Literal(literal),
+                },
+                rest,
+            ))
+        }
+        Err(left) => Err(left),
+    }
+}
+
+/// The entry with a path at the start of the trees, and the trees after it; or the trees from the error on.
+fn named_of(trees: &[TokenTree]) -> Result<(Entry<'_>, &[TokenTree]), &[TokenTree]>
+{
+    match entry_path(trees) {
+        Ok(from_args) => match args_of(from_args) {
+            Ok((kind, rest)) => {
+                let path = part(trees, from_args);
+                Ok((Entry { path, kind }, rest))
+            }
+            Err(left) => Err(left),
+        },
+        Err(left) => Err(left),
+    }
+}

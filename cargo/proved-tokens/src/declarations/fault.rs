@@ -1,0 +1,74 @@
+// Made from crates/declarations/src/fault.rt by dev/erase: change that file, not this one.
+//! Errors in trees that the grammar does not accept.
+
+use crate::pm_span::Span;
+use crate::pm_stream::TokenTree;
+use crate::shim::fmt;
+
+/// An error: where trees do not fit the grammar.
+///
+/// The grammar reads trees by signs. A sign is one tree, or a few trees that belong together, such as those of `->`,
+/// `::` and `'a`. A group is one tree, and its span is that of the whole group with its delimiters. The text of the
+/// error is "not expected here" if there is a span, and "the declaration ends too early" if there is none.
+///
+/// In `struct S { } x` the error is after 3 trees, at `x`. In `struct S` it is after 2 trees, and has no span.
+#[derive(Clone, Copy, Debug)]
+pub struct Fault {
+    /// The number of trees before the first sign that does not fit. It is the number of all trees if more are missing.
+    pub at: usize,
+    /// The span of the first tree of that sign, or `None` if more trees are missing.
+    pub span: Option<Span>,
+}
+
+impl Fault {
+    /// The error after `at` trees, where `left` are the trees that remain.
+    pub(crate) fn ahead_of(at: usize, left: &[TokenTree]) -> Fault
+    {
+        let span = match left.split_first() {
+            Some((tree, _)) => Some(tree.span()),
+            None => None,
+        };
+        Fault { at, span }
+    }
+
+    /// Returns the field [`span`](Fault::span): the span of the first tree that does not fit.
+    ///
+    /// # Contract
+    ///
+    /// - `ensures`: <code>result ≡ self.now.span</code>
+    pub fn span(&self) -> Option<Span>
+    {
+        self.span
+    }
+}
+
+impl PartialEq for Fault {
+    /// Whether both errors have the same number of trees before them, and the same span or none.
+    fn eq(&self, other: &Fault) -> bool {
+        self.at == other.at && are_same(self.span, other.span)
+    }
+}
+
+impl Eq for Fault {
+}
+
+/// Whether both are the same span, or both are `None`.
+pub(crate) fn are_same(span: Option<Span>, other: Option<Span>) -> bool
+{
+    match (span, other) {
+        (Some(span), Some(other)) => span.eq(&other),
+        (None, None) => true,
+        _ => false,
+    }
+}
+
+impl fmt::Display for Fault {
+    fn fmt<W: fmt::Write>(&self, f: &mut fmt::Formatter<W>) -> fmt::Result {
+        match self.span {
+            Some(_) => f.write_str("not expected here"),
+            None => f.write_str("the declaration ends too early"),
+        }
+    }
+}
+
+crate::shim::display!(Fault);

@@ -1,0 +1,326 @@
+// Made from crates/declarations/src/function.rt by dev/erase: change that file, not this one.
+//! The parts of a function.
+
+use crate::declarations::class::{Class, Keyword, Word};
+use crate::declarations::fault::Fault;
+use crate::declarations::item::{split_group, split_name, split_parentheses};
+use crate::declarations::parameter::{past_attributes, past_type};
+use crate::declarations::place::{Item, Place, Rule, Spot, State};
+use crate::declarations::reader::{begins_identifier, begins_mark, is, part, past};
+use crate::declarations::signs::{first_sign, name_class};
+use crate::declarations::walk::walk_past;
+use crate::pm_stream::{Group, TokenTree};
+use crate::pm_token::{Delimiter, Ident};
+
+/// A function, with its parts in reading order.
+#[derive(Clone, Copy, Debug)]
+pub struct Function<'a> {
+    /// The outer attributes, perhaps none.
+    pub attributes: &'a [TokenTree],
+    /// The visibility, perhaps nothing. It may be one group without delimiters.
+    pub visibility: &'a [TokenTree],
+    /// The qualifiers before `fn`, such as `const unsafe extern "C"`, perhaps none.
+    pub qualifiers: &'a [TokenTree],
+    /// The name.
+    pub name: &'a Ident,
+    /// The generic parameters with their angle brackets, perhaps nothing.
+    pub generics: &'a [TokenTree],
+    /// The group in parentheses. [`Parameters`](crate::declarations::Parameters) gives its parameters one at a time.
+    pub parameters: &'a Group,
+    /// The type after `->`. It has no trees if the function has no `->`.
+    pub return_type: &'a [TokenTree],
+    /// The where clause with its `where`, perhaps nothing.
+    pub where_clause: &'a [TokenTree],
+    /// The body in braces, or `None` if the function ends in `;`.
+    pub body: Option<&'a Group>,
+}
+
+/// Returns the parts of the function that the trees are.
+///
+/// The function may be one of a file, of a trait, of an `impl` or of a block of foreign items, with a body or with `;`.
+/// For `pub const unsafe fn f<T>(x: T) -> Vec<T> where T: A { x }` the visibility is `pub`, the qualifiers are
+/// `const unsafe`, the name is `f`, and the generic parameters are `<T>`. The parameters are `(x: T)`, the return type
+/// is `Vec<T>`, the where clause is `where T: A`, and the body is `{ x }`.
+///
+/// The qualifiers are `default`, `const`, `async`, `unsafe` or `safe`, and `extern` with or without a literal. Each may
+/// come once, in this order. The call does not check which of them fit together, or whether the function needs a body.
+/// It does not read the trees inside the parentheses and the braces.
+///
+/// If the trees are not exactly one function, the call returns a `Fault`. Its position is before the first tree that
+/// does not fit, which may be a tree after the function. The rule `function-item` is in crates/declarations/README.md.
+/// The call rejects `gen fn`, and a body in a group without delimiters, such as a macro by example passes for
+/// `$b:block`. It also rejects a function inside a group without delimiters: pass the trees of this group. The call
+/// allocates nothing.
+///
+/// # Contract
+///
+/// - `ensures ok`: <code>[IfOk] result (λ function. [IsFunction] trees.now function)</code>
+/// - `ensures fault`: <code>[IfErr] result (λ fault. [FaultAt] ([IsWhole] ([ByRule] [function_item])) trees.now
+///   fault.at)</code>
+/// - `ensures span`: <code>[IfErr] result (λ fault. fault.span ≡ [extent_at] trees.now fault.at)</code>
+///
+/// [IfOk]: crate::contracts#std.IfOk
+/// [IsFunction]: crate::contracts#declarations.Function.IsFunction
+/// [IfErr]: crate::contracts#std.IfErr
+/// [FaultAt]: crate::contracts#declarations.Reading.FaultAt
+/// [IsWhole]: crate::contracts#declarations.Whole.IsWhole
+/// [ByRule]: crate::contracts#declarations.rules.Pieces.ByRule
+/// [function_item]: crate::contracts#declarations.rules.Functions.function_item
+/// [extent_at]: crate::contracts#declarations.Fault.extent_at
+pub fn parse_function(trees: &[TokenTree]) -> Result<Function<'_>, Fault>
+{
+    match function_of(trees) {
+        Ok((function, rest)) => {
+            if rest.is_empty() {
+                Ok(function)
+            } else {
+                Err(Fault::ahead_of(trees.len() - rest.len(), rest))
+            }
+        }
+        Err(left) => Err(Fault::ahead_of(trees.len() - left.len(), left)),
+    }
+}
+
+/// Reads the function at the start of the trees. Returns it and the trees after it, or the trees from the error on.
+fn function_of(trees: &[TokenTree]) -> Result<(Function<'_>, &[TokenTree]), &[TokenTree]>
+{
+    let from_visibility = past_attributes(trees)?;
+    let from_qualifiers = past_visibility(from_visibility)?;
+    let from_fn = past_qualifiers(from_qualifiers);
+    let from_name = past(from_fn, Class::Keyword(Keyword::Fn))?;
+    let (name, from_generics) = name_of(from_name)?;
+    let from_parameters = past_generics(from_generics)?;
+    let (parameters, from_return) = parentheses_of(from_parameters)?;
+    let (end, rest) = end_of(from_return)?;
+    let function = Function {
+        attributes: part(trees, from_visibility),
+        visibility: part(from_visibility, from_qualifiers),
+        qualifiers: part(from_qualifiers, from_fn),
+        name,
+        generics: part(from_generics, from_parameters),
+        parameters,
+        return_type: end.return_type,
+        where_clause: end.where_clause,
+        body: end.body,
+    };
+    Ok((function, rest))
+}
+
+// ---- parts that are read by the tables
+
+/// Skips a visibility, if one is next.
+pub(crate) fn past_visibility(trees: &[TokenTree]) -> Result<&[TokenTree], &[TokenTree]>
+{
+    match first_sign(trees) {
+        Some((class, rest)) => {
+            if is(Class::Keyword(Keyword::Pub), class) {
+                return Ok(may(rest, Class::Restriction));
+            }
+            if is(Class::Visibility, class) {
+                return Ok(rest);
+            }
+            Ok(trees)
+        }
+        None => Ok(trees),
+    }
+}
+
+/// Skips generic parameters, if they are next.
+pub(crate) fn past_generics(trees: &[TokenTree]) -> Result<&[TokenTree], &[TokenTree]>
+{
+    if begins_mark(trees) {
+        walk_generics(trees)
+    } else {
+        Ok(trees)
+    }
+}
+
+fn walk_generics(trees: &[TokenTree]) -> Result<&[TokenTree], &[TokenTree]>
+{
+    let start = Place {
+        item: Item::Alone,
+        rule: Rule::Alone,
+        state: State::At(Spot::Generics),
+        depth: 0,
+    };
+    walk_past(trees, start)
+}
+
+/// Skips a where clause, if one is next.
+pub(crate) fn past_where(trees: &[TokenTree]) -> Result<&[TokenTree], &[TokenTree]>
+{
+    if begins_identifier(trees) {
+        walk_where(trees)
+    } else {
+        Ok(trees)
+    }
+}
+
+fn walk_where(trees: &[TokenTree]) -> Result<&[TokenTree], &[TokenTree]>
+{
+    let start = Place {
+        item: Item::Alone,
+        rule: Rule::Alone,
+        state: State::At(Spot::Where),
+        depth: 0,
+    };
+    walk_past(trees, start)
+}
+
+// ---- qualifiers
+
+/// Skips a sign of this class, if one is next.
+fn may(trees: &[TokenTree], class: Class) -> &[TokenTree]
+{
+    match first_sign(trees) {
+        Some((found, rest)) => { if is(class, found) { rest } else { trees } }
+        None => trees,
+    }
+}
+
+/// Whether the sign is `unsafe` or `safe`.
+fn is_safe(class: Class) -> bool
+{
+    match class {
+        Class::Keyword(Keyword::Unsafe) | Class::Word(Word::Safe) => true,
+        _ => false,
+    }
+}
+
+/// Skips `unsafe` or `safe`, if one of them is next.
+fn may_safe(trees: &[TokenTree]) -> &[TokenTree]
+{
+    match first_sign(trees) {
+        Some((found, rest)) => { if is_safe(found) { rest } else { trees } }
+        None => trees,
+    }
+}
+
+/// Skips `extern` and the literal that names its ABI, if `extern` is next.
+fn may_abi(trees: &[TokenTree]) -> &[TokenTree]
+{
+    match first_sign(trees) {
+        Some((found, rest)) => {
+            if is(Class::Keyword(Keyword::Extern), found) {
+                may(rest, Class::Literal)
+            } else {
+                trees
+            }
+        }
+        None => trees,
+    }
+}
+
+/// Skips the qualifiers before `fn`.
+fn past_qualifiers(trees: &[TokenTree]) -> &[TokenTree]
+{
+    let after_default = may(trees, Class::Word(Word::Default));
+    let after_const = may(after_default, Class::Keyword(Keyword::Const));
+    let after_async = may(after_const, Class::Keyword(Keyword::Async));
+    may_abi(may_safe(after_async))
+}
+
+// ---- the name and the parameters
+
+/// Whether the sign can name a function. A keyword cannot.
+fn is_name(class: Class) -> bool
+{
+    match class {
+        Class::Word(_) => true,
+        _ => false,
+    }
+}
+
+/// The name at the start of the trees, and the trees after it.
+fn name_of(trees: &[TokenTree]) -> Result<(&Ident, &[TokenTree]), &[TokenTree]>
+{
+    match split_name(trees) {
+        Ok((name, rest)) => {
+            if is_name(name_class(name)) {
+                Ok((name, rest))
+            } else {
+                Err(trees)
+            }
+        }
+        Err(_) => Err(trees),
+    }
+}
+
+/// The group in parentheses at the start of the trees, and the trees after it.
+fn parentheses_of(trees: &[TokenTree]) -> Result<(&Group, &[TokenTree]), &[TokenTree]>
+{
+    match split_parentheses(trees) {
+        Some((group, rest)) => Ok((group, rest)),
+        None => Err(trees),
+    }
+}
+
+// ---- after the parameters
+
+/// The parts of a function after its parameters.
+#[derive(Clone, Copy)]
+struct End<'a> {
+    return_type: &'a [TokenTree],
+    where_clause: &'a [TokenTree],
+    body: Option<&'a Group>,
+}
+
+/// Reads the parts after the parameters. Returns them and the trees after them.
+fn end_of(trees: &[TokenTree]) -> Result<(End<'_>, &[TokenTree]), &[TokenTree]>
+{
+    let (return_type, from_clause) = return_of(trees)?;
+    let from_body = past_where(from_clause)?;
+    let (body, rest) = body_of(from_body)?;
+    let where_clause = part(from_clause, from_body);
+    let end = End {
+        return_type,
+        where_clause,
+        body,
+    };
+    Ok((end, rest))
+}
+
+/// Reads `->` and a type, if `->` is next. Returns the type, or no trees, and the trees after it.
+fn return_of(trees: &[TokenTree]) -> Result<(&[TokenTree], &[TokenTree]), &[TokenTree]>
+{
+    match first_sign(trees) {
+        Some((class, from_type)) => {
+            if is(Class::Arrow, class) {
+                match past_type(from_type) {
+                    Ok(rest) => Ok((part(from_type, rest), rest)),
+                    Err(left) => Err(left),
+                }
+            } else {
+                Ok((&[], trees))
+            }
+        }
+        None => Ok((&[], trees)),
+    }
+}
+
+/// Reads a body or `;`. Returns the body, or `None` for `;`, and the trees after it.
+fn body_of(trees: &[TokenTree]) -> Result<(Option<&Group>, &[TokenTree]), &[TokenTree]>
+{
+    if let Some((body, rest)) = split_braces(trees) {
+        return Ok((Some(body), rest));
+    }
+    match first_sign(trees) {
+        Some((class, rest)) => {
+            if is(Class::Semicolon, class) {
+                Ok((None, rest))
+            } else {
+                Err(trees)
+            }
+        }
+        None => Err(trees),
+    }
+}
+
+/// The group in braces at the start of the trees, and the trees after it.
+fn split_braces(trees: &[TokenTree]) -> Option<(&Group, &[TokenTree])>
+{
+    match split_group(trees) {
+        Some((group, rest)) if group.delimiter() == Delimiter::Brace => Some((group, rest)),
+        _ => None,
+    }
+}

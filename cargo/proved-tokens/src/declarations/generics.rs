@@ -1,0 +1,182 @@
+// Made from crates/declarations/src/generics.rt by dev/erase: change that file, not this one.
+//! Generic parameters and the predicates of where clauses, one at a time.
+
+use crate::declarations::fault::Fault;
+use crate::declarations::param_parts::{param_of, predicate_of};
+use crate::pm_stream::TokenTree;
+
+/// The kind of a generic parameter.
+#[derive(Clone, Copy, Debug, PartialEq, Eq)]
+pub enum ParamKind {
+    /// A lifetime, such as `'a`.
+    Lifetime,
+    /// A type, such as `T`.
+    Type,
+    /// A constant, such as `const N: usize`.
+    Const,
+}
+
+/// A generic parameter, split into its parts in reading order.
+#[derive(Clone, Copy, Debug)]
+pub struct Param<'a> {
+    /// The outer attributes, perhaps none.
+    pub attributes: &'a [TokenTree],
+    /// Whether the parameter is a lifetime, a type or a constant.
+    pub kind: ParamKind,
+    /// The name: one tree, or the two trees of a lifetime.
+    pub name: &'a [TokenTree],
+    /// The bounds after `:`, perhaps none. For a constant, its type.
+    pub bounds: &'a [TokenTree],
+    /// The default after `=`, or no trees.
+    pub default: &'a [TokenTree],
+}
+
+/// A predicate of a where clause, split into its parts in reading order.
+#[derive(Clone, Copy, Debug)]
+pub struct Predicate<'a> {
+    /// The type or the lifetime that is bounded, with its `for<..>`.
+    pub bounded: &'a [TokenTree],
+    /// The bounds after `:`, perhaps none.
+    pub bounds: &'a [TokenTree],
+}
+
+/// Returns the trees between the angle brackets of an item's generic parameters.
+///
+/// For `<'a, T>` it returns `'a, T`, and for no trees it returns none. All other trees give a `Fault`: at the first
+/// tree if it is not `<`, and otherwise at the end.
+///
+/// # Contract
+///
+/// - `ensures ok`: <code>[IfOk] result (λ inside. [IsWithin] generics.now inside.now)</code>
+/// - `ensures fault`: <code>[IfErr] result (λ fault. (inside : [List] Tree) → [IsWithin] generics.now inside →
+///   ⊥)</code>
+/// - `ensures span`: <code>[IfErr] result (λ fault. fault.span ≡ [extent_at] generics.now fault.at)</code>
+///
+/// [IfOk]: crate::contracts#std.IfOk
+/// [IsWithin]: crate::contracts#declarations.Param.IsWithin
+/// [IfErr]: crate::contracts#std.IfErr
+/// [List]: crate::contracts#std.List
+/// [extent_at]: crate::contracts#declarations.Fault.extent_at
+pub fn within_generics(generics: &[TokenTree]) -> Result<&[TokenTree], Fault>
+{
+    let Some((open, rest)) = generics.split_first() else {
+        return Ok(generics);
+    };
+    if !is_mark_of('<', open) {
+        return Err(Fault::ahead_of(0, generics));
+    }
+    match rest.split_last() {
+        Some((close, inside)) if is_mark_of('>', close) => Ok(inside),
+        _ => Err(Fault::ahead_of(generics.len(), generics.split_at(generics.len()).1)),
+    }
+}
+
+/// Returns the trees after the `where` of an item's where clause.
+///
+/// For `where T: A,` it returns `T: A,`, and for no trees it returns none. All other trees give a `Fault` at the first
+/// one.
+///
+/// # Contract
+///
+/// - `ensures ok`: <code>[IfOk] result (λ inside. [IsAfterWhere] where_clause.now inside.now)</code>
+/// - `ensures fault`: <code>[IfErr] result (λ fault. (inside : [List] Tree) → [IsAfterWhere] where_clause.now
+///   inside → ⊥)</code>
+/// - `ensures span`: <code>[IfErr] result (λ fault. fault.span ≡ [extent_at] where_clause.now fault.at)</code>
+///
+/// [IfOk]: crate::contracts#std.IfOk
+/// [IsAfterWhere]: crate::contracts#declarations.Param.IsAfterWhere
+/// [IfErr]: crate::contracts#std.IfErr
+/// [List]: crate::contracts#std.List
+/// [extent_at]: crate::contracts#declarations.Fault.extent_at
+pub fn after_where(where_clause: &[TokenTree]) -> Result<&[TokenTree], Fault>
+{
+    match where_clause.split_first() {
+        None => Ok(where_clause),
+        Some((TokenTree::Ident(word), rest)) if word.eq_str("where") => Ok(rest),
+        Some(_) => Err(Fault::ahead_of(0, where_clause)),
+    }
+}
+
+/// Returns the parts of the generic parameter at the start of the trees, and the trees after its `,`.
+///
+/// Pass the trees that [`within_generics`] returned, or the rest that an earlier call returned. The last parameter
+/// needs no `,`. For `#[a] T: A<B, C> + 'b = D, const N: usize` the name is `T`, the bounds are `A<B, C> + 'b`, the
+/// default is `D`, and the rest is `const N: usize`.
+///
+/// If the trees begin with no parameter, or neither `,` nor the end comes after it, the call returns a `Fault`: where
+/// one of the parts has its error, or at the first sign that belongs to no part. It is proved that no parameter is
+/// there then, by the definition in `specs/Param.antt`. Two things are only tested: where the error is, and that
+/// [`split_generics`](crate::declarations::split_generics) reads the same lists.
+///
+/// # Contract
+///
+/// - `ensures ok`: <code>[IfOk] result (λ found. [IsParamAt] trees.now ([param_trees] found.0)
+///   found.1.now)</code>
+/// - `ensures only`: <code>[IfOk] result (λ found. [IsOnlyParam] trees.now ([param_trees] found.0)
+///   found.1.now)</code>
+/// - `ensures fewer`: <code>[IfOk] result (λ found. [length] found.1.now &lt; [length] trees.now)</code>
+/// - `ensures fault`: <code>[IfErr] result (λ fault. (param : [ParamTrees]) → (rest : [List] Tree) →
+///   [IsParamAt] trees.now param rest → ⊥)</code>
+/// - `ensures within`: <code>[IfErr] result (λ fault. fault.at ≤ [length] trees.now)</code>
+/// - `ensures span`: <code>[IfErr] result (λ fault. fault.span ≡ [extent_at] trees.now fault.at)</code>
+///
+/// [IfOk]: crate::contracts#std.IfOk
+/// [IsParamAt]: crate::contracts#declarations.Param.IsParamAt
+/// [param_trees]: crate::contracts#declarations.Param.param_trees
+/// [IsOnlyParam]: crate::contracts#declarations.Param.IsOnlyParam
+/// [length]: crate::contracts#std.length
+/// [IfErr]: crate::contracts#std.IfErr
+/// [ParamTrees]: crate::contracts#declarations.Param.ParamTrees
+/// [List]: crate::contracts#std.List
+/// [extent_at]: crate::contracts#declarations.Fault.extent_at
+pub fn parse_param(trees: &[TokenTree]) -> Result<(Param<'_>, &[TokenTree]), Fault>
+{
+    match param_of(trees) {
+        Ok(found) => Ok(found),
+        Err(left) => Err(Fault::ahead_of(trees.len() - left.len(), left)),
+    }
+}
+
+/// Returns the parts of the predicate at the start of the trees, and the trees after its `,`.
+///
+/// Pass the trees that [`after_where`] returned, or the rest that an earlier call returned. If the trees begin with no
+/// predicate, or neither `,` nor the end comes after it, the call returns a `Fault`, as [`parse_param`] does. For
+/// `for<'b> T: A<'b, C>, 'a: 'b` the bounded type is `for<'b> T`, the bounds are `A<'b, C>`, and the rest is `'a: 'b`.
+///
+/// # Contract
+///
+/// - `ensures ok`: <code>[IfOk] result (λ found. [IsPredicateAt] trees.now ([predicate_trees] found.0)
+///   found.1.now)</code>
+/// - `ensures only`: <code>[IfOk] result (λ found. [IsOnlyPredicate] trees.now ([predicate_trees] found.0)
+///   found.1.now)</code>
+/// - `ensures fewer`: <code>[IfOk] result (λ found. [length] found.1.now &lt; [length] trees.now)</code>
+/// - `ensures fault`: <code>[IfErr] result (λ fault. (predicate : [PredicateTrees]) → (rest : [List] Tree) →
+///   [IsPredicateAt] trees.now predicate rest → ⊥)</code>
+/// - `ensures within`: <code>[IfErr] result (λ fault. fault.at ≤ [length] trees.now)</code>
+/// - `ensures span`: <code>[IfErr] result (λ fault. fault.span ≡ [extent_at] trees.now fault.at)</code>
+///
+/// [IfOk]: crate::contracts#std.IfOk
+/// [IsPredicateAt]: crate::contracts#declarations.Param.IsPredicateAt
+/// [predicate_trees]: crate::contracts#declarations.Param.predicate_trees
+/// [IsOnlyPredicate]: crate::contracts#declarations.Param.IsOnlyPredicate
+/// [length]: crate::contracts#std.length
+/// [IfErr]: crate::contracts#std.IfErr
+/// [PredicateTrees]: crate::contracts#declarations.Param.PredicateTrees
+/// [List]: crate::contracts#std.List
+/// [extent_at]: crate::contracts#declarations.Fault.extent_at
+pub fn parse_predicate(trees: &[TokenTree]) -> Result<(Predicate<'_>, &[TokenTree]), Fault>
+{
+    match predicate_of(trees) {
+        Ok(found) => Ok(found),
+        Err(left) => Err(Fault::ahead_of(trees.len() - left.len(), left)),
+    }
+}
+
+/// Whether the tree is this punctuation mark.
+fn is_mark_of(mark: char, tree: &TokenTree) -> bool
+{
+    match tree {
+        TokenTree::Punct(punct) => punct.as_char() == mark,
+        TokenTree::Group(_) | TokenTree::Ident(_) | TokenTree::Literal(_) => false,
+    }
+}

@@ -1,0 +1,294 @@
+// Made from crates/declarations/src/param_parts.rt by dev/erase: change that file, not this one.
+//! The parts of generic parameters and of predicates.
+//!
+//! A function here returns the part at the start of the trees, and the trees after it. At an error it returns the trees
+//! from the error on.
+
+use crate::declarations::class::{Class, Keyword};
+use crate::declarations::generics::{Param, ParamKind, Predicate};
+use crate::declarations::parts::{split_attributes, split_bounds, split_type};
+use crate::declarations::signs::first_sign;
+use crate::pm_stream::TokenTree;
+
+pub(crate) fn param_of<'a>(
+    trees: &'a [TokenTree],
+) -> Result<(Param<'a>, &'a [TokenTree]), &'a [TokenTree]>
+{
+    let (attributes, from_name) = attributes_of(trees)?;
+    let (kind, name, from_bounds) = name_of(from_name)?;
+    let (bounds, from_default) = bounds_of(kind, from_bounds)?;
+    let (default, from_end) = default_of(kind, from_default)?;
+    match past_end(from_end) {
+        Some(rest) => Ok((
+            Param {
+                attributes,
+                kind,
+                name,
+                bounds,
+                default,
+            },
+            rest,
+        )),
+        None => Err(from_end),
+    }
+}
+
+pub(crate) fn predicate_of<'a>(
+    trees: &'a [TokenTree],
+) -> Result<(Predicate<'a>, &'a [TokenTree]), &'a [TokenTree]>
+{
+    let (bounded, from_colon) = type_of(trees)?;
+    let (bounds, from_end) = must_bounds(from_colon)?;
+    match past_end(from_end) {
+        Some(rest) => Ok((Predicate { bounded, bounds }, rest)),
+        None => Err(from_end),
+    }
+}
+
+// ---- parts that the tables read
+
+/// The trees after the first `at` ones.
+fn left_at(trees: &[TokenTree], at: usize) -> &[TokenTree]
+{
+    trees.split_at(at).1
+}
+
+/// The trees before `rest`, with which they end.
+fn before<'a>(trees: &'a [TokenTree], rest: &[TokenTree]) -> &'a [TokenTree]
+{
+    trees.split_at(trees.len() - rest.len()).0
+}
+
+fn attributes_of<'a>(
+    trees: &'a [TokenTree],
+) -> Result<(&'a [TokenTree], &'a [TokenTree]), &'a [TokenTree]>
+{
+    match split_attributes(trees) {
+        Ok(found) => Ok(found),
+        Err(fault) => Err(left_at(trees, fault.at)),
+    }
+}
+
+fn plain_bounds<'a>(
+    trees: &'a [TokenTree],
+) -> Result<(&'a [TokenTree], &'a [TokenTree]), &'a [TokenTree]>
+{
+    match split_bounds(trees) {
+        Ok(found) => Ok(found),
+        Err(fault) => Err(left_at(trees, fault.at)),
+    }
+}
+
+fn type_of<'a>(
+    trees: &'a [TokenTree],
+) -> Result<(&'a [TokenTree], &'a [TokenTree]), &'a [TokenTree]>
+{
+    match split_type(trees) {
+        Ok(found) => Ok(found),
+        Err(fault) => Err(left_at(trees, fault.at)),
+    }
+}
+
+// ---- single signs
+
+/// The trees after the `:` that they begin with.
+fn past_colon(trees: &[TokenTree]) -> Option<&[TokenTree]>
+{
+    let (class, rest) = first_sign(trees)?;
+    match class {
+        Class::Colon => Some(rest),
+        _ => None,
+    }
+}
+
+/// The trees after the `=` that they begin with.
+fn past_equals(trees: &[TokenTree]) -> Option<&[TokenTree]>
+{
+    let (class, rest) = first_sign(trees)?;
+    match class {
+        Class::Equals => Some(rest),
+        _ => None,
+    }
+}
+
+/// The trees after the `,` that they begin with.
+fn past_comma(trees: &[TokenTree]) -> Option<&[TokenTree]>
+{
+    let (class, rest) = first_sign(trees)?;
+    match class {
+        Class::Comma => Some(rest),
+        _ => None,
+    }
+}
+
+/// The trees after the literal that they begin with.
+fn past_literal(trees: &[TokenTree]) -> Option<&[TokenTree]>
+{
+    let (class, rest) = first_sign(trees)?;
+    match class {
+        Class::Literal => Some(rest),
+        _ => None,
+    }
+}
+
+/// The trees after the end of a list's element, which is a `,` or the end of the trees.
+fn past_end(trees: &[TokenTree]) -> Option<&[TokenTree]>
+{
+    if trees.is_empty() {
+        return Some(trees);
+    }
+    match past_comma(trees) {
+        Some(rest) => Some(rest),
+        None => None,
+    }
+}
+
+// ---- the parts of a parameter
+
+/// A word, and the trees after it.
+fn word_of<'a>(
+    trees: &'a [TokenTree],
+) -> Result<(&'a [TokenTree], &'a [TokenTree]), &'a [TokenTree]>
+{
+    let Some((class, rest)) = first_sign(trees) else {
+        return Err(trees);
+    };
+    match class {
+        Class::Word(_) => Ok((before(trees, rest), rest)),
+        _ => Err(trees),
+    }
+}
+
+/// The kind and the name of a parameter, and the trees after them.
+fn name_of<'a>(
+    trees: &'a [TokenTree],
+) -> Result<(ParamKind, &'a [TokenTree], &'a [TokenTree]), &'a [TokenTree]>
+{
+    let Some((class, rest)) = first_sign(trees) else {
+        return Err(trees);
+    };
+    match class {
+        Class::Lifetime => Ok((ParamKind::Lifetime, before(trees, rest), rest)),
+        Class::Word(_) => Ok((ParamKind::Type, before(trees, rest), rest)),
+        Class::Keyword(Keyword::Const) => {
+            let (name, after) = word_of(rest)?;
+            Ok((ParamKind::Const, name, after))
+        }
+        _ => Err(trees),
+    }
+}
+
+/// The bounds after `:`, or no trees if there is no `:`.
+fn may_bounds<'a>(
+    trees: &'a [TokenTree],
+) -> Result<(&'a [TokenTree], &'a [TokenTree]), &'a [TokenTree]>
+{
+    match past_colon(trees) {
+        Some(left) => plain_bounds(left),
+        None => Ok((none_of(trees), trees)),
+    }
+}
+
+/// The bounds after a `:` that must be there.
+fn must_bounds<'a>(
+    trees: &'a [TokenTree],
+) -> Result<(&'a [TokenTree], &'a [TokenTree]), &'a [TokenTree]>
+{
+    match past_colon(trees) {
+        Some(left) => plain_bounds(left),
+        None => Err(trees),
+    }
+}
+
+/// The type after a `:` that must be there.
+fn must_type<'a>(
+    trees: &'a [TokenTree],
+) -> Result<(&'a [TokenTree], &'a [TokenTree]), &'a [TokenTree]>
+{
+    match past_colon(trees) {
+        Some(left) => type_of(left),
+        None => Err(trees),
+    }
+}
+
+/// The bounds of a lifetime or a type, or the type of a constant.
+fn bounds_of<'a>(
+    kind: ParamKind,
+    trees: &'a [TokenTree],
+) -> Result<(&'a [TokenTree], &'a [TokenTree]), &'a [TokenTree]>
+{
+    match kind {
+        ParamKind::Lifetime => may_bounds(trees),
+        ParamKind::Type => may_bounds(trees),
+        ParamKind::Const => must_type(trees),
+    }
+}
+
+/// No trees, as a slice of the given ones.
+fn none_of(trees: &[TokenTree]) -> &[TokenTree]
+{
+    trees.split_at(0).0
+}
+
+fn is_constant(class: Class) -> bool
+{
+    match class {
+        Class::Literal | Class::Braces | Class::Truth => true,
+        _ => false,
+    }
+}
+
+/// The default of a constant: a literal, braces, `true`, `false` or a type.
+fn constant_of<'a>(
+    trees: &'a [TokenTree],
+) -> Result<(&'a [TokenTree], &'a [TokenTree]), &'a [TokenTree]>
+{
+    let Some((class, rest)) = first_sign(trees) else {
+        return type_of(trees);
+    };
+    if is_constant(class) {
+        return Ok((before(trees, rest), rest));
+    }
+    match class {
+        Class::Minus => match past_literal(rest) {
+            Some(after) => Ok((before(trees, after), after)),
+            None => Err(rest),
+        },
+        _ => type_of(trees),
+    }
+}
+
+/// The type after `=`, or no trees if there is no `=`.
+fn may_type<'a>(
+    trees: &'a [TokenTree],
+) -> Result<(&'a [TokenTree], &'a [TokenTree]), &'a [TokenTree]>
+{
+    match past_equals(trees) {
+        Some(left) => type_of(left),
+        None => Ok((none_of(trees), trees)),
+    }
+}
+
+/// The constant after `=`, or no trees if there is no `=`.
+fn may_constant<'a>(
+    trees: &'a [TokenTree],
+) -> Result<(&'a [TokenTree], &'a [TokenTree]), &'a [TokenTree]>
+{
+    match past_equals(trees) {
+        Some(left) => constant_of(left),
+        None => Ok((none_of(trees), trees)),
+    }
+}
+
+/// The default of a parameter. A lifetime has none.
+fn default_of<'a>(
+    kind: ParamKind,
+    trees: &'a [TokenTree],
+) -> Result<(&'a [TokenTree], &'a [TokenTree]), &'a [TokenTree]>
+{
+    match kind {
+        ParamKind::Lifetime => Ok((none_of(trees), trees)),
+        ParamKind::Type => may_type(trees),
+        ParamKind::Const => may_constant(trees),
+    }
+}

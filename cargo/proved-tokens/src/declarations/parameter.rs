@@ -1,0 +1,567 @@
+// Made from crates/declarations/src/parameter.rt by dev/erase: change that file, not this one.
+//! The parameters of functions, one at a time.
+
+use crate::declarations::class::{Class, Keyword};
+use crate::declarations::fault::Fault;
+use crate::declarations::list::{fault_after, past_comma};
+use crate::declarations::range::past_range;
+use crate::declarations::reader::{begins, begins_mark, is, part, past};
+use crate::declarations::signs::first_sign;
+use crate::declarations::types::TypeState;
+use crate::pm_stream::{Group, TokenTree};
+
+/// The form of a function's parameter.
+#[derive(Clone, Copy, Debug)]
+pub enum ParameterKind<'a> {
+    /// A receiver without a type, such as `self`, `mut self`, `&self` or `&'a mut self`.
+    Receiver,
+    /// A receiver with this type, such as `self: Box<Self>`.
+    TypedReceiver(&'a [TokenTree]),
+    /// A pattern with this type, such as `(a, b): (u8, u8)`.
+    Typed(&'a [TokenTree]),
+    /// `...` alone, or a pattern with `...` for its type, such as `rest: ...`.
+    Variadic,
+}
+
+/// A parameter of a function, such as `&self`, `x: u8` or `#[a] (x, y): (u8, u8)`.
+#[derive(Clone, Copy, Debug)]
+pub struct Parameter<'a> {
+    /// The outer attributes, perhaps none.
+    pub attributes: &'a [TokenTree],
+    /// The pattern or the receiver, without `:` and type. It has no trees if the parameter is `...` alone.
+    pub pattern: &'a [TokenTree],
+    /// The form of the parameter, with its type.
+    pub kind: ParameterKind<'a>,
+}
+
+/// What a parameter begins with, up to its `:` or its end.
+#[derive(Clone, Copy)]
+pub enum Shape {
+    /// A pattern.
+    Pattern,
+    /// `self` or `mut self`. A type may follow.
+    Receiver,
+    /// A receiver that begins with `&`. No type may follow.
+    Reference,
+}
+
+/// Whether a pattern can begin with the sign, apart from angle brackets.
+fn is_pattern(class: Class) -> bool
+{
+    match class {
+        Class::Word(_) | Class::Keyword(Keyword::Mut | Keyword::Other) => true,
+        Class::SelfType | Class::Super | Class::Crate | Class::Underscore => true,
+        Class::Truth | Class::Literal | Class::PathSeparator => true,
+        Class::Restriction | Class::Parentheses | Class::Brackets | Class::Invisible => true,
+        Class::And | Class::Minus => true,
+        _ => false,
+    }
+}
+
+/// Whether the sign can be in a pattern after its first sign.
+fn continues(class: Class) -> bool
+{
+    match class {
+        Class::Braces | Class::Exclamation | Class::Dot | Class::Equals | Class::Infix => true,
+        _ => is_pattern(class),
+    }
+}
+
+fn opens(class: Class) -> bool
+{
+    match class {
+        Class::Less | Class::LessJoint => true,
+        _ => false,
+    }
+}
+
+/// Whether a pattern can begin with the sign.
+fn may_begin(class: Class) -> bool
+{
+    is_pattern(class) || opens(class)
+}
+
+/// Skips a type.
+pub(crate) fn past_type(trees: &[TokenTree]) -> Result<&[TokenTree], &[TokenTree]>
+{
+    past_range(trees, TypeState::Wanted)
+}
+
+/// Skips attributes.
+pub(crate) fn past_attributes(trees: &[TokenTree]) -> Result<&[TokenTree], &[TokenTree]>
+{
+    let mut left = trees;
+    while begins_attribute(left) {
+        match past_attribute(left) {
+            Ok(next) => left = next,
+            Err(fault) => return Err(fault),
+        }
+    }
+    Ok(left)
+}
+
+/// Whether an attribute is next. The class of a tree that is no mark is not computed.
+fn begins_attribute(trees: &[TokenTree]) -> bool
+{
+    if begins_mark(trees) {
+        begins(trees, Class::Hash)
+    } else {
+        false
+    }
+}
+
+/// Skips an attribute.
+fn past_attribute(trees: &[TokenTree]) -> Result<&[TokenTree], &[TokenTree]>
+{
+    past(past(trees, Class::Hash)?, Class::Brackets)
+}
+
+/// Skips one more sign of a pattern, if one is next.
+fn pattern_sign(trees: &[TokenTree]) -> Option<&[TokenTree]>
+{
+    match first_sign(trees) {
+        Some((class, rest)) => { if continues(class) { Some(rest) } else { None } }
+        None => None,
+    }
+}
+
+/// Skips more signs of a pattern.
+fn pattern_signs(trees: &[TokenTree]) -> &[TokenTree]
+{
+    let mut left = trees;
+    while let Some(next) = pattern_sign(left) {
+        left = next;
+    }
+    left
+}
+
+/// Skips braces, if they are next.
+fn braces(trees: &[TokenTree]) -> Result<&[TokenTree], &[TokenTree]>
+{
+    if begins(trees, Class::Braces) {
+        past(trees, Class::Braces)
+    } else {
+        Ok(trees)
+    }
+}
+
+/// Whether angle brackets are next.
+fn begins_angle(trees: &[TokenTree]) -> bool
+{
+    match first_sign(trees) {
+        Some((class, _)) => opens(class),
+        None => false,
+    }
+}
+
+/// Skips the end of a path from its angle brackets on, and fields in braces.
+fn pattern_angle(trees: &[TokenTree]) -> Result<&[TokenTree], &[TokenTree]>
+{
+    match past_type(trees) {
+        Ok(rest) => braces(rest),
+        Err(left) => Err(left),
+    }
+}
+
+/// Skips the end of a path from its angle brackets on, if they are next.
+fn perhaps_angle(trees: &[TokenTree]) -> Result<&[TokenTree], &[TokenTree]>
+{
+    if begins_angle(trees) {
+        pattern_angle(trees)
+    } else {
+        Ok(trees)
+    }
+}
+
+/// Skips the rest of a pattern.
+fn pattern_rest(trees: &[TokenTree]) -> Result<&[TokenTree], &[TokenTree]>
+{
+    perhaps_angle(pattern_signs(trees))
+}
+
+/// Whether a pattern can begin with the first sign.
+fn begins_pattern(trees: &[TokenTree]) -> bool
+{
+    match first_sign(trees) {
+        Some((class, _)) => may_begin(class),
+        None => false,
+    }
+}
+
+/// Skips a pattern.
+fn past_pattern(trees: &[TokenTree]) -> Result<&[TokenTree], &[TokenTree]>
+{
+    if begins_pattern(trees) {
+        pattern_rest(trees)
+    } else {
+        Err(trees)
+    }
+}
+
+/// Skips `self` or `mut self`.
+fn may_mutate(trees: &[TokenTree]) -> Result<&[TokenTree], &[TokenTree]>
+{
+    if begins(trees, Class::Keyword(Keyword::Mut)) {
+        past(past(trees, Class::Keyword(Keyword::Mut))?, Class::SelfValue)
+    } else {
+        past(trees, Class::SelfValue)
+    }
+}
+
+/// Skips `..`.
+fn two_dots(trees: &[TokenTree]) -> Result<&[TokenTree], &[TokenTree]>
+{
+    past(past(trees, Class::Dot)?, Class::Dot)
+}
+
+/// Skips `...`.
+fn dots(trees: &[TokenTree]) -> Result<&[TokenTree], &[TokenTree]>
+{
+    two_dots(past(trees, Class::Dot)?)
+}
+
+/// What a parameter begins with after its `mut`, and the trees from the `:` or the end on.
+fn after_mut(trees: &[TokenTree]) -> Result<(Shape, &[TokenTree]), &[TokenTree]>
+{
+    match first_sign(trees) {
+        Some((class, rest)) => {
+            if is(Class::SelfValue, class) {
+                Ok((Shape::Receiver, rest))
+            } else {
+                pattern_shape(trees)
+            }
+        }
+        None => Err(trees),
+    }
+}
+
+/// Reads a pattern, up to its `:`.
+fn pattern_shape(trees: &[TokenTree]) -> Result<(Shape, &[TokenTree]), &[TokenTree]>
+{
+    match past_pattern(trees) {
+        Ok(rest) => Ok((Shape::Pattern, rest)),
+        Err(left) => Err(left),
+    }
+}
+
+/// What a parameter begins with after its `& mut`, and the trees from the `:` or the end on.
+fn after_and_mut(trees: &[TokenTree]) -> Result<(Shape, &[TokenTree]), &[TokenTree]>
+{
+    match first_sign(trees) {
+        Some((class, rest)) => {
+            if is(Class::SelfValue, class) {
+                Ok((Shape::Reference, rest))
+            } else {
+                pattern_shape(trees)
+            }
+        }
+        None => Err(trees),
+    }
+}
+
+/// What a parameter begins with after its `&`, and the trees from the `:` or the end on.
+fn after_and(trees: &[TokenTree]) -> Result<(Shape, &[TokenTree]), &[TokenTree]>
+{
+    match first_sign(trees) {
+        Some((class, rest)) => {
+            if is(Class::Lifetime, class) {
+                return match may_mutate(rest) {
+                    Ok(after) => Ok((Shape::Reference, after)),
+                    Err(left) => Err(left),
+                };
+            }
+            if is(Class::Keyword(Keyword::Mut), class) {
+                return after_and_mut(rest);
+            }
+            if is(Class::SelfValue, class) {
+                return Ok((Shape::Reference, rest));
+            }
+            pattern_shape(trees)
+        }
+        None => Err(trees),
+    }
+}
+
+/// Reads a receiver or a pattern, up to the `:` or the end.
+fn named_front(trees: &[TokenTree]) -> Result<(Shape, &[TokenTree]), &[TokenTree]>
+{
+    match first_sign(trees) {
+        Some((class, rest)) => {
+            if is(Class::SelfValue, class) {
+                return Ok((Shape::Receiver, rest));
+            }
+            if is(Class::Keyword(Keyword::Mut), class) {
+                return after_mut(rest);
+            }
+            if is(Class::And, class) {
+                return after_and(rest);
+            }
+            pattern_shape(trees)
+        }
+        None => Err(trees),
+    }
+}
+
+/// The form of a receiver, with the type that may follow it, and the trees after it.
+fn self_type(trees: &[TokenTree]) -> Result<(ParameterKind<'_>, &[TokenTree]), &[TokenTree]>
+{
+    match first_sign(trees) {
+        Some((class, from_type)) => {
+            if is(Class::Colon, class) {
+                match past_type(from_type) {
+                    Ok(rest) => Ok((ParameterKind::TypedReceiver(part(from_type, rest)), rest)),
+                    Err(left) => Err(left),
+                }
+            } else {
+                Ok((ParameterKind::Receiver, trees))
+            }
+        }
+        None => Ok((ParameterKind::Receiver, trees)),
+    }
+}
+
+/// The form of a parameter with a pattern, from after its `:` on, and the trees after it.
+fn typed_end(trees: &[TokenTree]) -> Result<(ParameterKind<'_>, &[TokenTree]), &[TokenTree]>
+{
+    if begins(trees, Class::Dot) {
+        match dots(trees) {
+            Ok(rest) => Ok((ParameterKind::Variadic, rest)),
+            Err(left) => Err(left),
+        }
+    } else {
+        match past_type(trees) {
+            Ok(rest) => Ok((ParameterKind::Typed(part(trees, rest)), rest)),
+            Err(left) => Err(left),
+        }
+    }
+}
+
+/// The form of a parameter with a pattern, from its `:` on, and the trees after it.
+fn typed(trees: &[TokenTree]) -> Result<(ParameterKind<'_>, &[TokenTree]), &[TokenTree]>
+{
+    match first_sign(trees) {
+        Some((class, from_end)) => {
+            if is(Class::Colon, class) {
+                typed_end(from_end)
+            } else {
+                Err(trees)
+            }
+        }
+        None => Err(trees),
+    }
+}
+
+/// The form of a parameter that begins with `shape`, and the trees after it.
+fn end_of(
+    shape: Shape,
+    trees: &[TokenTree],
+) -> Result<(ParameterKind<'_>, &[TokenTree]), &[TokenTree]>
+{
+    match shape {
+        Shape::Pattern => typed(trees),
+        Shape::Receiver => self_type(trees),
+        Shape::Reference => Ok((ParameterKind::Receiver, trees)),
+    }
+}
+
+/// A parameter without its attributes.
+#[derive(Clone, Copy)]
+pub struct Named<'a> {
+    /// The pattern or the receiver.
+    pub pattern: &'a [TokenTree],
+    /// The form of the parameter.
+    pub kind: ParameterKind<'a>,
+}
+
+/// A receiver, or a pattern with its type, and the trees after it.
+fn named_of(trees: &[TokenTree]) -> Result<(Named<'_>, &[TokenTree]), &[TokenTree]>
+{
+    match named_front(trees) {
+        Ok((shape, from_end)) => match end_of(shape, from_end) {
+            Ok((kind, rest)) => {
+                let pattern = part(trees, from_end);
+                Ok((Named { pattern, kind }, rest))
+            }
+            Err(left) => Err(left),
+        },
+        Err(left) => Err(left),
+    }
+}
+
+/// A receiver, a pattern with its type, or `...`, and the trees after it.
+fn rest_of(trees: &[TokenTree]) -> Result<(Named<'_>, &[TokenTree]), &[TokenTree]>
+{
+    if begins(trees, Class::Dot) {
+        match dots(trees) {
+            Ok(rest) => Ok((
+                Named {
+                    pattern: &[],
+                    kind: ParameterKind::Variadic,
+                },
+                rest,
+            )),
+            Err(left) => Err(left),
+        }
+    } else {
+        named_of(trees)
+    }
+}
+
+/// The parameter at the start of the trees, and the trees after it; or the trees from the error on.
+fn parameter_of(trees: &[TokenTree]) -> Result<(Parameter<'_>, &[TokenTree]), &[TokenTree]>
+{
+    match past_attributes(trees) {
+        Ok(after) => match rest_of(after) {
+            Ok((named, rest)) => {
+                let attributes = part(trees, after);
+                Ok((
+                    Parameter {
+                        attributes,
+                        pattern: named.pattern,
+                        kind: named.kind,
+                    },
+                    rest,
+                ))
+            }
+            Err(left) => Err(left),
+        },
+        Err(left) => Err(left),
+    }
+}
+
+/// Returns the parameter of a function at the start of the trees, and the trees after it.
+///
+/// Pass the trees in the parentheses of a function, or the rest that an earlier call returned. A parameter has
+/// attributes, and then a receiver, a pattern with its type, or `...`. A receiver is `self`, `mut self`, `&self` or
+/// `&mut self`. A lifetime may follow its `&`, and without `&` it may have a type. Patterns and types are not parsed;
+/// only their ends are found. The call does not check that a receiver comes first and `...` last. It allocates nothing.
+///
+/// If the trees begin with no parameter, the call returns a `Fault`. The rules are in crates/declarations/README.md.
+/// For `(a, b): Fn(A, B) -> C, d: D` the pattern is `(a, b)`, the type is `Fn(A, B) -> C`, and the rest is `, d: D`.
+///
+/// # Contract
+///
+/// - `ensures ok`: <code>[IfOk] result (λ found. [IsParameterAt] trees.now found.0 found.1.now)</code>
+/// - `ensures only`: <code>[IfOk] result (λ found. [IsOnlyRest] [function_parameter] trees.now
+///   found.1.now)</code>
+/// - `ensures fewer`: <code>[IfOk] result (λ found. [length] found.1.now &lt; [length] trees.now)</code>
+/// - `ensures fault`: <code>[IfErr] result (λ fault. [FaultAt] ([ByRule] [function_parameter]) trees.now
+///   fault.at)</code>
+/// - `ensures span`: <code>[IfErr] result (λ fault. fault.span ≡ [extent_at] trees.now fault.at)</code>
+///
+/// [IfOk]: crate::contracts#std.IfOk
+/// [IsParameterAt]: crate::contracts#declarations.Parameter.IsParameterAt
+/// [IsOnlyRest]: crate::contracts#declarations.Entry.IsOnlyRest
+/// [function_parameter]: crate::contracts#declarations.rules.Parameters.function_parameter
+/// [length]: crate::contracts#std.length
+/// [IfErr]: crate::contracts#std.IfErr
+/// [FaultAt]: crate::contracts#declarations.Reading.FaultAt
+/// [ByRule]: crate::contracts#declarations.rules.Pieces.ByRule
+/// [extent_at]: crate::contracts#declarations.Fault.extent_at
+pub fn parse_parameter(trees: &[TokenTree]) -> Result<(Parameter<'_>, &[TokenTree]), Fault>
+{
+    match parameter_of(trees) {
+        Ok((parameter, rest)) => Ok((parameter, rest)),
+        Err(left) => Err(Fault::ahead_of(trees.len() - left.len(), left)),
+    }
+}
+
+/// Returns the pattern at the start of the trees, and the trees after it.
+///
+/// A pattern is not parsed; only its end is found, which is before the first sign that can be in no pattern, such as
+/// `:`. The pattern is one of a parameter: it has no `self`, and `|` only in groups. A keyword such as `in` does not
+/// end it. The call is for trees of a macro's own grammar, such as the parameters of a closure. For `(a, b): (A, B)`
+/// the pattern is `(a, b)`.
+///
+/// # Contract
+///
+/// - `ensures ok`: <code>[IfOk] result (λ found. [Reads] ([ByRule] [pattern]) trees.now found.0.now
+///   found.1.now)</code>
+/// - `ensures only`: <code>[IfOk] result (λ found. [IsOnly] ([ByRule] [pattern]) trees.now found.0.now
+///   found.1.now)</code>
+/// - `ensures fault`: <code>[IfErr] result (λ fault. [FaultAt] ([ByRule] [pattern]) trees.now fault.at)</code>
+/// - `ensures span`: <code>[IfErr] result (λ fault. fault.span ≡ [extent_at] trees.now fault.at)</code>
+///
+/// [IfOk]: crate::contracts#std.IfOk
+/// [Reads]: crate::contracts#declarations.Reading.Reads
+/// [ByRule]: crate::contracts#declarations.rules.Pieces.ByRule
+/// [pattern]: crate::contracts#declarations.rules.Parameters.pattern
+/// [IsOnly]: crate::contracts#declarations.Reading.IsOnly
+/// [IfErr]: crate::contracts#std.IfErr
+/// [FaultAt]: crate::contracts#declarations.Reading.FaultAt
+/// [extent_at]: crate::contracts#declarations.Fault.extent_at
+pub fn split_pattern(trees: &[TokenTree]) -> Result<(&[TokenTree], &[TokenTree]), Fault>
+{
+    match past_pattern(trees) {
+        Ok(rest) => Ok((part(trees, rest), rest)),
+        Err(left) => Err(Fault::ahead_of(trees.len() - left.len(), left)),
+    }
+}
+
+/// The parameters of a function, in order. A `,` is between two parameters, and may be after the last.
+///
+/// The iterator gives each parameter as [`parse_parameter`] reads it from the remaining trees. At an error it gives a
+/// `Fault`, whose `at` counts from the start of the remaining trees, and then ends. It allocates nothing. For
+/// `(&self, x: u8)` it gives `&self` and `x: u8`.
+///
+/// ```text
+/// for parameter in Parameters::new(group) {
+///     let parameter = parameter?;
+///     if let ParameterKind::Typed(ty) = parameter.kind { .. }
+/// }
+/// ```
+#[derive(Clone, Copy, Debug)]
+pub struct Parameters<'a> {
+    /// The trees that are not yet read.
+    pub left: &'a [TokenTree],
+}
+
+impl<'a> Parameters<'a> {
+    /// Returns an iterator over the parameters in these parentheses.
+    ///
+    /// # Contract
+    ///
+    /// - `ensures`: <code>[AreInside] result.left.now group.now</code>
+    ///
+    /// [AreInside]: crate::contracts#declarations.List.AreInside
+    pub fn new(group: &'a Group) -> Parameters<'a>
+    {
+        Parameters {
+            left: group.stream_ref().trees(),
+        }
+    }
+}
+
+impl<'a> Iterator for Parameters<'a> {
+    type Item = Result<Parameter<'a>, Fault>;
+
+    // At most as many elements come as trees are left.
+
+    fn next(&mut self) -> Option<Result<Parameter<'a>, Fault>> {
+        if self.left.is_empty() {
+            return None;
+        }
+        match first_parameter(self.left) {
+            Ok((parameter, left)) => {
+                self.left = left;
+                Some(Ok(parameter))
+            }
+            Err(fault) => {
+                self.left = &[];
+                Some(Err(fault))
+            }
+        }
+    }
+}
+
+/// The first parameter of a list, and the trees after its comma.
+fn first_parameter(trees: &[TokenTree]) -> Result<(Parameter<'_>, &[TokenTree]), Fault>
+{
+    match parse_parameter(trees) {
+        Ok((parameter, rest)) => match past_comma(rest) {
+            Some(left) => Ok((parameter, left)),
+            None => Err(fault_after(trees, rest)),
+        },
+        Err(fault) => Err(fault),
+    }
+}

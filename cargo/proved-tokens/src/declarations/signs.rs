@@ -1,0 +1,445 @@
+// Made from crates/declarations/src/signs.rt by dev/erase: change that file, not this one.
+//! The signs of trees. A sign is one tree, or two trees that are read as one.
+
+use crate::declarations::bare::innermost;
+use crate::declarations::class::{Class, Keyword, Word};
+use crate::pm_stream::{Group, TokenStream, TokenTree};
+use crate::pm_token::{Delimiter, Ident, Spacing};
+
+/// Returns the class of the first sign, and the trees after this sign. Returns `None` if there are no trees.
+///
+/// `::`, `->`, `<=` and `||` are one sign if the first mark is `Joint`. A `'` and an identifier are one sign, and so
+/// are `#` and `!`. Every other tree is a sign of its own. A group without delimiters that holds a visibility, a
+/// lifetime or a literal has the class of what it holds. If it holds one such group alone, the innermost of these
+/// groups decides.
+///
+/// The call takes O(1) time, and for groups without delimiters in one another time in proportion to their number. It
+/// allocates nothing.
+///
+/// # Contract
+///
+/// - `ensures`: <code>[MatchOption] result (trees.now ≡ \[\]) (λ sign. [BeginsWith] trees.now sign.0
+///   sign.1.now)</code>
+///
+/// [MatchOption]: crate::contracts#std.MatchOption
+/// [BeginsWith]: crate::contracts#declarations.Signs.BeginsWith
+pub fn first_sign<'a>(trees: &'a [TokenTree]) -> Option<(Class, &'a [TokenTree])>
+{
+    let (first, rest) = trees.split_first()?;
+    let Some((second, after)) = rest.split_first() else {
+        return Some((tree_class(first), rest));
+    };
+    match pair_class(first, second) {
+        Some(class) => Some((class, after)),
+        None => Some((tree_class(first), rest)),
+    }
+}
+
+/// The class of two trees that are read as one sign, or `None`.
+fn pair_class(first: &TokenTree, second: &TokenTree) -> Option<Class>
+{
+    let TokenTree::Punct(mark) = first else {
+        return None;
+    };
+    match second {
+        TokenTree::Punct(next) => {
+            if mark.spacing() == Spacing::Joint {
+                joint_class(mark.as_char(), next.as_char())
+            } else {
+                loose_class(mark.as_char(), next.as_char())
+            }
+        }
+        TokenTree::Ident(_) => {
+            if mark.as_char() == '\'' {
+                Some(Class::Lifetime)
+            } else {
+                None
+            }
+        }
+        TokenTree::Group(_) | TokenTree::Literal(_) => None,
+    }
+}
+
+/// The class of two marks that are read as one sign, whatever the spacing of the first is.
+fn loose_class(first: char, second: char) -> Option<Class>
+{
+    if first == '#' && second == '!' {
+        return Some(Class::HashBang);
+    }
+    None
+}
+
+/// The class of two marks that are read as one sign, if the first is `Joint`.
+fn joint_class(first: char, second: char) -> Option<Class>
+{
+    if let Some(class) = marks_class(first, second) {
+        return Some(class);
+    }
+    loose_class(first, second)
+}
+
+/// The class of two marks that are read as one sign only if the first is `Joint`.
+fn marks_class(first: char, second: char) -> Option<Class>
+{
+    if first == ':' && second == ':' {
+        return Some(Class::PathSeparator);
+    }
+    if first == '-' && second == '>' {
+        return Some(Class::Arrow);
+    }
+    if first == '<' && second == '=' {
+        return Some(Class::LessEquals);
+    }
+    if first == '|' && second == '|' {
+        return Some(Class::Bars);
+    }
+    None
+}
+
+fn tree_class(tree: &TokenTree) -> Class
+{
+    match tree {
+        TokenTree::Group(group) => group_class(group),
+        TokenTree::Ident(ident) => name_class(ident),
+        TokenTree::Punct(punct) => mark_class(punct.as_char(), punct.spacing() == Spacing::Joint),
+        TokenTree::Literal(_) => Class::Literal,
+    }
+}
+
+fn group_class(group: &Group) -> Class
+{
+    match group.delimiter() {
+        Delimiter::Parenthesis => {
+            if is_restriction(group.stream_ref()) {
+                Class::Restriction
+            } else {
+                Class::Parentheses
+            }
+        }
+        Delimiter::Bracket => Class::Brackets,
+        Delimiter::Brace => Class::Braces,
+        Delimiter::None => unseen_class(group.stream_ref()),
+    }
+}
+
+/// The class of a group without delimiters, in which a `macro_rules!` macro passes a fragment.
+fn unseen_class(inside: &TokenStream) -> Class
+{
+    let held = innermost(inside);
+    if is_visibility(held) {
+        return Class::Visibility;
+    }
+    held_class(held.trees())
+}
+
+/// The class of trees in a group without delimiters that are no visibility.
+fn held_class(trees: &[TokenTree]) -> Class
+{
+    match trees {
+        [TokenTree::Literal(_)] => Class::Literal,
+        [TokenTree::Punct(mark), TokenTree::Ident(_)] if mark.as_char() == '\'' => Class::Lifetime,
+        _ => Class::Invisible,
+    }
+}
+
+/// Whether the trees are a visibility: no trees, or `pub` with a restriction or without.
+fn is_visibility(inside: &TokenStream) -> bool
+{
+    let Some((first, rest)) = inside.trees().split_first() else {
+        return true;
+    };
+    match first {
+        TokenTree::Ident(ident) => is_pub(ident, may_restrict(rest)),
+        TokenTree::Group(_) | TokenTree::Punct(_) | TokenTree::Literal(_) => false,
+    }
+}
+
+/// Whether the identifier is `pub`, and what follows belongs to it.
+fn is_pub(ident: &Ident, belongs: bool) -> bool
+{
+    ident.eq_str("pub") && belongs
+}
+
+/// Whether the trees after `pub` are a restriction or none.
+fn may_restrict(trees: &[TokenTree]) -> bool
+{
+    let Some((first, rest)) = trees.split_first() else {
+        return true;
+    };
+    match first {
+        TokenTree::Group(group) => restricts_in(group, rest.is_empty()),
+        TokenTree::Ident(_) | TokenTree::Punct(_) | TokenTree::Literal(_) => false,
+    }
+}
+
+/// Whether the group restricts `pub`. It must be the last tree.
+fn restricts_in(group: &Group, last: bool) -> bool
+{
+    match group.delimiter() {
+        Delimiter::Parenthesis => last && is_restriction(group.stream_ref()),
+        Delimiter::Bracket | Delimiter::Brace | Delimiter::None => false,
+    }
+}
+
+/// Whether trees in parentheses restrict `pub`: `crate`, `self` or `super` alone, or `in` and more trees.
+fn is_restriction(inside: &TokenStream) -> bool
+{
+    let Some((first, rest)) = inside.trees().split_first() else {
+        return false;
+    };
+    match first {
+        TokenTree::Ident(ident) => restricts(ident, rest.is_empty()),
+        TokenTree::Group(_) | TokenTree::Punct(_) | TokenTree::Literal(_) => false,
+    }
+}
+
+/// Whether an identifier in parentheses restricts `pub`. `alone` says that it is the only tree there.
+fn restricts(ident: &Ident, alone: bool) -> bool
+{
+    ident.eq_str("in")
+        || (alone && (ident.eq_str("crate") || ident.eq_str("self") || ident.eq_str("super")))
+}
+
+fn mark_class(mark: char, joint: bool) -> Class
+{
+    match mark {
+        '<' if joint => Class::LessJoint,
+        '<' => Class::Less,
+        '>' => Class::Greater,
+        ',' => Class::Comma,
+        ':' => Class::Colon,
+        ';' => Class::Semicolon,
+        '=' => Class::Equals,
+        '+' => Class::Plus,
+        '-' => Class::Minus,
+        '*' => Class::Star,
+        '&' => Class::And,
+        '?' => Class::Question,
+        '!' => Class::Exclamation,
+        '#' => Class::Hash,
+        '~' => Class::Tilde,
+        _ => operator_class(mark),
+    }
+}
+
+/// The class of a mark that occurs only in expressions.
+fn operator_class(mark: char) -> Class
+{
+    match mark {
+        '|' => Class::Bar,
+        '.' => Class::Dot,
+        '/' | '%' | '^' | '@' => Class::Infix,
+        _ => Class::Mark,
+    }
+}
+
+/// The class of an identifier. Each test compares the first byte first, so the compiler can make one jump by that byte.
+pub(crate) fn name_class(ident: &Ident) -> Class
+{
+    let first = ident.first_byte();
+    if let Some(class) = path_class(ident, first) {
+        return class;
+    }
+    if let Some(class) = operand_class(ident, first) {
+        return class;
+    }
+    match keyword_of(ident, first) {
+        Some(keyword) => Class::Keyword(keyword),
+        None => Class::Word(word_of(ident, first)),
+    }
+}
+
+/// Whether the identifier is this text. `first` is the first byte of the identifier.
+#[cfg_attr(not(debug_assertions), inline(always))]
+fn is_written(ident: &Ident, first: u8, text: &str) -> bool
+{
+    match text.as_bytes().split_first() {
+        Some((byte, _)) => *byte == first && ident.eq_str(text),
+        None => ident.eq_str(text),
+    }
+}
+
+/// The class of a keyword that can be in a path.
+#[cfg_attr(not(debug_assertions), inline(always))]
+fn path_class(ident: &Ident, first: u8) -> Option<Class>
+{
+    if is_written(ident, first, "self") {
+        return Some(Class::SelfValue);
+    }
+    if is_written(ident, first, "Self") {
+        return Some(Class::SelfType);
+    }
+    if is_written(ident, first, "super") {
+        return Some(Class::Super);
+    }
+    if is_written(ident, first, "crate") {
+        return Some(Class::Crate);
+    }
+    if is_written(ident, first, "_") {
+        return Some(Class::Underscore);
+    }
+    None
+}
+
+/// The class of a keyword that is an operand, or that can come before or after an operand.
+#[cfg_attr(not(debug_assertions), inline(always))]
+fn operand_class(ident: &Ident, first: u8) -> Option<Class>
+{
+    if is_truth(ident, first) {
+        return Some(Class::Truth);
+    }
+    if is_written(ident, first, "as") {
+        return Some(Class::As);
+    }
+    if is_written(ident, first, "await") || is_written(ident, first, "continue") {
+        return Some(Class::Await);
+    }
+    if is_written(ident, first, "return")
+        || is_written(ident, first, "break")
+        || is_written(ident, first, "yield")
+    {
+        return Some(Class::Jump);
+    }
+    None
+}
+
+#[cfg_attr(not(debug_assertions), inline(always))]
+fn is_truth(ident: &Ident, first: u8) -> bool
+{
+    is_written(ident, first, "true") || is_written(ident, first, "false")
+}
+
+#[cfg_attr(not(debug_assertions), inline(always))]
+fn keyword_of(ident: &Ident, first: u8) -> Option<Keyword>
+{
+    if let Some(keyword) = item_keyword(ident, first) {
+        return Some(keyword);
+    }
+    if let Some(keyword) = type_keyword(ident, first) {
+        return Some(keyword);
+    }
+    if is_early_keyword(ident, first) || is_late_keyword(ident, first) {
+        Some(Keyword::Other)
+    } else {
+        None
+    }
+}
+
+/// The keyword, if it only begins items or their parts.
+#[cfg_attr(not(debug_assertions), inline(always))]
+fn item_keyword(ident: &Ident, first: u8) -> Option<Keyword>
+{
+    if is_written(ident, first, "struct") {
+        return Some(Keyword::Struct);
+    }
+    if is_written(ident, first, "enum") {
+        return Some(Keyword::Enum);
+    }
+    if is_written(ident, first, "static") {
+        return Some(Keyword::Static);
+    }
+    if is_written(ident, first, "trait") {
+        return Some(Keyword::Trait);
+    }
+    if is_written(ident, first, "type") {
+        return Some(Keyword::Type);
+    }
+    if is_written(ident, first, "mod") {
+        return Some(Keyword::Mod);
+    }
+    if is_written(ident, first, "macro") {
+        return Some(Keyword::Macro);
+    }
+    if is_written(ident, first, "pub") {
+        return Some(Keyword::Pub);
+    }
+    if is_written(ident, first, "where") {
+        return Some(Keyword::Where);
+    }
+    None
+}
+
+/// The keyword, if it can come before the operand of a type.
+#[cfg_attr(not(debug_assertions), inline(always))]
+fn type_keyword(ident: &Ident, first: u8) -> Option<Keyword>
+{
+    if is_written(ident, first, "mut") {
+        return Some(Keyword::Mut);
+    }
+    if is_written(ident, first, "const") {
+        return Some(Keyword::Const);
+    }
+    if is_written(ident, first, "extern") {
+        return Some(Keyword::Extern);
+    }
+    if is_written(ident, first, "for") {
+        return Some(Keyword::For);
+    }
+    if is_written(ident, first, "dyn") {
+        return Some(Keyword::Dyn);
+    }
+    if is_written(ident, first, "impl") {
+        return Some(Keyword::Impl);
+    }
+    if is_written(ident, first, "unsafe") {
+        return Some(Keyword::Unsafe);
+    }
+    if is_written(ident, first, "async") {
+        return Some(Keyword::Async);
+    }
+    if is_written(ident, first, "fn") {
+        return Some(Keyword::Fn);
+    }
+    if is_written(ident, first, "use") {
+        return Some(Keyword::Use);
+    }
+    None
+}
+
+/// The keywords that no rule names, from `abstract` to `let`.
+#[cfg_attr(not(debug_assertions), inline(always))]
+fn is_early_keyword(ident: &Ident, first: u8) -> bool
+{
+    is_written(ident, first, "abstract")
+        || is_written(ident, first, "become")
+        || is_written(ident, first, "box")
+        || is_written(ident, first, "do")
+        || is_written(ident, first, "else")
+        || is_written(ident, first, "final")
+        || is_written(ident, first, "if")
+        || is_written(ident, first, "in")
+        || is_written(ident, first, "let")
+}
+
+#[cfg_attr(not(debug_assertions), inline(always))]
+fn is_late_keyword(ident: &Ident, first: u8) -> bool
+{
+    is_written(ident, first, "loop")
+        || is_written(ident, first, "match")
+        || is_written(ident, first, "move")
+        || is_written(ident, first, "override")
+        || is_written(ident, first, "priv")
+        || is_written(ident, first, "ref")
+        || is_written(ident, first, "typeof")
+        || is_written(ident, first, "unsized")
+        || is_written(ident, first, "virtual")
+        || is_written(ident, first, "while")
+}
+
+#[cfg_attr(not(debug_assertions), inline(always))]
+fn word_of(ident: &Ident, first: u8) -> Word
+{
+    if is_written(ident, first, "auto") {
+        return Word::Auto;
+    }
+    if is_written(ident, first, "default") {
+        return Word::Default;
+    }
+    if is_written(ident, first, "safe") {
+        return Word::Safe;
+    }
+    if is_written(ident, first, "union") {
+        return Word::Union;
+    }
+    Word::Plain
+}

@@ -1,0 +1,98 @@
+// Made from crates/declarations/src/walk.rt by dev/erase: change that file, not this one.
+//! The walk over the signs of trees by the tables of the grammar.
+
+use crate::declarations::fault::Fault;
+use crate::declarations::place::{Item, Place};
+use crate::declarations::signs::first_sign;
+use crate::pm_stream::TokenTree;
+
+/// The part that the walk read, and what the walk found out about it.
+#[derive(Clone, Copy)]
+pub(crate) struct Split<'a> {
+    pub part: &'a [TokenTree],
+    pub rest: &'a [TokenTree],
+    /// The item that the walk was in at its end.
+    pub last: Item,
+    /// The trees from the item's name on, or no trees if it has no name.
+    pub named: &'a [TokenTree],
+}
+
+/// Reads a part from a state on. Returns the part and the trees after it.
+pub(crate) fn split_from<'a>(trees: &'a [TokenTree], start: Place) -> Result<Split<'a>, Fault>
+{
+    let stop = walk_from(trees, start);
+    let at = trees.len() - stop.left.len();
+    if stop.place.may_end() {
+        let (part, rest) = trees.split_at(at);
+        Ok(Split {
+            part,
+            rest,
+            last: stop.place.item,
+            named: stop.named,
+        })
+    } else {
+        Err(Fault::ahead_of(at, stop.left))
+    }
+}
+
+/// Reads all of the trees from a state on.
+pub(crate) fn read_whole(trees: &[TokenTree], start: Place) -> Result<(), Fault>
+{
+    let stop = walk_from(trees, start);
+    if stop.left.is_empty() && stop.place.may_end() {
+        Ok(())
+    } else {
+        Err(Fault::ahead_of(trees.len() - stop.left.len(), stop.left))
+    }
+}
+
+/// Skips what can be read from a state on. At an error it returns the trees after the longest prefix that can go on.
+pub(crate) fn walk_past<'a>(
+    trees: &'a [TokenTree],
+    start: Place,
+) -> Result<&'a [TokenTree], &'a [TokenTree]>
+{
+    let stop = walk_from(trees, start);
+    if stop.place.may_end() {
+        Ok(stop.left)
+    } else {
+        Err(stop.left)
+    }
+}
+
+/// The state and the trees at which a walk stops.
+#[derive(Clone, Copy)]
+struct Stop<'a> {
+    place: Place,
+    // The trees that are left.
+    left: &'a [TokenTree],
+    // The trees from the item's name on, or no trees if it has no name.
+    named: &'a [TokenTree],
+}
+
+/// Walks from a state on, as far as the signs are steps.
+fn walk_from<'a>(trees: &'a [TokenTree], start: Place) -> Stop<'a>
+{
+    let mut place = start;
+    let mut left = trees;
+    let mut named = trees.split_at(0).0;
+    while let Some((next, after, begins)) = next_place(place, left) {
+        named = later(begins, left, named);
+        place = next;
+        left = after;
+    }
+    Stop { place, left, named }
+}
+
+fn later<'a>(begins: bool, trees: &'a [TokenTree], named: &'a [TokenTree]) -> &'a [TokenTree]
+{
+    if begins { trees } else { named }
+}
+
+/// One step: the next state, the trees after the sign, and whether the sign is the item's name.
+fn next_place<'a>(place: Place, trees: &'a [TokenTree]) -> Option<(Place, &'a [TokenTree], bool)>
+{
+    let (class, after) = first_sign(trees)?;
+    let next = place.step(class)?;
+    Some((next, after, place.names(class)))
+}

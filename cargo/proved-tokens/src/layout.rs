@@ -1,0 +1,13 @@
+// Made from crates/layout/src/lib.rt by dev/erase: change that file, not this one.
+//! Writes streams with white space of your choice between the tokens, so that the text reads back to the same tokens.
+//!
+//! [`text_with`] writes a stream with the gaps that a [`Chooser`] gives, whatever it gives.
+
+mod errors;
+mod gaps;
+pub mod laws;
+mod writing;
+
+pub use errors::LayoutError;
+pub use gaps::{Chooser, Gap, Place};
+pub use writing::{text_with, write_with};

@@ -1,0 +1,162 @@
+// Made from crates/literal_escaper/src/front.rt by dev/erase: change that file, not this one.
+//! Reads the items at the start of a content with escapes.
+
+use crate::literal_escaper::classes::{Class, holds};
+use crate::literal_escaper::content_cursor::ContentCursor;
+use crate::literal_escaper::errors::EscapeError;
+use crate::literal_escaper::escape::escape;
+use crate::literal_escaper::kind::Unescape;
+use crate::shim::ops::Range;
+
+/// An item: its range of bytes in the content, and a unit or an error.
+pub type Item<U> = (Range<usize>, Result<U, EscapeError>);
+
+/// What one step at the start of a content reads.
+pub struct Front<'a, U: Copy> {
+    /// The first item, if there is one.
+    pub item: Option<Item<U>>,
+    /// The range of the warning about a white character that comes after that item.
+    pub warning: Option<Range<usize>>,
+    /// The cursor after the characters that were read.
+    pub after: ContentCursor<'a>,
+}
+
+/// Whether the character is skipped after a backslash and a line end.
+fn is_blank(c: char) -> bool
+{
+    holds(Class::Blank, c)
+}
+
+/// Returns whether a line end is among the blanks at the cursor, and the cursor after them.
+fn skip_blanks(at: ContentCursor<'_>) -> (bool, ContentCursor<'_>)
+{
+    let mut lines = false;
+    let mut after = at;
+    while let Some((c, next)) = after.advance() {
+        if !is_blank(c) {
+            break;
+        }
+        lines = lines || c == '\n';
+        after = next;
+    }
+    (lines, after)
+}
+
+/// Returns the range from `start` to after the character at `after`, if that character is white.
+fn unskipped_white(start: ContentCursor<'_>, after: ContentCursor<'_>) -> Option<Range<usize>>
+{
+    let (c, past) = after.advance()?;
+    if holds(Class::White, c) {
+        Some(start.byte_offset()..past.byte_offset())
+    } else {
+        None
+    }
+}
+
+/// Reads a backslash and LF at the cursor `at`, with the blanks after them. They have no unit, but may have warnings.
+/// `line` is the cursor after the LF.
+fn skip_line<'a, U: Copy>(at: ContentCursor<'a>, line: ContentCursor<'a>) -> Front<'a, U>
+{
+    let (lines, after) = skip_blanks(line);
+    let white = unskipped_white(at, after);
+    if lines {
+        let skipped = at.byte_offset()..after.byte_offset();
+        Front {
+            item: Some((skipped, Err(EscapeError::MultipleSkippedLinesWarning))),
+            warning: white,
+            after,
+        }
+    } else {
+        Front {
+            item: white.map(|range| (range, Err(EscapeError::UnskippedWhitespaceWarning))),
+            warning: None,
+            after,
+        }
+    }
+}
+
+/// Returns the unit of a character or of the escape that it begins, or an error, and the cursor after it.
+fn read_unit<K: Unescape>(
+    c: char,
+    after: ContentCursor<'_>,
+) -> (Result<K::Unit, EscapeError>, ContentCursor<'_>)
+{
+    if !holds(Class::StringSpecial, c) {
+        return (K::of_char(c), after);
+    }
+    match c {
+        '\\' => escape::<K>(after),
+        '"' => (Err(EscapeError::EscapeOnlyChar), after),
+        _ => (Err(EscapeError::BareCarriageReturn), after),
+    }
+}
+
+/// Returns the cursor after an LF.
+fn line_feed(at: ContentCursor<'_>) -> Option<ContentCursor<'_>>
+{
+    match at.advance() {
+        Some(('\n', line)) => Some(line),
+        _ => None,
+    }
+}
+
+/// Reads one step at the cursor: a skipped line end, an escape, or one character. Returns `None` at the end of the
+/// content.
+///
+/// # Contract
+///
+/// - `ensures value`: <code>[MatchOption] result ([text_at] at.entry ≡ \[\]) (λ x. [GivesFront] ([front] K.kind
+///   at.entry.end ([text_at] at.entry)) at.entry x.item x.warning x.after)</code>
+/// - `ensures more`: <code>[IfSome] result (λ x. 0 &lt; [length] ([text_at] at.entry))</code>
+///
+/// [MatchOption]: crate::contracts#std.MatchOption
+/// [text_at]: crate::contracts#literal_escaper.Unescaping.text_at
+/// [GivesFront]: crate::contracts#literal_escaper.Unescaping.GivesFront
+/// [front]: crate::contracts#literal_escaper.Items.front
+/// [IfSome]: crate::contracts#std.IfSome
+/// [length]: crate::contracts#std.length
+pub fn read_front<K: Unescape>(at: ContentCursor<'_>) -> Option<Front<'_, K::Unit>>
+{
+    let (c, after) = at.advance()?;
+    if c == '\\' {
+        if let Some(line) = line_feed(after) {
+            return Some(skip_line(at, line));
+        }
+    }
+    let (unit, rest) = read_unit::<K>(c, after);
+    Some(Front {
+        item: Some((at.byte_offset()..rest.byte_offset(), unit)),
+        warning: None,
+        after: rest,
+    })
+}
+
+/// Reads from the cursor on until an item is found, or until the end of the content.
+///
+/// # Contract
+///
+/// - `ensures left`: <code>[items_from] K.kind at.entry.end ([text_at] at.entry) ≡ [front_items] result.item
+///   result.warning ++ [items_from] K.kind result.after.end ([text_at] result.after)</code>
+/// - `ensures none`: <code>[IfNone] result.item ((result.warning ≡ [None]) × ([text_at] result.after ≡
+///   \[\]))</code>
+///
+/// [items_from]: crate::contracts#literal_escaper.Items.items_from
+/// [text_at]: crate::contracts#literal_escaper.Unescaping.text_at
+/// [front_items]: crate::contracts#literal_escaper.Unescaping.front_items
+/// [IfNone]: crate::contracts#std.IfNone
+/// [None]: crate::contracts#std.None
+pub fn next_front<K: Unescape>(at: ContentCursor<'_>) -> Front<'_, K::Unit>
+{
+    let mut cursor = at;
+    while let Some(front) = read_front::<K>(cursor) {
+        if front.item.is_some() {
+            return front;
+        }
+        cursor = front.after;
+    }
+    Front {
+        item: None,
+        warning: None,
+        after: cursor,
+    }
+}

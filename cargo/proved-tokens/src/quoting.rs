@@ -1,0 +1,26 @@
+// Made from crates/quoting/src/lib.rt by dev/erase: change that file, not this one.
+//! A builder of streams from trees and from templates with holes.
+//!
+//! The stream of `Quote::finish` reads back from its printed text as the same tokens.
+
+mod builder;
+mod errors;
+mod faults;
+mod fill;
+mod holes;
+mod interpolation;
+pub mod laws;
+mod lists;
+mod making;
+mod owned;
+mod putting;
+mod quote;
+mod respace;
+mod template;
+mod turns;
+mod values;
+
+pub use errors::{QuoteError, TemplateError};
+pub use holes::Hole;
+pub use quote::Quote;
+pub use values::{Number, Value, Values};

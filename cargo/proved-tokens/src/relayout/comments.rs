@@ -1,0 +1,256 @@
+// Made from crates/relayout/src/comments.rt by dev/erase: change that file, not this one.
+//! Writes the doc attributes of a text as doc comments.
+
+use crate::relayout::errors::RelayoutError;
+use crate::relayout::literals::{escaped_text, plain_front, strip};
+use crate::lexical::parts::{Cursor, before, begins, skip_to_either};
+use crate::lexical::{PieceKind, literal_at, past_white, piece_at};
+use crate::pm_token::parts::{TextBuilder, string_literal};
+use crate::pm_token::{ConversionErrorKind, Literal};
+use crate::proc_macro2::Span;
+use crate::shim::alloc::AllocError;
+
+/// Returns the text with its doc attributes written as doc comments.
+///
+/// `#[doc = ".."]` becomes `///..`, and `# ![doc = ".."]` becomes `//!..`. Such a comment is read as that attribute, so
+/// the text parses to the same tokens up to spans. An attribute stays if it is spelled in another way, if more than
+/// white space precedes it on its line, or if LF does not follow its `]` at once. It also stays if its text has LF or
+/// CR, which no one-line comment can hold, or if the text would begin with `/` right after `///`. Everything else stays
+/// as it is.
+///
+/// Returns `NoPiece` if no pieces cover the text, and `Memory` if memory runs out. Delimiters need not match. The call
+/// takes time proportional to the length of the text.
+///
+/// Example: `#[doc = " a"]`, LF and `fn f() {}` become `/// a`, LF and `fn f() {}`.
+///
+/// # Contract
+///
+/// - `ensures ok`: <code>[IfOk] result (λ out. [IsCommented] ([chars] text.now) ([chars] ([string_bytes]
+///   out)))</code>
+/// - `ensures no_piece`: <code>[IfErr] result ([IfNoPiece] ([HasNoCover] ([chars] text.now)))</code>
+///
+/// [IfOk]: crate::contracts#std.IfOk
+/// [IsCommented]: crate::contracts#relayout.Comments.IsCommented
+/// [chars]: crate::contracts#std.chars
+/// [string_bytes]: crate::contracts#std.string_bytes
+/// [IfErr]: crate::contracts#std.IfErr
+/// [IfNoPiece]: crate::contracts#relayout.Relaid.IfNoPiece
+/// [HasNoCover]: crate::contracts#relayout.Relaid.HasNoCover
+pub fn with_doc_comments(text: &str) -> Result<String, RelayoutError>
+{
+    let mut out = TextBuilder::with_room(text.len())?;
+    // `kept` is the text that is not written yet, and `rest` its end that is not read yet. What is kept is copied in
+    // one go.
+    let mut kept = text;
+    let mut rest = text;
+    let mut first = true;
+    let mut free = true;
+    while !rest.is_empty() {
+        // Of white space only the line ends matter, so it is skipped without the lexer.
+        let (solid, white) = past_white(rest);
+        if white > 0 {
+            free = is_free_after(free, before(rest, solid));
+            rest = solid;
+            first = false;
+            continue;
+        }
+        if let Some(after) = push_comment(&mut out, kept, rest, free)? {
+            kept = after;
+            rest = after;
+            first = false;
+            continue;
+        }
+        let Some((after, is_free)) = past_piece(rest, first, free) else {
+            return Err(RelayoutError::NoPiece);
+        };
+        rest = after;
+        first = false;
+        free = is_free;
+    }
+    out.push_text(kept)?;
+    Ok(out.into_string())
+}
+
+/// Whether the line is blank up to the end of `white`. `free` says whether it is blank up to the start of `white`.
+#[cfg_attr(not(debug_assertions), inline(always))]
+fn is_free_after(free: bool, white: &str) -> bool
+{
+    free || ends_line(white)
+}
+
+/// Whether the white space has a line end in it.
+#[cfg_attr(not(debug_assertions), inline(always))]
+fn ends_line(white: &str) -> bool
+{
+    white.chars().any(|c| c == '\n')
+}
+
+/// Writes a comment for the attribute at the start of `text`, after the part of `kept` that precedes `text`. `free`
+/// says whether only white space precedes `text` on its line. Returns what follows the attribute's line. If no
+/// attribute that becomes a comment begins there, it returns `None` and writes nothing.
+#[cfg_attr(not(debug_assertions), inline(always))]
+fn push_comment<'a>(
+    out: &mut TextBuilder,
+    kept: &str,
+    text: &'a str,
+    free: bool,
+) -> Result<Option<&'a str>, AllocError>
+{
+    if !free {
+        return Ok(None);
+    }
+    if !begins(text, "#") {
+        return Ok(None);
+    }
+    push_attribute(out, kept, text)
+}
+
+/// Does the work of `push_comment` for a text that only white space precedes on its line.
+#[inline(never)]
+fn push_attribute<'a>(
+    out: &mut TextBuilder,
+    kept: &str,
+    text: &'a str,
+) -> Result<Option<&'a str>, AllocError>
+{
+    let Some((inner, after)) = past_front(text) else {
+        return Ok(None);
+    };
+    // Most literals hold their text as it is or with short escapes. These are read without the lexer.
+    if let Some((front, more)) = plain_front(after) {
+        if let Some(rest) = strip(more, "\"]\n") {
+            return push_doc(out, kept, text, inner, front, rest);
+        }
+        if let Some((said, rest)) = escaped_text(front, more)? {
+            return push_doc(out, kept, text, inner, said.as_str(), rest);
+        }
+    }
+    let Some((literal, rest)) = split_literal(after) else {
+        return Ok(None);
+    };
+    let Some(said) = text_of(literal)? else {
+        return Ok(None);
+    };
+    push_doc(out, kept, text, inner, said.as_str(), rest)
+}
+
+/// Writes the comment for an attribute whose text is `said`, if a one-line comment can hold that text, and returns
+/// `rest`, which follows the attribute's line. Otherwise it returns `None` and writes nothing.
+fn push_doc<'a>(
+    out: &mut TextBuilder,
+    kept: &str,
+    text: &str,
+    inner: bool,
+    said: &str,
+    rest: &'a str,
+) -> Result<Option<&'a str>, AllocError>
+{
+    if !is_doc_line(inner, said) {
+        return Ok(None);
+    }
+    out.push_text(before(kept, text))?;
+    out.push_text(front_of(inner))?;
+    out.push_text(said)?;
+    out.push('\n')?;
+    Ok(Some(rest))
+}
+
+/// Returns `//!` for an inner comment and `///` for an outer one.
+fn front_of(inner: bool) -> &'static str
+{
+    if inner { "//!" } else { "///" }
+}
+
+/// Returns what follows the piece at the start of the text, and whether only white space precedes that on its line.
+/// `free` says whether only white space precedes the piece on its line. If so, no attribute that becomes a comment may
+/// begin there. Returns `None` if no piece begins there.
+#[cfg_attr(not(debug_assertions), inline(always))]
+fn past_piece(text: &str, first: bool, free: bool) -> Option<(&str, bool)>
+{
+    let Some(piece) = piece_at(text, first) else {
+        return None;
+    };
+    let (own, rest) = text.split_at(piece.bytes);
+    Some((rest, is_free(free, piece.kind, own)))
+}
+
+/// Whether the line is blank up to the end of a piece of this kind and text. `free` says whether it is blank up to its
+/// start.
+fn is_free(free: bool, kind: PieceKind<'_>, text: &str) -> bool
+{
+    match kind {
+        PieceKind::Gap => !begins(text, "/") && (free || begins(text, "\n")),
+        _ => false,
+    }
+}
+
+/// Returns which doc attribute begins the text, an inner one (`true`) or an outer one, and the text from its literal
+/// on. Returns `None` if none begins it.
+fn past_front(text: &str) -> Option<(bool, &str)>
+{
+    if let Some(rest) = strip(text, "#[doc = ") {
+        return Some((false, rest));
+    }
+    if let Some(rest) = strip(text, "# ![doc = ") {
+        return Some((true, rest));
+    }
+    None
+}
+
+/// Returns the literal at the start of the text, and what follows the `]` and LF after it. Returns `None` if no literal
+/// begins there or something else follows it.
+fn split_literal(text: &str) -> Option<(&str, &str)>
+{
+    let Some(bytes) = literal_at(text) else {
+        return None;
+    };
+    let Some(rest) = strip(&text[bytes..], "]\n") else {
+        return None;
+    };
+    Some((&text[..bytes], rest))
+}
+
+/// Returns the text for which `Literal::string` writes this literal, if there is one.
+fn text_of(literal: &str) -> Result<Option<String>, AllocError>
+{
+    if !Literal::is_whole(literal) {
+        return Ok(None);
+    }
+    match Literal::from_str_unchecked(literal)?.str_value() {
+        Ok(text) => same_literal(literal, text),
+        Err(ConversionErrorKind::Memory(error)) => Err(error),
+        Err(ConversionErrorKind::InvalidLiteralKind) => Ok(None),
+        Err(ConversionErrorKind::FailedToUnescape(_)) => Ok(None),
+    }
+}
+
+/// Returns `text` if `Literal::string` writes `literal` for it.
+fn same_literal(literal: &str, text: String) -> Result<Option<String>, AllocError>
+{
+    let again = string_literal(text.as_str(), Span::call_site())?;
+    if is_same(again.text(), literal) {
+        Ok(Some(text))
+    } else {
+        Ok(None)
+    }
+}
+
+/// Whether the two texts are equal.
+fn is_same(text: &str, other: &str) -> bool
+{
+    text == other
+}
+
+/// Whether a doc comment of one line can hold the text.
+fn is_doc_line(inner: bool, text: &str) -> bool
+{
+    is_in_line(text) && (inner || !begins(text, "/"))
+}
+
+/// Whether the text has neither LF nor CR in it.
+fn is_in_line(text: &str) -> bool
+{
+    skip_to_either(Cursor::new(text), b'\n', b'\r')
+        .rest
+        .is_empty()
+}

@@ -1,0 +1,43 @@
+// Made from crates/relayout/src/laws.rt by dev/erase: change that file, not this one.
+//! The laws about texts with other white space or with doc comments. The functions compute nothing: their contracts are
+//! the laws, which `specs/Laws.antt` and `specs/Commented.antt` state.
+
+/// Changing white space keeps the other pieces of a text, if no run is added or removed and each run after a line
+/// comment begins with LF.
+///
+/// No other condition is needed, since no piece depends on what follows the white space after it.
+///
+/// Example: `a  +b // c` and LF may become `a`, LF, `+b`, tab, `// c` and two LFs.
+///
+/// # Contract
+///
+/// - `ensures`: <code>[PiecesStay]</code>
+///
+/// [PiecesStay]: crate::contracts#relayout.Laws.PiecesStay
+pub fn pieces_stay()
+{}
+
+/// Texts with the same pieces, except for white characters, parse to the same tokens up to spans.
+///
+/// # Contract
+///
+/// - `ensures`: <code>[TokensStay]</code>
+///
+/// [TokensStay]: crate::contracts#relayout.Laws.TokensStay
+pub fn tokens_stay()
+{}
+
+/// If doc comments replace the attributes that they are read as, the text parses to the same tokens up to spans.
+///
+/// Each attribute must begin its line and end it, and a one-line comment must be able to hold its text (`doc-line`):
+/// the text has no LF and no CR, and after `///` it does not begin with a slash.
+///
+/// Example: `#[doc = " a"]` and LF may become `/// a` and LF, and `# ![doc = "/b"]` and LF may become `//!/b` and LF.
+///
+/// # Contract
+///
+/// - `ensures`: <code>[CommentsStay]</code>
+///
+/// [CommentsStay]: crate::contracts#relayout.Commented.CommentsStay
+pub fn comments_stay()
+{}

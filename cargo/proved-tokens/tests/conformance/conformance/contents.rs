@@ -1,0 +1,117 @@
+// Made from crates/conformance/src/contents.rt by dev/erase: change that file, not this one.
+//! What the library finds in the content of a literal.
+
+use proved_tokens::shim::prelude::{GrowText, format};
+
+use crate::conformance::answer::Answer;
+use proved_tokens::proc_macro2::rustc_literal_escaper::{
+    EscapeError, MixedUnit, Mode, NonZeroChar, check_for_errors, check_raw_byte_str,
+    check_raw_c_str, check_raw_str, unescape_byte, unescape_byte_str, unescape_c_str,
+    unescape_char, unescape_str,
+};
+use proved_tokens::shim::alloc::AllocError;
+use proved_tokens::shim::ops::Range;
+
+/// Returns what this call of the escaper gives for the content: each item with its range of bytes, its unit or error,
+/// and a semicolon. For a character or a byte it is only the unit or the error. Returns `None` for an unknown call.
+///
+/// For `unescape_str`, `\x41b` gives `0..4 U+41;4..5 U+62;`. For `unescape_char`, `'` gives
+/// `EscapeOnlyChar`.
+pub fn content_answer<'a>(
+    call: &'a str,
+    content: &str,
+) -> Result<Option<Answer<'a>>, AllocError> {
+    let said = match call {
+        "unescape_str" => items(unescape_str(content))?,
+        "unescape_byte_str" => items(unescape_byte_str(content))?,
+        "unescape_c_str" => items(unescape_c_str(content))?,
+        "check_raw_str" => items(check_raw_str(content))?,
+        "check_raw_byte_str" => items(check_raw_byte_str(content))?,
+        "check_raw_c_str" => items(check_raw_c_str(content))?,
+        "unescape_char" => unit_text(unescape_char(content))?,
+        "unescape_byte" => unit_text(unescape_byte(content))?,
+        _ => match call.strip_prefix("errors_").and_then(mode) {
+            Some(mode) => errors(content, mode)?,
+            None => return Ok(None),
+        },
+    };
+    Ok(Some(Answer { kind: call, said }))
+}
+
+/// Returns the kind of literal that a word names.
+fn mode(name: &str) -> Option<Mode> {
+    match name {
+        "Char" => Some(Mode::Char),
+        "Byte" => Some(Mode::Byte),
+        "Str" => Some(Mode::Str),
+        "RawStr" => Some(Mode::RawStr),
+        "ByteStr" => Some(Mode::ByteStr),
+        "RawByteStr" => Some(Mode::RawByteStr),
+        "CStr" => Some(Mode::CStr),
+        "RawCStr" => Some(Mode::RawCStr),
+        _ => None,
+    }
+}
+
+/// Returns all items that an iterator of the escaper gives.
+fn items<U: Unit, I: Iterator<Item = (Range<usize>, Result<U, EscapeError>)>>(
+    items: I,
+) -> Result<String, AllocError>
+{
+    let mut said = String::new();
+    for (range, unit) in items {
+        let unit = unit_text(unit)?;
+        write!(said, "{}..{} {unit};", range.start, range.end)?;
+    }
+    Ok(said)
+}
+
+/// Returns all errors in a content of this kind, each with its range.
+fn errors(content: &str, mode: Mode) -> Result<String, AllocError> {
+    let mut said = String::new();
+    for (range, error) in check_for_errors(content, mode) {
+        write!(said, "{}..{} {error:?};", range.start, range.end)?;
+    }
+    Ok(said)
+}
+
+/// Returns the text of a unit, or the name of an error.
+fn unit_text<U: Unit>(unit: Result<U, EscapeError>) -> Result<String, AllocError> {
+    match unit {
+        Ok(unit) => unit.text(),
+        Err(error) => format!("{error:?}"),
+    }
+}
+
+/// A unit of a literal's content.
+trait Unit: Copy {
+    /// Returns `U+` and the character's code, or the byte in two digits of hex.
+    fn text(self) -> Result<String, AllocError>;
+}
+
+impl Unit for char {
+    fn text(self) -> Result<String, AllocError> {
+        format!("U+{:X}", u32::from(self))
+    }
+}
+
+impl Unit for u8 {
+    fn text(self) -> Result<String, AllocError> {
+        format!("{self:02X}")
+    }
+}
+
+impl Unit for NonZeroChar {
+    fn text(self) -> Result<String, AllocError> {
+        self.get().text()
+    }
+}
+
+impl Unit for MixedUnit {
+    fn text(self) -> Result<String, AllocError> {
+        match self {
+            MixedUnit::Char(c) => c.text(),
+            MixedUnit::HighByte(byte) => byte.get().text(),
+        }
+    }
+}

@@ -1,0 +1,94 @@
+// Made from crates/declarations_tests/src/any_items.rt by dev/erase: change that file, not this one.
+
+use crate::shim::prelude::{AllocGlobal, HostRuntime};
+
+// The item that each text begins with.
+use proved_tokens::declarations::{ItemKind, split_any_item};
+use proved_tokens::proc_macro2::{Ident, SourceMap, TokenStream};
+use crate::shim::process::Abort;
+use crate::shim::test::Fail;
+
+fn is_named(name: Option<&Ident>, wanted: &str) -> bool {
+    match name {
+        Some(ident) => ident.eq_str(wanted),
+        None => wanted.is_empty(),
+    }
+}
+
+/// Checks the number of trees, the kind and the name of the item that each text begins with. No name is written as
+/// `""`.
+fn check(
+    rt: &(impl Abort + AllocGlobal),
+    rows: &[(&str, usize, ItemKind, &str)],
+) -> Result<(), Fail> {
+    for (text, trees, kind, name) in rows {
+        let stream = TokenStream::from_str(text, &mut SourceMap::new())?;
+        let as_wanted = match split_any_item(stream.trees()) {
+            Ok((item, _)) => {
+                item.trees.len() == *trees && item.kind == *kind && is_named(item.name, name)
+            }
+            Err(_) => false,
+        };
+        assert!(as_wanted, "{text:?}");
+    }
+    Ok(())
+}
+
+#[test]
+fn an_item_has_a_kind_and_a_name() -> Result<(), Fail> {
+    let rt = HostRuntime;
+    check(
+        &rt,
+        &[
+            (
+                "pub const unsafe extern \"C\" fn f<T>(x: T) -> Vec<T> where T: A {} fn",
+                22,
+                ItemKind::Function,
+                "f",
+            ),
+            ("fn union(); x", 4, ItemKind::Function, "union"),
+            ("extern \"C\" fn f() {}", 6, ItemKind::Function, "f"),
+            ("const safe fn f() {}", 6, ItemKind::Function, "f"),
+            ("const safe: u8 = 1 + 2; x", 9, ItemKind::Constant, "safe"),
+            ("const _: () = {};", 7, ItemKind::Constant, "_"),
+            ("pub(crate) static mut A: B;", 8, ItemKind::Static, "A"),
+            ("type A<T>: B = C where T: D;", 14, ItemKind::TypeAlias, "A"),
+            ("unsafe auto trait T {}", 5, ItemKind::Trait, "T"),
+            ("trait T: A + 'a where Self: B {}", 12, ItemKind::Trait, "T"),
+            ("trait T = A + B;", 7, ItemKind::TraitAlias, "T"),
+            (
+                "impl<T: A> B for C<T> where T: D {} x",
+                17,
+                ItemKind::Impl,
+                "",
+            ),
+            ("impl <T as U>::V {}", 10, ItemKind::Impl, ""),
+            (
+                "impl Trait for for<'a> fn(&'a u8) {}",
+                11,
+                ItemKind::Impl,
+                "",
+            ),
+            ("impl !A for B {}", 6, ItemKind::Impl, ""),
+            ("impl ! {}", 3, ItemKind::Impl, ""),
+            ("default unsafe impl A for B {}", 7, ItemKind::Impl, ""),
+            ("mod m { fn f() {} } x", 3, ItemKind::Module, "m"),
+            ("use a::{b, c as d}; x", 6, ItemKind::Use, ""),
+            ("use a as _;", 5, ItemKind::Use, ""),
+            ("extern crate self as a;", 6, ItemKind::ExternCrate, "self"),
+            (
+                "unsafe extern \"C\" { fn f(); }",
+                4,
+                ItemKind::ExternBlock,
+                "",
+            ),
+            ("macro m($x:expr) { 1 }", 4, ItemKind::Macro, "m"),
+            ("macro_rules! m { () => {} } x", 4, ItemKind::MacroCall, "m"),
+            ("a::b!(c); x", 7, ItemKind::MacroCall, ""),
+            ("union! {}", 3, ItemKind::MacroCall, ""),
+            ("union U { a: u8 }", 3, ItemKind::Union, "U"),
+            ("#[a] struct S(u8);", 6, ItemKind::Struct, "S"),
+            ("enum E {}", 3, ItemKind::Enum, "E"),
+        ],
+    )
+}

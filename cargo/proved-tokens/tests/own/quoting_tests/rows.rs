@@ -1,0 +1,347 @@
+// Made from crates/quoting_tests/src/rows.rt by dev/erase: change that file, not this one.
+
+use crate::shim::prelude::{AllocGlobal, HostRuntime, format};
+
+// The printed text of each kind of tree. The text is parsed again and compared.
+use crate::quoting_tests::trees::{Inner, Leaf, Tree, quoted};
+use proved_tokens::proc_macro2::{
+    Delimiter, Group, ParseError, Punct, SourceMap, Spacing, Span, TokenStream, TokenTree,
+};
+use proved_tokens::quoting::{Quote, QuoteError, TemplateError};
+use crate::shim::alloc::AllocError;
+use crate::shim::fmt::{Debug, Display};
+use crate::shim::process::Abort;
+use crate::shim::test::Fail;
+
+/// Trees, and the printed text of their quote. The first ones are the examples of the README.
+const PRINTED: &[(&[Tree], &str)] = &[
+    // A Joint mark before a name becomes Alone.
+    (
+        &[Tree::One(Leaf::Joint('&')), Tree::One(Leaf::Name("self"))],
+        "& self",
+    ),
+    // A lifetime is printed without a space.
+    (
+        &[
+            Tree::One(Leaf::Alone('&')),
+            Tree::One(Leaf::Alone('\'')),
+            Tree::One(Leaf::Name("a")),
+            Tree::One(Leaf::Name("str")),
+        ],
+        "& 'a str",
+    ),
+    // A negative number becomes its sign and the rest.
+    (
+        &[Tree::One(Leaf::Joint('=')), Tree::One(Leaf::Number(-3))],
+        "=- 3i32",
+    ),
+    (&[Tree::One(Leaf::Number(-3))], "- 3i32"),
+    (
+        &[Tree::One(Leaf::Joint('+')), Tree::One(Leaf::Number(-3))],
+        "+- 3i32",
+    ),
+    // A quote is Joint, and a mark before a name is Alone.
+    (
+        &[
+            Tree::One(Leaf::Alone('\'')),
+            Tree::One(Leaf::Name("a")),
+            Tree::One(Leaf::Joint('+')),
+            Tree::One(Leaf::Name("x")),
+        ],
+        "'a + x",
+    ),
+    // Marks do not begin a comment.
+    (
+        &[
+            Tree::One(Leaf::Joint('/')),
+            Tree::One(Leaf::Joint('*')),
+            Tree::One(Leaf::Alone('=')),
+        ],
+        "/ *=",
+    ),
+    // A mark stays Joint if the next token may touch it. The last mark becomes Alone.
+    (
+        &[Tree::One(Leaf::Joint(':')), Tree::One(Leaf::Joint(':'))],
+        "::",
+    ),
+    (
+        &[Tree::One(Leaf::Joint('+')), Tree::One(Leaf::Character('b'))],
+        "+'b'",
+    ),
+    (
+        &[Tree::One(Leaf::Alone('\'')), Tree::One(Leaf::Bytes("x"))],
+        "'b\"x\"",
+    ),
+    (&[], ""),
+];
+
+/// Trees for which no choice of spacings is well spaced, and whether the error is `LoneQuote`. Otherwise it is
+/// `NoneGroup`.
+const REFUSED: &[(&[Tree], bool)] = &[
+    (&[Tree::One(Leaf::Joint('\''))], true),
+    (
+        &[
+            Tree::One(Leaf::Joint('\'')),
+            Tree::One(Leaf::Character('x')),
+        ],
+        true,
+    ),
+    (
+        &[Tree::Of(Delimiter::None, &[Inner::One(Leaf::Name("x"))])],
+        false,
+    ),
+    // The error is the first one in reading order.
+    (
+        &[Tree::Of(
+            Delimiter::Bracket,
+            &[Inner::Of(Delimiter::None, &[Leaf::Name("x")])],
+        )],
+        false,
+    ),
+    (
+        &[
+            Tree::Of(Delimiter::Parenthesis, &[Inner::One(Leaf::Joint('\''))]),
+            Tree::Of(Delimiter::None, &[]),
+        ],
+        true,
+    ),
+    (
+        &[Tree::Of(Delimiter::None, &[Inner::One(Leaf::Joint('\''))])],
+        false,
+    ),
+];
+
+/// `a { (b) [+] -> }` with marks that are Joint.
+const NESTED: &[Tree] = &[
+    Tree::One(Leaf::Name("a")),
+    Tree::Of(
+        Delimiter::Brace,
+        &[
+            Inner::Of(Delimiter::Parenthesis, &[Leaf::Name("b")]),
+            Inner::Of(Delimiter::Bracket, &[Leaf::Joint('+')]),
+            Inner::One(Leaf::Joint('-')),
+            Inner::One(Leaf::Joint('>')),
+        ],
+    ),
+];
+
+/// Returns whether the text parses to the same tokens as the stream.
+fn comes_back(stream: &TokenStream, text: &str) -> Result<bool, ParseError> {
+    let back = TokenStream::from_str(text, &mut SourceMap::new())?;
+    Ok(stream.same_tokens(&back))
+}
+
+/// Asserts that the stream has the printed text, and reads back from it.
+fn check_stream(
+    rt: &(impl Abort + AllocGlobal),
+    stream: &TokenStream,
+    want: &str,
+) -> Result<(), ParseError> {
+    let text = format!("{stream}")?;
+    assert_eq!(text.as_str(), want);
+    assert!(comes_back(stream, text.as_str())?,
+        "of {want:?}"
+    );
+    Ok(())
+}
+
+/// Asserts that the quote has the printed text, and reads back from it.
+pub fn check_quote(rt: &(impl Abort + AllocGlobal), quote: &Quote, want: &str) -> Result<(), Fail> {
+    let stream = quote.finish()?;
+    check_stream(rt, &stream, want)?;
+    Ok(())
+}
+
+/// Asserts that the quote of the trees has the printed text, and reads back from it.
+fn check_printed(rt: &(impl Abort + AllocGlobal), trees: &[Tree], want: &str) -> Result<(), Fail> {
+    let quote = quoted(rt, trees)?;
+    check_quote(rt, &quote, want)
+}
+
+/// Asserts that the quote of the trees has this error.
+fn check_refused(
+    rt: &(impl Abort + AllocGlobal),
+    trees: &[Tree],
+    is_lone_quote: bool,
+) -> Result<(), Fail> {
+    let quote = quoted(rt, trees)?;
+    match quote.finish() {
+        Err(QuoteError::LoneQuote) => assert!(is_lone_quote),
+        Err(QuoteError::NoneGroup) => assert!(!is_lone_quote),
+        _ => assert!(false),
+    }
+    Ok(())
+}
+
+#[test]
+fn trees_are_printed_so_that_they_come_back() -> Result<(), Fail> {
+    let rt = HostRuntime;
+    for &(trees, want) in PRINTED {
+        check_printed(&rt, trees, want)?;
+    }
+    Ok(())
+}
+
+#[test]
+fn what_no_spacing_mends_is_told() -> Result<(), Fail> {
+    let rt = HostRuntime;
+    for &(trees, is_lone_quote) in REFUSED {
+        check_refused(&rt, trees, is_lone_quote)?;
+    }
+    Ok(())
+}
+
+/// Returns the `Debug` text of the quote's stream.
+fn shown(rt: &(impl Abort + AllocGlobal), trees: &[Tree]) -> Result<String, Fail> {
+    let stream = quoted(rt, trees)?.finish()?;
+    Ok(format!("{stream:?}")?)
+}
+
+#[test]
+fn the_last_mark_is_alone_and_others_stay_joint() -> Result<(), Fail> {
+    let rt = HostRuntime;
+    let colons = &[Tree::One(Leaf::Joint(':')), Tree::One(Leaf::Joint(':'))];
+    let shown = shown(&rt, colons)?;
+    let want =
+        "TokenStream [Punct { char: ':', spacing: Joint }, Punct { char: ':', spacing: Alone }]";
+    assert_eq!(shown.as_str(), want);
+    Ok(())
+}
+
+#[test]
+fn marks_in_groups_are_respaced_and_the_quote_stays() -> Result<(), Fail> {
+    let rt = HostRuntime;
+    let quote = quoted(&rt, NESTED)?;
+    for _ in 0..2 {
+        check_quote(&rt, &quote, "a { (b) [+] -> }")?;
+    }
+    Ok(())
+}
+
+/// Returns nested parentheses around a mark that is Joint.
+fn deep_groups(levels: u32) -> Result<TokenStream, Fail> {
+    let mut stream = TokenStream::new();
+    stream.extend_puncts([Punct::new('+', Spacing::Joint)])?;
+    for _ in 0..levels {
+        let group = Group::new(Delimiter::Parenthesis, stream);
+        stream = TokenStream::from_tree(TokenTree::Group(group))?;
+    }
+    Ok(stream)
+}
+
+/// Returns a quote of the stream.
+pub fn quote_of(stream: TokenStream) -> Result<Quote, Fail> {
+    let mut quote = Quote::new();
+    quote.push_stream(stream)?;
+    Ok(quote)
+}
+
+#[test]
+fn deep_groups_are_respaced_without_a_deep_stack() -> Result<(), Fail> {
+    let rt = HostRuntime;
+    let quote = quote_of(deep_groups(100_000)?)?;
+    assert!(quote.finish()?.is_well_spaced());
+    Ok(())
+}
+
+#[test]
+fn a_stream_has_exactly_what_was_pushed() -> Result<(), Fail> {
+    let rt = HostRuntime;
+    let mut map = SourceMap::new();
+    let stream = TokenStream::from_str("a", &mut map)?;
+    let mut quote = Quote::new();
+    quote.push(TokenTree::Punct(Punct::new('\'', Spacing::Alone)))?;
+    quote.push(TokenTree::Group(Group::new(Delimiter::None, stream)))?;
+    quote.push(TokenTree::Punct(Punct::new('+', Spacing::Joint)))?;
+    let stream = quote.into_stream();
+    let [
+        TokenTree::Punct(first),
+        TokenTree::Group(group),
+        TokenTree::Punct(last),
+    ] = stream.trees()
+    else {
+        assert!(false, "three trees");
+        return Ok(());
+    };
+    assert!(first.spacing() == Spacing::Alone && last.spacing() == Spacing::Joint);
+    assert!(group.delimiter() == Delimiter::None);
+    let Some(name) = group.stream_ref().trees().first() else {
+        assert!(false, "a name");
+        return Ok(());
+    };
+    let span = name.span();
+    let text = if map.holds(span) {
+        span.source_str(&map)
+    } else {
+        None
+    };
+    assert_eq!(text, Some("a"));
+    Ok(())
+}
+
+/// Asserts that the error has this message.
+fn says<T: Display>(
+    rt: &(impl Abort + AllocGlobal),
+    error: &T,
+    want: &str,
+) -> Result<(), AllocError> {
+    let text = format!("{error}")?;
+    assert_eq!(text.as_str(), want);
+    Ok(())
+}
+
+/// Asserts that the error has this `Debug` text.
+fn shows<T: Debug>(
+    rt: &(impl Abort + AllocGlobal),
+    error: &T,
+    want: &str,
+) -> Result<(), AllocError> {
+    let text = format!("{error:?}")?;
+    assert_eq!(text.as_str(), want);
+    Ok(())
+}
+
+#[test]
+fn errors_say_why() -> Result<(), AllocError> {
+    let rt = HostRuntime;
+    says(&rt, &QuoteError::NoneGroup, "a group has no delimiters")?;
+    shows(&rt, &QuoteError::LoneQuote, "LoneQuote")?;
+    let no_hole = TemplateError::NoHole(Span::call_site());
+    shows(&rt, &no_hole, "NoHole(bytes(0..0))")?;
+    let map_full = TemplateError::Parse(ParseError::MapFull);
+    shows(&rt, &map_full, "Parse(MapFull)")
+}
+
+/// Adds a Joint mark, which `finish` makes Alone, and a group of a name to the quote.
+fn push_pair(rt: &(impl Abort + AllocGlobal), quote: &mut Quote) -> Result<(), Fail> {
+    quote.push(TokenTree::Punct(Punct::new('+', Spacing::Joint)))?;
+    let name = TokenStream::from_str("x", &mut SourceMap::new())?;
+    quote.push(TokenTree::Group(Group::new(Delimiter::Parenthesis, name)))?;
+    Ok(())
+}
+
+#[test]
+fn forty_thousand_trees_are_finished() -> Result<(), Fail> {
+    let rt = HostRuntime;
+    let mut quote = Quote::new();
+    for _ in 0..20_000 {
+        push_pair(&rt, &mut quote)?;
+    }
+    let stream = quote.finish()?;
+    assert_eq!(stream.trees().len(), 40_000);
+    assert!(stream.is_well_spaced());
+    Ok(())
+}
+
+#[test]
+fn the_trees_of_a_text_go_between_others() -> Result<(), Fail> {
+    let rt = HostRuntime;
+    let mut quote = quoted(
+        &rt,
+        &[Tree::One(Leaf::Name("x")), Tree::One(Leaf::Alone(':'))],
+    )?;
+    let kind = TokenStream::from_str("std::vec::Vec<u8>", &mut SourceMap::new())?;
+    quote.push_stream(kind)?;
+    quote.push(TokenTree::Punct(Punct::new(',', Spacing::Joint)))?;
+    check_quote(&rt, &quote, "x : std :: vec :: Vec < u8 > ,")
+}

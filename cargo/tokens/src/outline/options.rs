@@ -1,0 +1,114 @@
+// Made from crates/outline/src/options.rt by dev/erase: change that file, not this one.
+//! What the arguments of the program say.
+
+use proved_tokens::shim::prelude::{Grow, GrowText};
+
+use crate::messages::Failure;
+use proved_tokens::shim::alloc::AllocError;
+
+/// The usage line of the program.
+pub const USAGE: &str = "outline [--json|--ctags] [FILE..]";
+
+/// The form in which declarations are listed.
+#[derive(Clone, Copy, Debug, PartialEq, Eq)]
+pub enum Form {
+    /// A line for each declaration.
+    Lines,
+    /// A JSON object on a line for each declaration.
+    Json,
+    /// A `tags` file for editors.
+    Ctags,
+}
+
+/// What the arguments ask the program to do.
+pub struct Options {
+    /// The form in which declarations are listed.
+    pub form: Form,
+    /// The paths of the files. The path `-` is standard input.
+    pub paths: Vec<String>,
+}
+
+/// The meaning of an argument.
+#[derive(Clone, Copy, Debug, PartialEq, Eq)]
+enum Word {
+    Json,
+    Ctags,
+    Unknown,
+    Path,
+}
+
+/// Returns what the arguments say. Options may be anywhere, and the last one counts. All other arguments are paths.
+///
+/// If there is no path, standard input is read. Fails with `Usage` if an argument begins with `-` and is no option, and
+/// with `Memory`.
+pub fn options_of(words: &[String]) -> Result<Options, Failure>
+{
+    let mut options = Options::new();
+    for word in words {
+        match word_of(word.as_str()) {
+            Word::Unknown => return Err(Failure::Usage(USAGE)),
+            known => options.take(known, word.as_str())?,
+        }
+    }
+    options.read_input_at_least()?;
+    Ok(options)
+}
+
+/// The meaning of an argument.
+fn word_of(word: &str) -> Word
+{
+    match word {
+        "--json" => Word::Json,
+        "--ctags" => Word::Ctags,
+        _ => other_word(word),
+    }
+}
+
+/// The meaning of an argument that is no known option.
+fn other_word(word: &str) -> Word
+{
+    match word.as_bytes() {
+        [b'-'] => Word::Path,
+        [b'-', ..] => Word::Unknown,
+        _ => Word::Path,
+    }
+}
+
+impl Options {
+    /// The options before any argument is read.
+    fn new() -> Options
+    {
+        Options {
+            form: Form::Lines,
+            paths: Vec::new(),
+        }
+    }
+
+    /// Takes one argument into account.
+    fn take(&mut self, known: Word, word: &str) -> Result<(), AllocError>
+    {
+        match known {
+            Word::Json => self.form = Form::Json,
+            Word::Ctags => self.form = Form::Ctags,
+            Word::Path => self.push_path(word)?,
+            Word::Unknown => {}
+        }
+        Ok(())
+    }
+
+    /// Adds standard input if there is no path.
+    fn read_input_at_least(&mut self) -> Result<(), AllocError>
+    {
+        if self.paths.is_empty() {
+            self.push_path("-")?;
+        }
+        Ok(())
+    }
+
+    /// Appends a path.
+    fn push_path(&mut self, path: &str) -> Result<(), AllocError>
+    {
+        self.paths.push_fallibly(String::from_str_fallibly(path)?)?;
+        Ok(())
+    }
+}

@@ -1,0 +1,154 @@
+// Made from crates/rust_check/src/options.rt by dev/erase: change that file, not this one.
+//! The options and paths of the command line.
+
+use proved_tokens::shim::prelude::{Grow, GrowText};
+
+use crate::messages::Failure;
+use proved_tokens::shim::alloc::AllocError;
+
+/// The usage line.
+pub const USAGE: &str = "rust_check [--short|--json] [--hidden] [--color=always|never] [FILE..]";
+
+/// How a finding is written.
+#[derive(Clone, Copy, Debug, PartialEq, Eq)]
+pub enum Form {
+    /// On one line.
+    Short,
+    /// With its line of the source and carets below that.
+    Long,
+    /// As in `Long`, but in the colours of a terminal.
+    Coloured,
+    /// As a JSON object on one line.
+    Json,
+}
+
+/// How files are checked.
+pub struct Options {
+    /// The form of a finding, in which colours are left out.
+    pub form: Form,
+    /// Whether `--color=always` is the last option for colours.
+    pub coloured: bool,
+    /// Whether hidden text is reported too.
+    pub hidden: bool,
+    /// The paths of the files. `-` is standard input.
+    pub paths: Vec<String>,
+}
+
+/// What the command line demands.
+pub enum Request {
+    /// The files are checked.
+    Check(Options),
+    /// The help is written.
+    Help,
+    /// The program's name and version are written.
+    Version,
+}
+
+/// What one word of the command line means.
+#[derive(Clone, Copy, Debug, PartialEq, Eq)]
+enum Word {
+    Short,
+    Json,
+    Hidden,
+    Colour(bool),
+    Help,
+    Version,
+    Unknown,
+    Path,
+}
+
+/// Returns what the words of the command line demand. Options and paths may come in any order, and `-` is the path if
+/// there is no other.
+///
+/// Returns `Usage` if a word begins with `-` and is no option, and `Memory` if memory runs out.
+pub fn request_of(words: &[String]) -> Result<Request, Failure>
+{
+    let mut options = Options::new();
+    for word in words {
+        match word_of(word.as_str()) {
+            Word::Help => return Ok(Request::Help),
+            Word::Version => return Ok(Request::Version),
+            Word::Unknown => return Err(Failure::Usage(USAGE)),
+            known => options.take(known, word.as_str())?,
+        }
+    }
+    options.read_input_at_least()?;
+    Ok(Request::Check(options))
+}
+
+/// Returns what the word means.
+fn word_of(word: &str) -> Word
+{
+    match word {
+        "--short" => Word::Short,
+        "--json" => Word::Json,
+        "--hidden" => Word::Hidden,
+        "--color=always" => Word::Colour(true),
+        "--color=never" => Word::Colour(false),
+        "--help" => Word::Help,
+        "--version" => Word::Version,
+        _ => other_word(word),
+    }
+}
+
+/// Returns what a word means that is none of the known options.
+fn other_word(word: &str) -> Word
+{
+    match word.as_bytes() {
+        [b'-'] => Word::Path,
+        [b'-', ..] => Word::Unknown,
+        _ => Word::Path,
+    }
+}
+
+impl Options {
+    /// Returns the options of an empty command line.
+    fn new() -> Options
+    {
+        Options {
+            form: Form::Long,
+            coloured: false,
+            hidden: false,
+            paths: Vec::new(),
+        }
+    }
+
+    /// Applies a known word, and takes it as a path if it is one.
+    fn take(&mut self, known: Word, word: &str) -> Result<(), AllocError>
+    {
+        match known {
+            Word::Short => self.form = Form::Short,
+            Word::Json => self.form = Form::Json,
+            Word::Hidden => self.hidden = true,
+            Word::Colour(coloured) => self.coloured = coloured,
+            Word::Path => self.push_path(word)?,
+            _ => {}
+        }
+        Ok(())
+    }
+
+    /// Adds standard input as the path if no file is named.
+    fn read_input_at_least(&mut self) -> Result<(), AllocError>
+    {
+        if self.paths.is_empty() {
+            self.push_path("-")?;
+        }
+        Ok(())
+    }
+
+    /// Appends a path.
+    fn push_path(&mut self, path: &str) -> Result<(), AllocError>
+    {
+        self.paths.push_fallibly(String::from_str_fallibly(path)?)?;
+        Ok(())
+    }
+
+    /// Returns the form of a finding, in which colours count only for `Long`.
+    pub fn shown_form(&self) -> Form
+    {
+        match self.form {
+            Form::Long if self.coloured => Form::Coloured,
+            form => form,
+        }
+    }
+}
