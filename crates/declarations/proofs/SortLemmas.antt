@@ -156,7 +156,7 @@ class_sort : (o : Option Class) (i : Name) → MayBe names o → IsSort names (c
 class_sort None i may = keyword_sort (keyword_of i) i
 class_sort (Some class) i may = may
 
-name_sort : (i : Name) → IsSort names (name_class i)
+pub name_sort : (i : Name) → IsSort names (name_class i)
 name_sort i =
     class_sort (or_else (path_class i) (operand_class i)) i
     (or_else_sort (path_class i) (operand_class i) (path_sort i) (operand_sort i))
@@ -221,13 +221,13 @@ unseen P inside visibility lifetime literal other =
     (held P (innermost_trees inside) lifetime literal other)
 
 -- the kinds of signs that a group can be
-abbrev MayBeGroup : Sort → Type 0
+abbrev pub MayBeGroup : Sort → Type 0
 MayBeGroup groups = Unit {0}
 MayBeGroup pairs = Unit {0}
 MayBeGroup literals = Unit {0}
 MayBeGroup _ = ⊥
 
-group_sort : (g : Grouped) (d : Delimiter) → MayBeGroup (sort_of (group_class d g.stream))
+pub group_sort : (g : Grouped) (d : Delimiter) → MayBeGroup (sort_of (group_class d g.stream))
 group_sort g delimiters.Parenthesis =
     elim (is_restriction g.stream) as (λ b. MayBeGroup (sort_of (parentheses_class b))) [ true ↦ tt | false ↦ tt ]
 group_sort g delimiters.Bracket = tt
@@ -265,7 +265,7 @@ first_tree (tree ∷ second ∷ rest) sign after read =
           two (subst (λ s. sort_of s.class ≡ pairs) is sort)
     ] (pair_sort tree second) (sym (signs-cons tree second rest) ∙ read)
 
-clash : (sign : Sign) (tree : TokenTree) (here there : Sort) → sign.class ≡ tree_class tree
+pub clash : (sign : Sign) (tree : TokenTree) (here there : Sort) → sign.class ≡ tree_class tree
     → sort_of sign.class ≡ here → sort_of (tree_class tree) ≡ there → here ≡ there
 clash sign tree here there is sort other = sym sort ∙ ap sort_of is ∙ other
 
