@@ -1,7 +1,7 @@
 //! The caller's spans, by number.
 use proc_macro2::{Group, Span, TokenTree};
 use proved_tokens::pm_span::parts::{bounds, span_of};
-use proved_tokens::pm_span::Span as Place;
+use proved_tokens::pm_span::Span as ProvedSpan;
 use proved_tokens::pm_stream::TokenTree as OwnTree;
 use std::error::Error;
 use std::fmt::{self, Display};
@@ -35,11 +35,11 @@ impl Spans {
         Spans::default()
     }
 
-    /// The caller's span that a proved span stands for. Of a proved group's `span_open()` and `span_close()` it is that
-    /// of the caller's delimiter.
+    /// Returns the caller's span, a `proc_macro2::Span`, that a `proved_tokens::Span` stands for.
     ///
-    /// Any other span, as that of a new token or of one that was read from a text, is the call site.
-    pub fn span(&self, place: Place) -> Span {
+    /// Of a proved group's `span_open()` and `span_close()` it is that of the caller's delimiter. For any other span,
+    /// such as that of a new token or of one that was read from a text, it is the call site.
+    pub fn span(&self, place: ProvedSpan) -> Span {
         match self.kept(place) {
             Some(Kept::Span(span)) => *span,
             Some(Kept::Token(token, _)) => token.span(),
@@ -48,30 +48,32 @@ impl Spans {
         }
     }
 
-    /// A proved span that stands for the caller's, to be set on new tokens: they come back with it.
-    pub fn place(&mut self, span: Span) -> Place {
+    /// Returns a `proved_tokens::Span` that stands for this `proc_macro2::Span` of the caller.
+    ///
+    /// Set it on new tokens by `set_span`. `from_proved` gives them the caller's span.
+    pub fn place(&mut self, span: Span) -> ProvedSpan {
         self.keep(Kept::Span(span))
     }
 
     /// A span that stands for a token's, which became this tree.
-    pub(crate) fn place_of_token(&mut self, token: TokenTree, tree: Option<OwnTree>) -> Place {
+    pub(crate) fn place_of_token(&mut self, token: TokenTree, tree: Option<OwnTree>) -> ProvedSpan {
         self.keep(Kept::Token(token, tree))
     }
 
     /// A span that stands for a group's: its first number for that of the opener, its last for that of the closer.
     /// The numbers of its trees follow, up to a call of `close`.
-    pub(crate) fn place_of_group(&mut self, group: Group) -> Place {
+    pub(crate) fn place_of_group(&mut self, group: Group) -> ProvedSpan {
         let (open, close) = (group.span_open(), group.span_close());
         let (open, _, close) =
             (self.keep(Kept::Span(open)), self.keep(Kept::Group(group, 0)), self.keep(Kept::Span(close)));
         match (bounds(open), bounds(close)) {
             ((lo, _), (last, hi)) if lo >= FIRST && last >= FIRST => span_of(lo, hi),
-            _ => Place::call_site(),
+            _ => ProvedSpan::call_site(),
         }
     }
 
     /// All trees of the group have their numbers.
-    pub(crate) fn close(&mut self, group: Place) {
+    pub(crate) fn close(&mut self, group: ProvedSpan) {
         let after = self.kept.len();
         if let Some(Kept::Group(_, end)) = self.middle(group).and_then(|index| self.kept.get_mut(index)) {
             *end = after;
@@ -79,7 +81,7 @@ impl Spans {
     }
 
     /// The caller's token that a proved span stands for, and what it became.
-    pub(crate) fn token(&self, place: Place) -> Option<(&TokenTree, Option<&OwnTree>)> {
+    pub(crate) fn token(&self, place: ProvedSpan) -> Option<(&TokenTree, Option<&OwnTree>)> {
         match self.kept(place) {
             Some(Kept::Token(token, tree)) => Some((token, tree.as_ref())),
             _ => None,
@@ -87,7 +89,7 @@ impl Spans {
     }
 
     /// The caller's group that a proved span stands for, and the number after those of the trees in it.
-    pub(crate) fn group(&self, place: Place) -> Option<(&Group, usize)> {
+    pub(crate) fn group(&self, place: ProvedSpan) -> Option<(&Group, usize)> {
         match self.kept(place) {
             Some(Kept::Group(group, end)) => Some((group, *end)),
             _ => None,
@@ -95,7 +97,7 @@ impl Spans {
     }
 
     /// The caller's tree that a proved span stands for.
-    pub(crate) fn own(&self, place: Place) -> Option<TokenTree> {
+    pub(crate) fn own(&self, place: ProvedSpan) -> Option<TokenTree> {
         match self.kept(place)? {
             Kept::Span(_) => None,
             Kept::Token(token, _) => Some(token.clone()),
@@ -104,7 +106,7 @@ impl Spans {
     }
 
     /// The first number of a span that stands for one of the caller's.
-    pub(crate) fn first(place: Place) -> Option<usize> {
+    pub(crate) fn first(place: ProvedSpan) -> Option<usize> {
         let (lo, _) = bounds(place);
         if lo < FIRST {
             return None;
@@ -113,23 +115,23 @@ impl Spans {
     }
 
     /// Numbers an entry. Past the last number it is the call site.
-    fn keep(&mut self, kept: Kept) -> Place {
+    fn keep(&mut self, kept: Kept) -> ProvedSpan {
         let index = u32::try_from(self.kept.len()).ok();
         let lo = index.and_then(|index| FIRST.checked_add(index));
         let Some((lo, hi)) = lo.and_then(|lo| Some((lo, lo.checked_add(1)?))) else {
-            return Place::call_site();
+            return ProvedSpan::call_site();
         };
         self.kept.push(kept);
         span_of(lo, hi)
     }
 
     /// The number in the middle of a span that stands for one of the caller's.
-    fn middle(&self, place: Place) -> Option<usize> {
+    fn middle(&self, place: ProvedSpan) -> Option<usize> {
         let (lo, hi) = bounds(place);
         Some(Spans::first(place)? + (hi - lo) as usize / 2)
     }
 
-    fn kept(&self, place: Place) -> Option<&Kept> {
+    fn kept(&self, place: ProvedSpan) -> Option<&Kept> {
         self.kept.get(self.middle(place)?)
     }
 }
