@@ -1,0 +1,233 @@
+//! Breaks the lines of groups and of items.
+use crate::atoms::{Atom, Kind, Role};
+use crate::lines::{Step, Task, WIDTH, deeper};
+use crate::tree::{Form, NOWHERE, Node, Tree};
+use crate::words::Word;
+use layout::Gap;
+
+/// The largest width of an element if several elements share a line.
+const SHORT: usize = 10;
+
+impl Tree {
+    /// Lays out a group that is not on one line. The gap before it is written.
+    pub fn lay_group(&mut self, task: Task, own: &Node) {
+        let atom = *self.atom(own.first);
+        let doc = atom.role == Role::Attribute && own.until.saturating_sub(own.from) == 3;
+        if own.child == NOWHERE || doc {
+            return self.put(own.first, own.end);
+        }
+        if atom.role == Role::Attribute || self.is_doubled(own) {
+            self.open_group(Step::Shut, task);
+            return self.lay(own.child, task.indent, task.tail.saturating_add(1));
+        }
+        self.read_unread(own.last);
+        let head = self.head_inside(own);
+        if !self.goes_on(head) {
+            return self.lay_lines(task.node, task.indent);
+        }
+        // The last part goes on over the next lines, as if there were no delimiters.
+        let last = *self.node(own.last);
+        self.open_group(Step::Shut, task);
+        self.put(own.from, last.first);
+        self.lead(own, last.first);
+        let mut part = own.last;
+        if last.form == Form::Chain && head > 0 && atom.role != Role::Tuple {
+            // All but the last call of a chain is on this line.
+            self.put(last.first, self.node(last.last).first);
+            part = last.last;
+        }
+        self.lay(part, task.indent, task.tail.saturating_add(1));
+    }
+
+    /// Writes the opener of a group, and leaves its closer to this step.
+    fn open_group(&mut self, step: Step, task: Task) {
+        self.put_mark();
+        self.line.is_shut = false;
+        self.push(step, task, NOWHERE, NOWHERE);
+    }
+
+    /// Begins to write a group with its parts on lines.
+    pub fn lay_lines(&mut self, group: usize, indent: usize) {
+        let own = *self.node(group);
+        if own.child == NOWHERE {
+            return self.put(own.first, own.end);
+        }
+        let task = Task {
+            step: Step::Close,
+            node: group,
+            child: NOWHERE,
+            at: NOWHERE,
+            indent,
+            tail: 0,
+        };
+        self.open_group(Step::Close, task);
+        self.push_parts(self.step_of(&own), task, group);
+    }
+
+    /// Leaves the parts of a list to this step. Their lines are deeper than those of the task.
+    fn push_parts(&mut self, step: Step, task: Task, list: usize) {
+        let mut parts = task;
+        parts.node = list;
+        parts.indent = deeper(task.indent);
+        self.push(step, parts, self.node(list).child, NOWHERE);
+    }
+
+    /// Returns the step that writes the parts of a group.
+    fn step_of(&self, own: &Node) -> Step {
+        let atom = self.atom(own.first);
+        let derive = atom.role == Role::Meta && self.previous(own.first).is_word(Word::Derive);
+        let several = own.child != own.last;
+        let list = atom.is_list() && !matches!(atom.role, Role::Params | Role::Repeated);
+        let short = self.are_short(own.from, own.until, Role::Comma, SHORT);
+        if atom.role == Role::Use && self.find_role(own.from, own.until, Role::Use) < own.until {
+            Step::Import
+        } else if atom.role == Role::Use || derive || list && several && short {
+            Step::Fill
+        } else {
+            Step::Part
+        }
+    }
+
+    /// Returns whether the atoms between those with this role are names, literals and fields of this width at most.
+    pub fn are_short(&self, from: usize, end: usize, between: Role, most: usize) -> bool {
+        let mut start = from;
+        for index in from..end {
+            let atom = self.atom(index);
+            let mark = matches!(atom.role, Role::Dot | Role::Before | Role::After);
+            if atom.role == between {
+                start = index.saturating_add(1);
+            } else if !(atom.is_any_word() || mark)
+                || atom.tall
+                || self.width(start, index.saturating_add(1)) > most
+            {
+                return false;
+            }
+        }
+        true
+    }
+
+    /// Writes the next part of a list.
+    pub fn next_part(&mut self, task: Task, own: &Node, part: &Node) {
+        let last = *self.node(task.at);
+        let first = task.at == NOWHERE;
+        if !first {
+            self.put(last.end, part.first);
+        }
+        if !first && self.joins(task.step, &last, part) {
+            self.lead(own, part.first);
+        } else {
+            let blank = !first && self.parts_items(&last, part);
+            let gap = if blank {
+                Gap::Blank(task.indent)
+            } else {
+                Gap::Line(task.indent)
+            };
+            self.break_line(part.first, gap, task.indent);
+        }
+        self.push(task.step, task, part.next, task.child);
+        let comma = part.end < own.until && self.atom(part.end).ends_part();
+        self.lay(task.child, task.indent, comma as usize);
+    }
+
+    /// Returns whether a part goes on with the line of the one before it.
+    fn joins(&self, step: Step, last: &Node, part: &Node) -> bool {
+        let may = match step {
+            Step::Fill => true,
+            Step::Import => !self.is_path(part) && !self.is_path(last),
+            _ => false,
+        };
+        may && self.fits(part, 2)
+    }
+
+    /// Returns whether a part of an import is a path.
+    fn is_path(&self, part: &Node) -> bool {
+        self.find_role(part.first, part.end, Role::Path) < part.end
+    }
+
+    /// Returns whether an empty line is between two parts: between two items, if one of them has several lines or the
+    /// second has an attribute.
+    pub fn parts_items(&self, last: &Node, next: &Node) -> bool {
+        let tall = self.is_tall(last.first, last.end) || self.is_tall(next.first, next.end);
+        self.is_item(last) && (self.atom(next.first).is_mark('#') || tall && self.is_item(next))
+    }
+
+    /// Returns whether the part is an item.
+    fn is_item(&self, part: &Node) -> bool {
+        let first = self.atom(part.first);
+        let statement = matches!(
+            first.kind,
+            Kind::Word(
+                Word::Let
+                    | Word::If
+                    | Word::For
+                    | Word::While
+                    | Word::Loop
+                    | Word::Match
+                    | Word::Return
+            )
+        );
+        let ends = self.atom(part.end).is_mark(';') || self.previous(part.end).is_brace();
+        first.is_keyword() && !statement && ends
+    }
+
+    /// Lays out an item: its head on one line if it fits, and otherwise its parameters on lines.
+    pub fn lay_item(&mut self, task: Task, own: &Node) {
+        let body = self.node(own.from).form == Form::Group;
+        if self.fit(own.first, own.until, if body { 2 } else { 0 }) {
+            self.put(own.first, own.until);
+            self.push(Step::Next, task, own.from, own.until);
+        } else {
+            self.push(Step::Broken, task, own.child, own.first);
+        }
+    }
+
+    /// Writes the next child of an item.
+    pub fn next_of_item(&mut self, task: Task, own: &Node, child: &Node) {
+        let atom = *self.atom(child.first);
+        if child.form == Form::Bounds {
+            // The bounds go on after parameters on lines.
+            let shut = task.step == Step::Broken && self.line.is_shut;
+            self.reach(task, own, child, !shut);
+            self.put(child.first, child.from);
+            self.leave(Step::Apart, task, child);
+            return self.push_parts(Step::Part, task, task.child);
+        }
+        if child.first >= own.until {
+            return self.next_body(task, own, child, &atom);
+        }
+        let impls = own.form == Form::Impl;
+        let tail = self.tail_of(task, own, child);
+        let below = deeper(task.indent);
+        self.write(own, task.at, child.first);
+        self.lead(own, child.first);
+        let colon = self.previous(child.first).role == Role::Colon;
+        let wide = impls && atom.role != Role::Less && !self.fits(child, tail);
+        if colon || wide {
+            self.begin_line(child.first, below);
+        }
+        let step = if colon || impls {
+            Step::Apart
+        } else {
+            Step::Broken
+        };
+        self.leave(step, task, child);
+        if atom.role == Role::Params {
+            return self.lay_lines(task.child, task.indent);
+        }
+        let indent = if impls { below } else { task.indent };
+        self.lay(task.child, indent, tail);
+    }
+
+    /// Writes the body of an item. An empty one after a head of several lines has two lines.
+    fn next_body(&mut self, task: Task, own: &Node, child: &Node, brace: &Atom) {
+        let width = self.rest(task.at, child.first).saturating_add(2);
+        let full = self.line.column.saturating_add(width) > WIDTH;
+        self.reach(task, own, child, task.step == Step::Apart || full);
+        self.leave(Step::Next, task, child);
+        if task.step != Step::Next && !brace.is_full() {
+            self.put_mark();
+            return self.close(child, task.indent);
+        }
+        self.lay(task.child, task.indent, 0);
+    }
+}

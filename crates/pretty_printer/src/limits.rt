@@ -1,0 +1,272 @@
+//! Measures from the inside out: widths on one line, and what needs several lines. rustfmt's limits are here.
+use crate::atoms::{Atom, Role};
+use crate::parts::SHORT;
+use crate::tree::{Form, NO_HEAD, NOWHERE, Node, Tree};
+use crate::words::Word;
+use layout::Gap;
+
+/// The largest width in characters on one line of a chain of calls, and of arguments.
+pub const CALL: usize = 60;
+
+/// The largest width of the arguments of an attribute.
+const META: usize = 70;
+
+/// The largest width of an `if` whose value is used.
+const BRANCHES: usize = 50;
+
+/// The largest width of the fields of a struct literal.
+const FIELDS: usize = 18;
+
+/// The width from which the name of a call is long: a chain as its only argument begins on the next line.
+const NAME: usize = 4;
+
+impl Tree {
+    /// Ends a node before `end`, and measures it.
+    pub fn finish(&mut self, index: usize, end: usize) {
+        let mut own = *self.node(index);
+        own.end = end;
+        let chain = own.form == Form::Chain && self.node(own.child).next != own.last;
+        let wide = chain && self.width(own.first, end) > CALL;
+        own.must = own.must || wide || self.is_tall(own.first, end);
+        if own.form == Form::Leaf && own.child != NOWHERE {
+            own.form = Form::Plain;
+        }
+        own.head = self.head_of(&own, self.node(own.last));
+        if let Some(node) = self.nodes.get_mut(index) {
+            *node = own;
+        }
+    }
+
+    /// Returns the width of the first line of a node with this last child, or `NO_HEAD`.
+    fn head_of(&self, own: &Node, last: &Node) -> usize {
+        let opener = match own.form {
+            Form::Control => self.node(self.block_of(own.child)),
+            _ => last,
+        };
+        let head = match own.form {
+            Form::Plain | Form::Chain => last.head,
+            Form::Closure if self.has_block(last) => last.head,
+            Form::Control if opener.form == Form::Group => 1,
+            _ => NO_HEAD,
+        };
+        if own.child == NOWHERE || head == NO_HEAD || self.is_tall(own.first, opener.first) {
+            return NO_HEAD;
+        }
+        self.distance(own.first, opener.first).saturating_add(head)
+    }
+
+    /// Returns the first block from this child on. A condition, and a pattern and a list of `for`, come before it.
+    fn block_of(&self, child: usize) -> usize {
+        let mut block = child;
+        for _ in 0..2 {
+            if self.node(block).form != Form::Group {
+                block = self.node(block).next;
+            }
+        }
+        block
+    }
+
+    /// Returns whether the body of a closure begins on the line of its parameters: it is a block, or ends with one.
+    fn has_block(&self, body: &Node) -> bool {
+        let first = self.atom(body.first);
+        match body.form {
+            Form::Group | Form::Plain => self.previous(body.end).is_brace(),
+            Form::Closure => body.head != NO_HEAD,
+            Form::Control => first.is_word(Word::Match) || first.is_word(Word::Loop),
+            _ => false,
+        }
+    }
+
+    /// Sets the offset of each atom in the list on one line. All its groups are measured.
+    pub fn place(&mut self, first: usize, end: usize) {
+        if !self.place_atoms(first, end) {
+            return;
+        }
+        let mut changed = false;
+        // An `if` in a branch of another ends where that one does, and is not wider.
+        let mut past = first;
+        for index in first..end {
+            if index >= past && self.atom(index).role == Role::Choice {
+                past = self.choice_end(index, end);
+                changed = self.spread(index, past) || changed;
+            }
+        }
+        if changed {
+            self.place_atoms(first, end);
+        }
+    }
+
+    /// Sets the offsets. Returns whether an `if` whose value is used begins in the list.
+    fn place_atoms(&mut self, first: usize, end: usize) -> bool {
+        let mut offset: usize = 0;
+        let mut tall: usize = 0;
+        let mut choices = false;
+        for index in first..end {
+            if let Some(own) = self.atoms.get_mut(index) {
+                choices = choices || own.role == Role::Choice;
+                let space = (index > first && own.is_spaced()) as usize;
+                own.offset = offset.saturating_add(space);
+                own.tall_before = tall;
+                offset = own.offset.saturating_add(own.width);
+                tall = tall.saturating_add(own.tall as usize);
+            }
+        }
+        choices
+    }
+
+    /// Returns the index after the branches of the `if` at this index.
+    fn choice_end(&self, index: usize, end: usize) -> usize {
+        for later in index..end {
+            if self.atom(later).is_body() && !self.next(later).is_word(Word::Else) {
+                return later.saturating_add(1);
+            }
+        }
+        end
+    }
+
+    /// Makes blocks of the branches of the `if` in `index..past`, if they are too wide for one line. Returns whether it
+    /// did.
+    fn spread(&mut self, index: usize, past: usize) -> bool {
+        // The semicolon of `let` counts too.
+        let more = self.atom(index).is_word(Word::Let) as usize;
+        let width = self.width(index, past).saturating_add(more);
+        if !self.is_tall(index, past) && width <= BRANCHES {
+            return false;
+        }
+        for later in index..past {
+            if let Some(own) = self.atoms.get_mut(later) {
+                if own.role == Role::Branch {
+                    own.role = Role::Block;
+                    own.tall = own.tall || own.is_full();
+                }
+            }
+        }
+        true
+    }
+
+    /// Reads the parts of a group, and measures it. The groups inside it are measured.
+    pub fn measure_group(&mut self, group: usize) {
+        let own = *self.node(group);
+        let atom = *self.atom(own.first);
+        if own.from >= own.until {
+            return;
+        }
+        self.place(own.from, own.until);
+        self.read_parts(group, atom.is_brace());
+        let own = *self.node(group);
+        let padded = atom.is_brace() && atom.role != Role::Use && !self.is_doubled(&own);
+        let gap = if padded { Gap::Space } else { Gap::Nothing };
+        let inner = self.width(own.from, own.until);
+        let must = self.needs_lines(&own, &atom, inner);
+        let inside = if must || inner > SHORT {
+            self.head_inside(&own)
+        } else {
+            NO_HEAD
+        };
+        let closed = matches!(atom.role, Role::Repeated | Role::Params);
+        if let Some(atom) = self.atoms.get_mut(own.first) {
+            atom.width = inner.saturating_add(if padded { 4 } else { 2 });
+            atom.tall = must;
+        }
+        self.set_gap(own.from, gap);
+        self.set_gap(own.until, gap);
+        if let Some(node) = self.nodes.get_mut(group) {
+            node.must = must;
+            node.head = match inside {
+                NO_HEAD if closed => NO_HEAD,
+                NO_HEAD => 1,
+                _ => inside.saturating_add(1),
+            };
+        }
+    }
+
+    /// Returns whether a group is braces with only braces inside, after `=>`.
+    pub fn is_doubled(&self, own: &Node) -> bool {
+        let inner = self.atom(own.from);
+        let only = own.until == own.from.saturating_add(1) && inner.is_full();
+        only && inner.is_brace() && self.previous(own.first).role == Role::Arm
+    }
+
+    /// Returns whether a group whose parts are read needs several lines. `inner` is the width of its list.
+    fn needs_lines(&self, own: &Node, atom: &Atom, inner: usize) -> bool {
+        let comma = self.previous(own.until).is_mark(',');
+        let single = own.child == own.last;
+        let loose = matches!(atom.role, Role::Repeated | Role::Attribute | Role::Meta)
+            || atom.role == Role::Tuple && single
+            || self.previous(own.first).role == Role::Bang;
+        own.must
+            || matches!(atom.role, Role::Block | Role::Inner | Role::Variants)
+            || self.is_tall(own.from, own.until)
+            || comma && !loose
+            || inner > FIELDS
+                && inner.saturating_sub(comma as usize) > self.limit(own, atom, single)
+    }
+
+    /// Returns the largest width of the list of a group on one line.
+    fn limit(&self, own: &Node, atom: &Atom, single: bool) -> usize {
+        let previous = self.previous(own.first);
+        let next = self.atom(own.end);
+        let pattern = next.role == Role::Arm
+            || next.is_mark('=')
+            || next.is_mark('|')
+            || next.is_word(Word::If)
+            || previous.is_word(Word::Let);
+        let index = !atom.is_round() && previous.is_value();
+        match atom.role {
+            Role::Fields => FIELDS,
+            Role::Meta if !single => META,
+            Role::Plain | Role::Tuple if !(single || pattern || index) => CALL,
+            _ => usize::MAX,
+        }
+    }
+
+    /// Returns the width of the first line inside a group if its last part goes on over the next lines, or `NO_HEAD`.
+    pub fn head_inside(&self, own: &Node) -> usize {
+        let atom = self.atom(own.first);
+        let value = self.node(own.last);
+        let bang = self.previous(own.first).role == Role::Bang;
+        let comma = self.previous(own.until).role == Role::Comma && !bang;
+        let closed = matches!(atom.role, Role::Repeated | Role::Params | Role::Attribute);
+        let open = atom.is_list() && !closed && !comma;
+        if !open || self.is_tall(own.from, value.first) {
+            return NO_HEAD;
+        }
+        let before = self.distance(own.from, value.first);
+        let block = value.form == Form::Group && self.atom(value.first).is_brace();
+        if own.last != own.child {
+            // Of several parts only a block or a closure goes on.
+            return if block || value.form == Form::Closure {
+                within(before, value.head)
+            } else {
+                NO_HEAD
+            };
+        }
+        let single = atom.role == Role::Tuple;
+        let named = bang || !single && self.name_width(own.first) < NAME;
+        let several = self.node(self.node(value.child).next).next != NOWHERE;
+        if value.form == Form::Chain && several && named && atom.is_round() || single && value.head == NO_HEAD {
+            return 0;
+        }
+        if single { value.head } else { within(0, value.head) }
+    }
+
+    /// Returns the width of the name of a call, at most about `NAME`.
+    fn name_width(&self, group: usize) -> usize {
+        let mut width: usize = 0;
+        for passed in 1..group {
+            let own = self.atom(group.saturating_sub(passed));
+            let mark = matches!(own.role, Role::Path | Role::Bang | Role::Greater);
+            if !(own.is_name() || mark) || width >= NAME {
+                break;
+            }
+            width = width.saturating_add(own.width);
+        }
+        width
+    }
+}
+
+/// Returns the width of a first line, or `NO_HEAD` if it is larger than arguments may have.
+fn within(before: usize, head: usize) -> usize {
+    let width = before.saturating_add(head);
+    if width > CALL { NO_HEAD } else { width }
+}

@@ -1,0 +1,175 @@
+//! Reads the trees of a list as atoms.
+use crate::atoms::{Atom, Kind, NOTHING, Role, Sign};
+use crate::tree::{Form, Tree};
+use crate::words::{Word, word_of};
+use pm_token::parts::{is_raw, name_of};
+use proc_macro2::{Delimiter, Ident, Spacing, TokenTree};
+use std::alloc::AllocError;
+
+/// A group whose atoms are not read yet.
+#[derive(Clone, Copy)]
+pub struct Unread<'a> {
+    /// The index of its node.
+    pub node: usize,
+    pub trees: &'a [TokenTree],
+}
+
+/// Adds the atoms of these trees at the end of the atoms, and their groups at the end of the groups.
+pub fn push_list<'a>(
+    tree: &mut Tree,
+    groups: &mut Vec<Unread<'a>>,
+    trees: &'a [TokenTree],
+) -> Result<(), AllocError> {
+    let mut passed: usize = 0;
+    for index in 0..trees.len() {
+        if passed > 0 {
+            passed -= 1;
+            continue;
+        }
+        let atom = match trees.get(index) {
+            Some(TokenTree::Group(group)) => {
+                let own = tree.atoms.len();
+                let node = tree.push_node(Form::Group, own, own.saturating_add(1));
+                let trees = group.stream_ref().trees();
+                groups.push(Unread { node, trees })?;
+                group_atom(group.delimiter(), node, trees)
+            }
+            Some(TokenTree::Ident(ident)) => name_atom(ident),
+            Some(TokenTree::Literal(literal)) => literal_atom(literal.text()),
+            Some(TokenTree::Punct(punct)) => mark_atom(punct.as_char(), trees, index),
+            None => break,
+        };
+        passed = atom.tokens().saturating_sub(1);
+        tree.atoms.push(atom)?;
+    }
+    // The gap of the atom after a list is that before its closer.
+    tree.atoms.push(NOTHING)?;
+    Ok(())
+}
+
+/// Returns the atom of an identifier.
+fn name_atom(ident: &Ident) -> Atom {
+    let word = if is_raw(ident) {
+        Word::Name
+    } else {
+        word_of(name_of(ident))
+    };
+    Atom::new(Kind::Word(word), width_of(ident))
+}
+
+/// Returns the atom of a group with these trees, which has this node.
+fn group_atom(delimiter: Delimiter, node: usize, trees: &[TokenTree]) -> Atom {
+    let mut atom = Atom::new(Kind::Group(delimiter), 2);
+    atom.node = node;
+    // Only braces need it.
+    if delimiter == Delimiter::Brace && has_statements(trees) {
+        atom.role = Role::Block;
+    }
+    atom
+}
+
+/// Returns whether `;` or `=>` is among the trees.
+fn has_statements(trees: &[TokenTree]) -> bool {
+    for index in 0..trees.len() {
+        match mark_at(trees, index) {
+            Some(';') => return true,
+            Some('=') if next_mark(trees, index) == Some('>') => return true,
+            _ => {}
+        }
+    }
+    false
+}
+
+/// Returns the atom of a literal with this text. It needs several lines if its text has several.
+fn literal_atom(text: &str) -> Atom {
+    let word = if text.starts_with("\"") {
+        Word::String
+    } else {
+        Word::Literal
+    };
+    let (line, tall) = match text.split_once('\n') {
+        Some((line, _)) => (line, true),
+        None => (text, false),
+    };
+    let mut atom = Atom::new(Kind::Word(word), char_count(line));
+    atom.tall = tall;
+    atom
+}
+
+/// Returns the number of characters of a text.
+fn char_count(text: &str) -> usize {
+    // Most texts are ASCII, where each byte is a character.
+    if text.is_ascii() {
+        text.len()
+    } else {
+        text.chars().count()
+    }
+}
+
+/// Returns the number of characters of an identifier.
+fn width_of(ident: &Ident) -> usize {
+    let front: usize = if is_raw(ident) { 2 } else { 0 };
+    char_count(name_of(ident)).saturating_add(front)
+}
+
+/// Returns the atom of the lifetime or the operator that begins with this mark, which is the tree at this index.
+#[inline(always)]
+fn mark_atom(mark: char, trees: &[TokenTree], index: usize) -> Atom {
+    let next = index.saturating_add(1);
+    if mark == '\'' {
+        if let Some(TokenTree::Ident(ident)) = trees.get(next) {
+            let width = width_of(ident).saturating_add(1);
+            return Atom::new(Kind::Word(Word::Lifetime), width);
+        }
+    }
+    let (sign, width) = operator(mark, trees, index);
+    let mut atom = Atom::new(Kind::Sign(sign), width);
+    atom.glued = is_joint(trees, index.saturating_add(width).saturating_sub(1));
+    atom
+}
+
+/// Returns the operator that begins with this mark, which is the tree at this index, and the number of its marks.
+fn operator(first: char, trees: &[TokenTree], index: usize) -> (Sign, usize) {
+    let Some(second) = next_mark(trees, index) else {
+        return (Sign::One(first), 1);
+    };
+    match (first, second) {
+        ('.', '.') => match next_mark(trees, index.saturating_add(1)) {
+            Some('.' | '=') => (Sign::Range, 3),
+            _ => (Sign::Range, 2),
+        },
+        (':', ':') => (Sign::Path, 2),
+        ('-', '>') => (Sign::Arrow, 2),
+        ('=', '>') => (Sign::Arm, 2),
+        ('&', '&') => (Sign::And, 2),
+        ('|', '|') => (Sign::Or, 2),
+        ('=' | '!' | '<' | '>', '=') => (Sign::Compare, 2),
+        ('+' | '-' | '*' | '/' | '%' | '^' | '&' | '|', '=') => (Sign::Assign, 2),
+        _ => (Sign::One(first), 1),
+    }
+}
+
+/// Returns the mark after the one at this index, if an operator may go on with it.
+fn next_mark(trees: &[TokenTree], index: usize) -> Option<char> {
+    if is_joint(trees, index) {
+        mark_at(trees, index.saturating_add(1))
+    } else {
+        None
+    }
+}
+
+/// Returns the mark at this index, if an operator may go on with it.
+fn mark_at(trees: &[TokenTree], index: usize) -> Option<char> {
+    match trees.get(index) {
+        Some(TokenTree::Punct(punct)) if punct.as_char() != '\'' => Some(punct.as_char()),
+        _ => None,
+    }
+}
+
+/// Returns whether a Joint mark is at this index.
+fn is_joint(trees: &[TokenTree], index: usize) -> bool {
+    match trees.get(index) {
+        Some(TokenTree::Punct(punct)) => punct.spacing() == Spacing::Joint,
+        _ => false,
+    }
+}

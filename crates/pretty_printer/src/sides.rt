@@ -1,0 +1,191 @@
+//! Breaks the lines of chains and operators, of what has a left and a right side, and of control flow.
+use crate::atoms::{Kind, Role, Sign};
+use crate::limits::CALL;
+use crate::lines::{Step, TAB, Task, WIDTH, deeper};
+use crate::tree::{Form, NO_HEAD, NOWHERE, Node, Tree};
+use crate::words::Word;
+
+/// The number of columns of ` else {`.
+const ELSE: usize = 7;
+
+/// The number of columns of ` => {`.
+const ARM: usize = 5;
+
+/// The largest width of a pattern if several patterns share a line.
+const PATTERN: usize = 20;
+
+impl Tree {
+    /// Lays out a chain that is not on one line.
+    pub fn lay_chain(&mut self, task: Task, own: &Node) {
+        let call = *self.node(own.last);
+        if self.last_goes_on(task, own, &call) {
+            self.put(own.first, call.first);
+            return self.lay(own.last, task.indent, task.tail);
+        }
+        // The calls of a short root that begins a line are on its line.
+        let mut joined = own.child;
+        for _ in own.first..own.end {
+            let next = self.node(joined).next;
+            let before = self.distance(own.first, self.node(next).first);
+            if !self.line.is_fresh || joined == own.last || before > TAB {
+                break;
+            }
+            joined = next;
+        }
+        let root = *self.node(joined);
+        self.put(own.first, root.first);
+        self.leave(Step::Next, task, &root);
+        let tail = if joined == own.last { task.tail } else { 0 };
+        self.lay(joined, task.indent, tail);
+    }
+
+    /// Returns whether all but the last call of a chain is on this line, and the last call begins there.
+    fn last_goes_on(&self, task: Task, own: &Node, call: &Node) -> bool {
+        let before = self.distance(own.first, call.first);
+        let width = self.width(call.first, call.end);
+        let room = WIDTH.saturating_sub(self.line.column.saturating_add(task.tail));
+        let several = self.node(own.child).next != own.last;
+        let room = if several { room.min(CALL) } else { room };
+        let alone = deeper(task.indent).saturating_add(width);
+        let fits_alone = !call.must && alone.saturating_add(task.tail) <= WIDTH;
+        let fits = before.saturating_add(width) <= room;
+        let head = call.head != NO_HEAD && before.saturating_add(call.head) <= room;
+        !self.is_tall(own.first, call.first) && (fits || head && !fits_alone)
+    }
+
+    /// Writes the next call of a chain on its own line, which is deeper unless a line of closers ends the root.
+    pub fn next_call(&mut self, task: Task, own: &Node, child: &Node) {
+        let mut rest = task;
+        if task.step == Step::Next && !self.line.is_shut {
+            rest.indent = deeper(task.indent);
+        }
+        self.begin_line(child.first, rest.indent);
+        self.leave(Step::Line, rest, child);
+        let tail = if child.end == own.end { task.tail } else { 0 };
+        self.lay(task.child, rest.indent, tail);
+    }
+
+    /// Writes the next operand, with its operator at the beginning of a line. Lines of patterns are not deeper.
+    pub fn next_operand(&mut self, task: Task, own: &Node, child: &Node) {
+        let fills = task.step == Step::Fill && self.fit(task.at, child.end, ARM.saturating_add(1));
+        let pattern = matches!(task.step, Step::Line | Step::Fill);
+        let inner = if pattern {
+            task.indent
+        } else {
+            deeper(task.indent)
+        };
+        self.leave(task.step, task, child);
+        if child.first == own.first {
+            return self.lay(task.child, task.indent, task.tail);
+        }
+        if fills {
+            self.lead(own, task.at);
+        } else {
+            self.begin_line(task.at, inner);
+        }
+        self.put(task.at, child.first);
+        self.lead(own, child.first);
+        self.lay(task.child, inner, task.tail);
+    }
+
+    /// Writes the next side of an assignment or a `let`, or the block after `else`.
+    pub fn next_side(&mut self, task: Task, own: &Node, child: &Node) {
+        let word = child.first.saturating_sub(1);
+        let before = self.atom(word);
+        let equals = before.is_mark('=') || matches!(before.kind, Kind::Sign(Sign::Assign));
+        if before.is_word(Word::Else) && task.step == Step::Broken && !self.line.is_shut {
+            self.begin_line(word, task.indent);
+            self.put(word, child.first);
+        } else {
+            self.write(own, task.at, child.first);
+        }
+        self.lead(own, child.first);
+        if equals && child.first > own.first {
+            return self.lay_value(task, own, child);
+        }
+        let tail = self.tail_of(task, own, child);
+        self.leave(Step::Next, task, child);
+        self.lay(task.child, task.indent, tail);
+    }
+
+    /// Writes the right side of `=` on this line, or on the next if it fits there. Closures and blocks stay.
+    fn lay_value(&mut self, task: Task, own: &Node, child: &Node) {
+        let tail = if child.next == NOWHERE {
+            self.tail_of(task, own, child)
+        } else {
+            ELSE
+        };
+        if self.fits(child, tail) {
+            self.put(child.first, child.end);
+            return self.leave(Step::Next, task, child);
+        }
+        self.leave(Step::Broken, task, child);
+        let below = deeper(task.indent);
+        let closure = child.form == Form::Closure && child.head != NO_HEAD;
+        let stays = closure || self.atom(child.first).is_word(Word::Prefix);
+        let width = self.width(child.first, child.end).saturating_add(tail);
+        let fits = !child.must && below.saturating_add(width) <= WIDTH;
+        if below < self.line.column && fits && !stays {
+            self.begin_line(child.first, below);
+            return self.lay(task.child, below, tail);
+        }
+        self.lay(task.child, task.indent, tail);
+    }
+
+    /// Writes the next condition or block of an `if`, a `match` or a loop.
+    pub fn next_of_control(&mut self, task: Task, own: &Node, child: &Node) {
+        let block = child.form == Form::Group && self.atom(child.first).is_brace();
+        let line = block && task.step == Step::Broken && !self.line.is_shut;
+        self.reach(task, own, child, line);
+        let step = if block || self.fits(child, 2) {
+            Step::Next
+        } else {
+            Step::Broken
+        };
+        self.leave(step, task, child);
+        let tail = if child.next == NOWHERE { task.tail } else { 0 };
+        self.lay(task.child, task.indent, tail);
+    }
+
+    /// Lays out an arm that is not on one line, with each of its patterns on its own line if they do not fit.
+    pub fn lay_arm(&mut self, task: Task, own: &Node) {
+        let pattern = *self.node(own.child);
+        let bar = self.node(pattern.child).end;
+        let bars = pattern.form == Form::Operators && self.atom(bar).is_mark('|');
+        if !bars || self.fits(&pattern, ARM) {
+            self.leave(Step::Next, task, &pattern);
+            return self.lay(own.child, task.indent, 3);
+        }
+        self.leave(Step::Broken, task, &pattern);
+        let mut patterns = task;
+        patterns.node = own.child;
+        patterns.tail = 3;
+        let short = self.are_short(pattern.first, pattern.end, Role::Between, PATTERN);
+        let step = if short { Step::Fill } else { Step::Line };
+        self.push(step, patterns, pattern.child, pattern.first);
+    }
+
+    /// Writes the guard or the body of an arm. A guard that does not fit begins a line, and so does the block after it.
+    pub fn next_of_arm(&mut self, task: Task, own: &Node, child: &Node) {
+        let guard = self.previous(child.first).is_word(Word::If);
+        if !guard {
+            let block = child.form == Form::Group && self.atom(child.first).is_full();
+            self.reach(task, own, child, task.step == Step::Apart && block);
+            let tail = self.tail_of(task, own, child);
+            self.leave(Step::Next, task, child);
+            return self.lay(task.child, task.indent, tail);
+        }
+        let width = self.rest(task.at, child.end).saturating_add(ARM);
+        let fits = !child.must && self.line.column.saturating_add(width) <= WIDTH;
+        if fits && task.step == Step::Next {
+            self.write(own, task.at, child.end);
+            return self.leave(Step::Next, task, child);
+        }
+        let indent = deeper(task.indent);
+        self.begin_line(task.at, indent);
+        self.put(task.at, child.first);
+        self.lead(own, child.first);
+        self.leave(Step::Apart, task, child);
+        self.lay(task.child, indent, ARM);
+    }
+}

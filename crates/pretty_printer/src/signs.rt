@@ -1,0 +1,215 @@
+//! Pairs angles, gives operators their roles, and chooses the spaces of a line.
+use crate::atoms::{Atom, Kind, Role, Sign};
+use crate::roles::{Head, NO_START, State};
+use crate::tree::Tree;
+use crate::words::Word;
+
+/// Pairs the `<` at this index and those after it with the `>` that end types.
+pub fn pair_angles(tree: &mut Tree, index: usize, end: usize) {
+    tree.angles.clear();
+    for later in index..end {
+        let next = tree.atom(later);
+        if next.is_mark('<') {
+            let pushed = tree.angles.push(later);
+            tree.check(pushed);
+        } else if next.is_mark('>') {
+            if let Some(matched) = tree.angles.pop() {
+                tree.set_role(matched, Role::Less);
+            }
+            tree.set_role(later, Role::Greater);
+        } else if ends_types(next, tree.previous(later)) {
+            break;
+        }
+        if tree.angles.is_empty() {
+            break;
+        }
+    }
+    for _ in 0..tree.angles.len() {
+        if let Some(unmatched) = tree.angles.pop() {
+            tree.set_role(unmatched, Role::Between);
+        }
+    }
+}
+
+/// Returns whether no type goes on with the atom after this one.
+fn ends_types(atom: &Atom, previous: &Atom) -> bool {
+    match atom.kind {
+        Kind::Word(word) => matches!(
+            word,
+            Word::String | Word::If | Word::Let | Word::Match | Word::Else
+        ),
+        // Braces may be an argument, as in `f::<{ N }>()`.
+        Kind::Group(_) => {
+            atom.is_brace() && !matches!(previous.kind, Kind::Sign(Sign::One('<' | ',' | '=')))
+        }
+        Kind::Sign(sign) => match sign {
+            Sign::Path | Sign::Arrow => false,
+            Sign::One('-') => !matches!(previous.kind, Kind::Sign(Sign::One('<' | ','))),
+            Sign::One(mark) => !matches!(
+                mark,
+                ',' | '&' | ':' | '=' | '+' | '?' | '*' | '!' | '$' | '#' | '\''
+            ),
+            _ => true,
+        },
+        Kind::Nothing => true,
+    }
+}
+
+impl State {
+    /// Returns the role of an operator at this index between these atoms. `role` is the one that it has as an angle.
+    pub fn sign_role(
+        &mut self,
+        sign: Sign,
+        role: Role,
+        previous: &Atom,
+        next: &Atom,
+        index: usize,
+    ) -> Role {
+        let mark = match sign {
+            Sign::One(mark) => mark,
+            _ => ' ',
+        };
+        let comma_ends = mark == ',' && self.depth == 0 && !self.is_in_item();
+        if mark == ';' || matches!(sign, Sign::Arm) || comma_ends {
+            self.head = Head::Nothing;
+            self.outer = 0;
+            if self.start < NO_START {
+                self.start = index.saturating_add(1);
+            }
+        }
+        if previous.role == Role::Repeated || previous.role == Role::Separator {
+            match mark {
+                '*' | '+' | '?' => return Role::After,
+                ',' | ';' | '|' => return Role::Separator,
+                _ => {}
+            }
+        }
+        let value = previous.is_value() && !(index == self.start && previous.is_brace());
+        match sign {
+            Sign::One('!') => bang_role(previous, next, value),
+            Sign::One('|') | Sign::Or => self.bar_role(mark, value),
+            _ if role != Role::Plain => role,
+            _ => plain_role(sign, value),
+        }
+    }
+
+    /// Returns the role of `|` or `||`.
+    fn bar_role(&mut self, mark: char, value: bool) -> Role {
+        let closes = mark == '|' && self.in_bars;
+        let found = if closes || !value && mark != '|' {
+            Role::BarClose
+        } else if value {
+            Role::Between
+        } else {
+            Role::BarOpen
+        };
+        self.in_bars = found == Role::BarOpen;
+        found
+    }
+}
+
+/// Returns the role of `!`.
+fn bang_role(previous: &Atom, next: &Atom, value: bool) -> Role {
+    let called = previous.is_any_word() && value && !next.is_sign();
+    if previous.is_mark('#') {
+        Role::Hash
+    } else if called || previous.is_word(Word::MacroRules) {
+        Role::Bang
+    } else if matches!(previous.kind, Kind::Sign(Sign::Arrow)) {
+        // It is a type.
+        Role::Plain
+    } else {
+        Role::Before
+    }
+}
+
+/// Returns the role of any other operator.
+fn plain_role(sign: Sign, value: bool) -> Role {
+    match sign {
+        Sign::Path => Role::Path,
+        Sign::Range => Role::Range,
+        Sign::Arm => Role::Arm,
+        Sign::And => side(value),
+        Sign::One(c) => match c {
+            ':' => Role::Colon,
+            ',' => Role::Comma,
+            ';' => Role::Semicolon,
+            '.' => Role::Dot,
+            '#' => Role::Hash,
+            '$' | '~' => Role::Before,
+            '?' if value => Role::After,
+            '-' | '*' | '&' | '@' | '?' => side(value),
+            _ => Role::Between,
+        },
+        _ => Role::Between,
+    }
+}
+
+/// Returns the role of an operator that has two operands after a value.
+fn side(value: bool) -> Role {
+    if value { Role::Between } else { Role::Before }
+}
+
+/// Returns whether a space should be before the atom `next` at this index, which gets this role. The atom is not the
+/// first of its list.
+#[inline(always)]
+pub fn wants_space(tree: &Tree, index: usize, previous: &Atom, next: &Atom, role: Role) -> bool {
+    if previous.glued || next.is_sign() && is_close(role, next) {
+        return false;
+    }
+    if previous.is_sign() && previous.role != Role::Greater && previous.role != Role::After {
+        return is_wide(tree, index, previous, next);
+    }
+    if next.is_sign() && matches!(role, Role::Path | Role::Range | Role::Less) {
+        let opens = matches!(previous.kind, Kind::Word(Word::Impl | Word::For | Word::Fn));
+        return previous.is_keyword() && !(opens && role == Role::Less);
+    }
+    !next.is_list() || is_apart(previous, next)
+}
+
+/// Returns whether an operator with this role touches what is before it.
+fn is_close(role: Role, own: &Atom) -> bool {
+    match role {
+        Role::Comma
+        | Role::Semicolon
+        | Role::Dot
+        | Role::Colon
+        | Role::Greater
+        | Role::Bang
+        | Role::After
+        | Role::Separator => true,
+        Role::BarClose => own.is_mark('|'),
+        _ => false,
+    }
+}
+
+/// Returns whether a space follows an operator.
+fn is_wide(tree: &Tree, index: usize, previous: &Atom, next: &Atom) -> bool {
+    match previous.role {
+        Role::Colon => {
+            let dollar = tree.atom(index.saturating_sub(3));
+            !(dollar.is_mark('$') && next.is_word(Word::Fragment))
+        }
+        Role::Before
+        | Role::Path
+        | Role::Less
+        | Role::Hash
+        | Role::Dot
+        | Role::Range
+        | Role::BarOpen
+        | Role::Separator => false,
+        Role::Bang => !next.is_list(),
+        _ => true,
+    }
+}
+
+/// Returns whether a space is between an atom and the parentheses or brackets after it.
+fn is_apart(previous: &Atom, next: &Atom) -> bool {
+    match previous.kind {
+        Kind::Word(Word::Pub) => !next.is_round(),
+        Kind::Word(Word::Fn | Word::Await | Word::MacroRules) => false,
+        Kind::Word(Word::Lifetime) => true,
+        Kind::Word(_) => previous.is_keyword(),
+        _ => previous.is_brace() || previous.role == Role::Attribute,
+    }
+}
