@@ -84,8 +84,6 @@ pub enum Role {
     Block,
     /// The block of an `if`, a `match` or a loop in the head of another.
     Inner,
-    /// The variants of an enum.
-    Variants,
     /// The fields of a struct literal or of a variant.
     Fields,
     /// Any other braces.
@@ -101,7 +99,7 @@ pub struct Atom {
     pub offset: usize,
     /// The number of atoms before it in its list that need several lines.
     pub tall_before: usize,
-    /// Of a group: the index of its node.
+    /// Of a group: the index of its node. Of `<` around types: that of its `>`.
     pub node: usize,
     /// The gap before it: at first that on one line, and that in the text once lines are broken.
     pub gap: Gap,
@@ -111,6 +109,8 @@ pub struct Atom {
     pub glued: bool,
     /// Whether it needs several lines.
     pub tall: bool,
+    /// Whether a statement, an item or an arm of a list in braces ends with it.
+    pub ends: bool,
 }
 
 /// No atom.
@@ -124,6 +124,7 @@ pub static NOTHING: Atom = Atom {
     role: Role::Plain,
     glued: false,
     tall: false,
+    ends: false,
 };
 
 impl Atom {
@@ -190,7 +191,7 @@ impl Atom {
 
     /// Whether it is the braces of an item, or of a head such as `if a`.
     pub fn is_body(&self) -> bool {
-        matches!(self.role, Role::Block | Role::Inner | Role::Variants | Role::Branch)
+        matches!(self.role, Role::Block | Role::Inner | Role::Branch)
     }
 
     /// Whether a space is before it on one line.

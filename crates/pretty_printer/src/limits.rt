@@ -195,7 +195,7 @@ impl Tree {
             || atom.role == Role::Tuple && single
             || self.previous(own.first).role == Role::Bang;
         own.must
-            || matches!(atom.role, Role::Block | Role::Inner | Role::Variants)
+            || matches!(atom.role, Role::Block | Role::Inner)
             || self.is_tall(own.from, own.until)
             || comma && !loose
             || inner > FIELDS

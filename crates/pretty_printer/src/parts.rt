@@ -1,7 +1,7 @@
 //! Reads the parts of lists: statements, items, arms, fields and arguments.
 ghost use Rattle.std.specs.Prelude.{◌<◌, ◌≤◌};
 
-use crate::atoms::{Atom, Kind, Role};
+use crate::atoms::{Kind, Role};
 use crate::tree::{Form, NOWHERE, Tree};
 use crate::words::Word;
 
@@ -45,75 +45,62 @@ impl Tree {
         }
     }
 
-    /// Returns the index after the part that begins here. A part ends with a comma outside of angles. In braces it also
-    /// ends with a semicolon, an attribute and the end of a block.
+    /// Returns the index after the part that begins here. It ends with a comma outside of angles, and in braces where a
+    /// statement, an item or an arm ends.
     pub fn part_end(&self, first: usize, end: usize, block: bool) -> usize
         ensures past { first < end → first < result }
         ensures within { first < end → result ≤ end }
     {
         let mut depth: usize = 0;
-        let mut in_where = false;
-        let mut signs_only = true;
         for index in first..end {
             let own = self.atom(index);
-            let mut ends = false;
             match own.role {
                 Role::Less | Role::BarOpen => depth = depth.saturating_add(1),
                 Role::Greater => depth = depth.saturating_sub(1),
                 Role::BarClose if own.is_mark('|') => depth = depth.saturating_sub(1),
-                Role::Comma => ends = depth == 0 && !in_where,
-                _ => ends = block && ends_statement(own, self.next(index), signs_only),
+                _ => {}
             }
-            if ends && !own.glued {
+            let comma = depth == 0 && own.role == Role::Comma && !own.glued;
+            if comma && !block || own.ends {
                 return index.saturating_add(1);
             }
-            in_where = in_where || block && own.is_word(Word::Where);
-            signs_only = signs_only && own.is_sign();
         }
         end
     }
 
     /// Reads the part with these atoms, and returns its node.
     pub fn read_part(&mut self, first: usize, end: usize, block: bool) -> usize {
-        let at = self.past_front(first, end);
-        let word = match self.atom(at).kind {
-            Kind::Word(word) if block => word,
-            _ => Word::Name,
-        };
-        let item = match word {
-            Word::Fn => self.find_role(at, end, Role::Params) < end,
-            Word::Union => self.next(at).is_any_word(),
-            _ => matches!(word, Word::Impl | Word::Item | Word::Enum),
-        };
         if first >= end {
-            self.push_node(Form::Leaf, first, end)
-        } else if item {
-            self.read_item(first, at, end)
+            return self.push_node(Form::Leaf, first, end);
+        }
+        let item = if block {
+            self.item_at(first, end)
+        } else {
+            end
+        };
+        if item < end {
+            self.read_item(first, item, end)
         } else {
             self.read_expression(first, end)
         }
     }
 
-    /// Returns the index of the first atom of a part after its attributes, its visibility and what may precede `fn`.
-    fn past_front(&self, first: usize, end: usize) -> usize {
+    /// Returns the index of the keyword of an item, which may follow attributes and a visibility, or `end`.
+    fn item_at(&self, first: usize, end: usize) -> usize {
         for index in first..end {
             let own = self.atom(index);
-            let next = self.next(index);
-            let passed = match own.kind {
-                Kind::Word(Word::Pub) => true,
-                Kind::Word(Word::Prefix) => next.is_any_word(),
-                Kind::Word(Word::Extern) => !next.is_brace(),
-                Kind::Word(Word::String) => self.previous(index).is_word(Word::Extern),
-                Kind::Group(_) => {
-                    self.previous(index).is_word(Word::Pub) || own.role == Role::Attribute
+            match own.kind {
+                Kind::Word(Word::Impl | Word::Item) => return index,
+                Kind::Word(Word::Fn) if self.find_role(index, end, Role::Params) < end => {
+                    return index;
                 }
-                _ => own.role == Role::Hash,
-            };
-            if !passed {
-                return index;
+                Kind::Word(Word::Pub | Word::Prefix | Word::Extern | Word::String) => {}
+                Kind::Group(_) if own.is_list() => {}
+                _ if own.role == Role::Hash => {}
+                _ => break,
             }
         }
-        first
+        end
     }
 
     /// Reads an item, whose keyword is the atom at `at`.
@@ -154,7 +141,8 @@ impl Tree {
         let node = self.push_node(form, first, end);
         let mut from = at.saturating_add(2).saturating_sub(impls as usize);
         if self.atom(from).role == Role::Less {
-            let generics = self.push_list_node(Form::Group, from, self.past_angles(from, end));
+            let past = self.atom(from).node.saturating_add(1);
+            let generics = self.push_list_node(Form::Group, from, past);
             self.append(node, generics);
             from = self.node(generics).end;
         }
@@ -186,22 +174,6 @@ impl Tree {
         node
     }
 
-    /// Returns the index after the `>` of the `<` at this index.
-    fn past_angles(&self, less: usize, end: usize) -> usize {
-        let mut depth: usize = 0;
-        for index in less..end {
-            match self.atom(index).role {
-                Role::Less => depth = depth.saturating_add(1),
-                Role::Greater => depth = depth.saturating_sub(1),
-                _ => {}
-            }
-            if depth == 0 {
-                return index.saturating_add(1);
-            }
-        }
-        end
-    }
-
     /// Returns the index of the first atom in `from..end` that is this word, or `end`.
     fn find_word(&self, from: usize, end: usize, word: Word) -> usize {
         for index in from..end {
@@ -219,26 +191,4 @@ impl Tree {
             self.append(node, child);
         }
     }
-}
-
-/// Returns whether a statement or an attribute ends with the atom. `signs_only` is whether only operators precede it.
-fn ends_statement(own: &Atom, next: &Atom, signs_only: bool) -> bool {
-    let inner = own.role == Role::Inner;
-    if own.is_brace() && !inner && (own.is_body() || own.role == Role::Expression) {
-        let goes_on = matches!(
-            next.role,
-            Role::Comma
-                | Role::Semicolon
-                | Role::Dot
-                | Role::After
-                | Role::Between
-                | Role::Arm
-                | Role::Colon
-                | Role::Path
-                | Role::Greater
-        );
-        let word = next.is_word(Word::Else) || next.is_word(Word::As);
-        return !(goes_on || word || next.is_list() && own.role != Role::Block);
-    }
-    own.role == Role::Semicolon || own.role == Role::Attribute && signs_only
 }

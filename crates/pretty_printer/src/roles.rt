@@ -1,5 +1,5 @@
 //! Gives words and groups their roles.
-use crate::atoms::{Atom, Kind, Role};
+use crate::atoms::{Atom, Kind, Role, Sign};
 use crate::signs::{pair_angles, wants_space};
 use crate::tree::Tree;
 use crate::words::Word;
@@ -14,6 +14,7 @@ pub fn assign_roles(tree: &mut Tree, first: usize, end: usize, block: bool, insi
         head: Head::Nothing,
         last: Head::Nothing,
         outer: 0,
+        ends: false,
         depth: 0,
         inside,
     };
@@ -32,7 +33,6 @@ pub enum Head {
     Nothing,
     Fn,
     Impl,
-    Enum,
     /// Any other item.
     Item,
     Else,
@@ -57,6 +57,8 @@ pub struct State {
     pub last: Head,
     /// The number of heads around this one.
     pub outer: usize,
+    /// Whether a statement, an item or an arm ends with the atom.
+    pub ends: bool,
     /// The number of open `<`.
     pub depth: usize,
     /// The role of the list's group.
@@ -70,6 +72,7 @@ impl State {
         let own = tree.atom(index);
         let previous = tree.previous(index);
         let mut role = own.role;
+        self.ends = false;
         match own.kind {
             Kind::Word(word) => {
                 if let Some(head) = head_of(word) {
@@ -91,14 +94,21 @@ impl State {
         }
         let spaced = !previous.is_nothing() && wants_space(tree, index, previous, own, role);
         // A `let` that ends with `else` and a block may be on one line.
-        let gives_up = own.is_word(Word::Else) && !previous.is_brace();
+        let lets = own.is_word(Word::Else)
+            && !previous.is_brace()
+            && tree.atom(self.start).is_word(Word::Let);
         let start = self.start;
-        if gives_up && tree.atom(start).is_word(Word::Let) {
-            tree.set_role(start, Role::Choice);
+        self.ends = self.ends && self.start < NO_START && !own.glued;
+        if self.ends {
+            self.start = index.saturating_add(1);
         }
         if let Some(changed) = tree.atoms.get_mut(index) {
             changed.role = role;
+            changed.ends = self.ends;
             changed.gap = if spaced { Gap::Space } else { Gap::Nothing };
+        }
+        if lets {
+            tree.set_role(start, Role::Choice);
         }
     }
 
@@ -106,15 +116,24 @@ impl State {
     fn group_role(&mut self, tree: &Tree, index: usize, own: &Atom) -> Role {
         let previous = tree.previous(index);
         let next = tree.next(index);
-        let role = if own.is_brace() {
-            self.brace_role(own, previous, next)
-        } else {
-            self.list_role(own, previous, tree.previous(index.saturating_sub(1)))
-        };
-        let first = index == self.start.saturating_add(1) && previous.is_word(Word::Prefix);
-        if (first || !awaits_operand(previous)) && self.ends(tree, index, role, next) {
-            self.start = index.saturating_add(1);
+        let passed = index.saturating_sub(self.start);
+        if !own.is_brace() {
+            let role = self.list_role(own, previous, tree.previous(index.saturating_sub(1)));
+            self.ends = role == Role::Attribute && passed < 3;
+            return role;
         }
+        let item = self.is_in_item();
+        let role = self.brace_role(own, previous, next);
+        let first = passed == 1 && previous.is_word(Word::Prefix);
+        let operand = awaits_operand(previous) && !first;
+        let braces = role == Role::Block || role == Role::Expression;
+        let goes_on = match next.kind {
+            Kind::Word(word) => word == Word::Else,
+            Kind::Sign(sign) => matches!(sign, Sign::Arm | Sign::One(';' | ',' | '.' | '?')),
+            _ => false,
+        };
+        let ends = braces && !goes_on && !operand && self.head != Head::Other;
+        self.ends = ends && (item || self.ends_statement(tree, passed));
         role
     }
 
@@ -122,7 +141,8 @@ impl State {
     fn take_head(&mut self, word: Word, head: Head, previous: &Atom, next: &Atom) -> bool {
         let bounds = word == Word::For && (self.head == Head::Impl || next.is_mark('<'));
         let inner = is_item(head) && (next.is_group() || self.head == Head::Fn);
-        if bounds || inner {
+        let name = word == Word::Union && !next.is_name();
+        if bounds || inner || name {
             return false;
         }
         let after_sign = previous.is_sign()
@@ -175,7 +195,6 @@ impl State {
         }
         match self.last {
             Head::Branch if own.role != Role::Block => Role::Branch,
-            Head::Enum => Role::Variants,
             _ if inner => Role::Inner,
             _ => Role::Block,
         }
@@ -217,25 +236,17 @@ impl State {
         }
     }
 
-    /// Returns whether a statement, an arm or an attribute ends with the group at this index, which gets this role.
-    fn ends(&self, tree: &Tree, index: usize, role: Role, next: &Atom) -> bool {
-        let passed = index.saturating_sub(self.start);
-        if role == Role::Attribute {
-            return passed < 3 && self.start < NO_START;
-        }
-        let braces = matches!(role, Role::Block | Role::Variants | Role::Expression);
-        let goes_on = next.is_word(Word::Else) || next.is_mark('.') || next.is_mark('?');
-        if !braces || goes_on || self.head == Head::Other || self.start == NO_START {
-            return false;
-        }
+    /// Returns whether a statement or an arm ends with a block that has so many atoms of it before it.
+    fn ends_statement(&self, tree: &Tree, passed: usize) -> bool {
         let first = tree.atom(self.start);
+        let next = tree.next(self.start);
         match first.kind {
             Kind::Group(_) => passed == 0,
             Kind::Word(word) => match word {
-                Word::Lifetime | Word::Pub => true,
-                // For example `unsafe` and `async move`, or a keyword before `fn`.
-                Word::Prefix => passed < 3 || self.last == Head::Fn,
-                Word::Name | Word::MacroRules => tree.next(self.start).role == Role::Bang,
+                Word::Lifetime => true,
+                // For example `unsafe` and `async move`.
+                Word::Prefix => passed < 3,
+                Word::Name | Word::MacroRules => matches!(next.role, Role::Bang | Role::Path),
                 _ => head_of(word).is_some(),
             },
             _ => false,
@@ -245,7 +256,7 @@ impl State {
 
 /// Returns whether it is the head of an item.
 fn is_item(head: Head) -> bool {
-    matches!(head, Head::Fn | Head::Impl | Head::Enum | Head::Item)
+    matches!(head, Head::Fn | Head::Impl | Head::Item)
 }
 
 /// Returns the kind of item or expression that begins with the word.
@@ -253,7 +264,6 @@ fn head_of(word: Word) -> Option<Head> {
     match word {
         Word::Fn => Some(Head::Fn),
         Word::Impl => Some(Head::Impl),
-        Word::Enum => Some(Head::Enum),
         Word::Item | Word::Union | Word::Extern => Some(Head::Item),
         Word::For | Word::While | Word::Loop | Word::Match | Word::If => Some(Head::Other),
         Word::Else => Some(Head::Else),

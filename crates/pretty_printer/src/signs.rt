@@ -14,7 +14,10 @@ pub fn pair_angles(tree: &mut Tree, index: usize, end: usize) {
             tree.check(pushed);
         } else if next.is_mark('>') {
             if let Some(matched) = tree.angles.pop() {
-                tree.set_role(matched, Role::Less);
+                if let Some(less) = tree.atoms.get_mut(matched) {
+                    less.role = Role::Less;
+                    less.node = later;
+                }
             }
             tree.set_role(later, Role::Greater);
         } else if ends_types(next, tree.previous(later)) {
@@ -69,8 +72,9 @@ impl State {
             Sign::One(mark) => mark,
             _ => ' ',
         };
-        let comma_ends = mark == ',' && self.depth == 0 && !self.is_in_item();
-        if mark == ';' || matches!(sign, Sign::Arm) || comma_ends {
+        let listed = self.depth > 0 || self.in_bars || self.is_in_item();
+        self.ends = mark == ';' || mark == ',' && !listed;
+        if self.ends || matches!(sign, Sign::Arm) {
             self.head = Head::Nothing;
             self.outer = 0;
             if self.start < NO_START {
