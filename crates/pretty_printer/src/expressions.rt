@@ -12,7 +12,6 @@ const WEAKEST: usize = 1;
 const ASSIGN: usize = 2;
 const RANGE: usize = 3;
 const AND: usize = 5;
-const CAST: usize = 13;
 /// Of what is before its only operand.
 const BEFORE: usize = 14;
 
@@ -70,17 +69,15 @@ impl Tree {
     fn begin(&mut self, index: usize, own: &Atom) {
         let previous = *self.previous(index);
         let next = *self.next(index);
-        let label = own.is_word(Word::Lifetime) && next.role == Role::Colon;
         let closes = next.role == Role::BarOpen || next.role == Role::BarClose;
-        // It is the colon of a label, the rest of an operator such as `>>`, or the `|` after `move`.
-        let passed = own.role == Role::Colon && previous.is_word(Word::Lifetime)
-            || own.role == Role::Between && previous.glued
+        // It is the rest of an operator such as `>>`, or the `|` after `move`.
+        let passed = own.role == Role::Between && previous.glued
             || own.role == Role::BarOpen && previous.is_word(Word::Prefix);
         match own.kind {
             _ if passed && !self.reader.opens.is_empty() => {}
             Kind::Sign(_) => match own.role {
-                Role::Before => self.open_before(index, BEFORE),
-                Role::Range => self.open_before(index, RANGE),
+                Role::Before => self.open(Form::Plain, index, BEFORE),
+                Role::Range => self.open(Form::Plain, index, RANGE),
                 Role::BarOpen => self.open(Form::Closure, index, WEAKEST),
                 Role::BarClose if !own.is_mark('|') && !previous.is_word(Word::Prefix) => {
                     self.open(Form::Closure, index, WEAKEST);
@@ -89,19 +86,16 @@ impl Tree {
                 _ => self.go_on(index, own),
             },
             Kind::Word(Word::Prefix) if closes => self.open(Form::Closure, index, WEAKEST),
-            Kind::Word(_) if label => self.open(Form::Control, index, WEAKEST),
             Kind::Word(word) => match word {
                 Word::For if next.is_mark('<') => self.go_on(index, own),
+                Word::If if previous.is_word(Word::Else) => {}
                 Word::If | Word::Match | Word::While | Word::For | Word::Loop => {
-                    let labelled = previous.role == Role::Colon && self.awaits_block();
-                    if !previous.is_word(Word::Else) && !labelled {
-                        self.open(Form::Control, index, WEAKEST);
-                    }
+                    self.open(Form::Control, index, WEAKEST);
                 }
                 Word::Else => {}
                 Word::Let => self.open(Form::Let, index, WEAKEST),
-                Word::Return => self.open_before(index, WEAKEST),
-                Word::Prefix => self.open_before(index, BEFORE),
+                Word::Return => self.open(Form::Plain, index, WEAKEST),
+                Word::Prefix => self.open(Form::Plain, index, BEFORE),
                 _ => self.go_on(index, own),
             },
             _ if own.is_body() && self.awaits_block() && !awaits_operand(&previous) => {
@@ -123,15 +117,6 @@ impl Tree {
     fn push_open(&mut self, node: usize, strength: usize) {
         let pushed = self.reader.opens.push((node, strength));
         self.check(pushed);
-    }
-
-    /// Opens a node for an operator before its only operand. Several operators are one node.
-    fn open_before(&mut self, index: usize, strength: usize) {
-        let (node, own_strength) = self.top();
-        let own = self.node(node);
-        if own_strength != strength || own.form != Form::Plain || own.child != NOWHERE {
-            self.open(Form::Plain, index, strength);
-        }
     }
 
     /// Returns the last open node and its strength.
@@ -162,11 +147,6 @@ impl Tree {
                     let node = self.take_operand(index);
                     self.set_operand(node);
                 }
-            }
-            Kind::Word(Word::As) => {
-                self.reduce(CAST, index);
-                let node = self.take_operand(index);
-                self.set_operand(node);
             }
             Kind::Word(Word::In) if self.reader.controls > 0 => return self.attach(ASSIGN, index),
             Kind::Word(Word::Else) if !self.reader.opens.is_empty() => return self.attach(ASSIGN, index),
@@ -297,9 +277,7 @@ impl Tree {
             self.reader.opens.pop();
             return self.push_open(node, if statement { WEAKEST } else { AND });
         }
-        let mark = self.atom(self.node(own.child).end);
-        let same = own.form == Form::Operators && is_same(mark, self.atom(index));
-        if same && own_strength == strength {
+        if own.form == Form::Operators && own_strength == strength {
             return self.attach(BEFORE, index);
         }
         if strength != ASSIGN {
@@ -314,15 +292,6 @@ impl Tree {
         let first = self.node(child).first;
         self.open(form, first, strength);
         self.append(self.top().0, child);
-    }
-}
-
-/// Returns whether two operators are the same.
-fn is_same(a: &Atom, b: &Atom) -> bool {
-    match (a.kind, b.kind) {
-        (Kind::Sign(Sign::One(x)), Kind::Sign(Sign::One(y))) => x == y,
-        (Kind::Sign(Sign::One(_)), _) | (_, Kind::Sign(Sign::One(_))) => false,
-        _ => true,
     }
 }
 

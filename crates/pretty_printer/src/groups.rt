@@ -42,7 +42,7 @@ impl Tree {
     /// Writes the opener of a group, and leaves its closer to this step.
     fn open_group(&mut self, step: Step, task: Task) {
         self.put_mark();
-        self.line.is_shut = false;
+        self.is_shut = false;
         self.push(step, task, NOWHERE, NOWHERE);
     }
 
@@ -153,21 +153,11 @@ impl Tree {
 
     /// Returns whether the part is an item.
     fn is_item(&self, part: &Node) -> bool {
-        let first = self.atom(part.first);
-        let statement = matches!(
-            first.kind,
-            Kind::Word(
-                Word::Let
-                    | Word::If
-                    | Word::For
-                    | Word::While
-                    | Word::Loop
-                    | Word::Match
-                    | Word::Return
-            )
+        let begins = matches!(
+            self.atom(part.first).kind,
+            Kind::Word(Word::Pub | Word::Fn | Word::Impl | Word::Item | Word::Prefix | Word::Keyword)
         );
-        let ends = self.atom(part.end).is_mark(';') || self.previous(part.end).is_brace();
-        first.is_keyword() && !statement && ends
+        begins && (self.atom(part.end).is_mark(';') || self.previous(part.end).is_brace())
     }
 
     /// Lays out an item: its head on one line if it fits, and otherwise its parameters on lines.
@@ -186,7 +176,7 @@ impl Tree {
         let atom = *self.atom(child.first);
         if child.form == Form::Bounds {
             // The bounds go on after parameters on lines.
-            let shut = task.step == Step::Broken && self.line.is_shut;
+            let shut = task.step == Step::Broken && self.is_shut;
             self.reach(task, own, child, !shut);
             self.put(child.first, child.from);
             self.leave(Step::Apart, task, child);
@@ -201,11 +191,10 @@ impl Tree {
         self.write(own, task.at, child.first);
         self.lead(own, child.first);
         let colon = self.previous(child.first).role == Role::Colon;
-        let wide = impls && atom.role != Role::Less && !self.fits(child, tail);
-        if colon || wide {
+        if colon {
             self.begin_line(child.first, below);
         }
-        let step = if colon || impls {
+        let step = if colon {
             Step::Apart
         } else {
             Step::Broken
@@ -221,7 +210,7 @@ impl Tree {
     /// Writes the body of an item. An empty one after a head of several lines has two lines.
     fn next_body(&mut self, task: Task, own: &Node, child: &Node, brace: &Atom) {
         let width = self.rest(task.at, child.first).saturating_add(2);
-        let full = self.line.column.saturating_add(width) > WIDTH;
+        let full = self.column.saturating_add(width) > WIDTH;
         self.reach(task, own, child, task.step == Step::Apart || full);
         self.leave(Step::Next, task, child);
         if task.step != Step::Next && !brace.is_full() {

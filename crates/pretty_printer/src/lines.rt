@@ -54,9 +54,9 @@ pub struct Task {
 impl Tree {
     /// Breaks the lines of a node, which begins a line.
     pub fn lay_all(&mut self, node: usize) {
-        self.line.column = 0;
-        self.line.is_fresh = true;
-        self.line.is_shut = false;
+        self.column = 0;
+        self.is_fresh = true;
+        self.is_shut = false;
         self.tasks.clear();
         self.lay(node, 0, 1);
         // Each child has at most one task for each step, so this ends long before.
@@ -122,7 +122,6 @@ impl Tree {
             Form::Operators => self.next_operand(task, &own, &child),
             Form::Assign | Form::Let => self.next_side(task, &own, &child),
             Form::Control => self.next_of_control(task, &own, &child),
-            Form::Arm => self.next_of_arm(task, &own, &child),
             Form::Item | Form::Impl => self.next_of_item(task, &own, &child),
             _ => {
                 self.reach(task, &own, &child, false);
@@ -174,7 +173,7 @@ impl Tree {
     /// Returns whether these atoms fit on the line, with so many characters after them.
     pub fn fit(&self, from: usize, end: usize, tail: usize) -> bool {
         let width = self.width(from, end).saturating_add(tail);
-        !self.is_tall(from, end) && self.line.column.saturating_add(width) <= WIDTH
+        !self.is_tall(from, end) && self.column.saturating_add(width) <= WIDTH
     }
 
     /// Writes the atoms in `from..end` on this line. The gap before them is written.
@@ -182,23 +181,23 @@ impl Tree {
         if end <= from {
             return;
         }
-        self.line.column = self.line.column.saturating_add(self.width(from, end));
-        self.line.is_fresh = false;
+        self.column = self.column.saturating_add(self.width(from, end));
+        self.is_fresh = false;
         // Only `?` may follow closers that a chain goes on from.
         let only = end == from.saturating_add(1) && self.atom(from).role == Role::After;
-        self.line.is_shut = self.line.is_shut && only;
+        self.is_shut = self.is_shut && only;
     }
 
     /// Writes one character on this line.
     pub fn put_mark(&mut self) {
-        self.line.column = self.line.column.saturating_add(1);
-        self.line.is_fresh = false;
+        self.column = self.column.saturating_add(1);
+        self.is_fresh = false;
     }
 
     /// Writes the space before an atom of a node that is not its first.
     pub fn lead(&mut self, own: &Node, index: usize) {
         if index > own.first && self.atom(index).is_spaced() {
-            self.line.column = self.line.column.saturating_add(1);
+            self.column = self.column.saturating_add(1);
         }
     }
 
@@ -231,22 +230,22 @@ impl Tree {
             return;
         }
         self.set_gap(index, gap);
-        self.line.column = column;
-        self.line.is_fresh = true;
-        self.line.is_shut = false;
+        self.column = column;
+        self.is_fresh = true;
+        self.is_shut = false;
     }
 
     /// Writes the closer of a group on its own line.
     pub fn close(&mut self, own: &Node, column: usize) {
         self.set_gap(own.until, Gap::Line(column));
-        self.line.column = column.saturating_add(1);
-        self.line.is_fresh = false;
-        self.line.is_shut = true;
+        self.column = column.saturating_add(1);
+        self.is_fresh = false;
+        self.is_shut = true;
     }
 
     /// Returns whether a group goes on from this line by its last part, whose first line has this width.
     pub fn goes_on(&self, head: usize) -> bool {
-        head != NO_HEAD && self.line.column.saturating_add(head) < WIDTH
+        head != NO_HEAD && self.column.saturating_add(head) < WIDTH
     }
 }
 

@@ -153,11 +153,10 @@ impl Tree {
         } else if own.role == Role::Colon {
             from = from.saturating_add(1);
         }
-        let found = self.find_word(from, end, Word::For);
-        let bound = self.next(found).role == Role::Less;
-        let split = if bound { end } else { found };
-        self.read_child(node, from, split);
-        self.read_child(node, split, end);
+        if from < end {
+            let child = self.read_expression(from, end);
+            self.append(node, child);
+        }
         node
     }
 
@@ -182,13 +181,5 @@ impl Tree {
             }
         }
         end
-    }
-
-    /// Reads these atoms, if there are any, as a child of a node.
-    fn read_child(&mut self, node: usize, from: usize, end: usize) {
-        if from < end {
-            let child = self.read_expression(from, end);
-            self.append(node, child);
-        }
     }
 }

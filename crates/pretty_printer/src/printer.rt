@@ -2,25 +2,16 @@
 use crate::atoms::Role;
 use crate::reading::{Unread, push_list};
 use crate::roles::assign_roles;
-use crate::tree::{Form, NOWHERE, Tree};
+use crate::tree::{Form, Tree};
 use layout::Gap;
 use proc_macro2::TokenStream;
 use std::alloc::{AllocError, Global};
 
-/// A list that is written: its group's node, or `NOWHERE`, the index of its next atom, and the index after its last.
+/// A list that is written: the index of its next atom, and the index after its last.
 #[derive(Clone, Copy)]
 struct Place {
-    group: usize,
     at: usize,
     end: usize,
-}
-
-/// The numbers of atoms, nodes and groups of the stream's own list.
-#[derive(Clone, Copy)]
-struct Top {
-    atoms: usize,
-    nodes: usize,
-    groups: usize,
 }
 
 /// Chooses the gaps of a stream, one after another.
@@ -29,10 +20,11 @@ pub struct Printer<'a> {
     /// The stream's own list, and after it the lists inside the groups of the part that is written.
     tree: Tree,
     groups: Vec<Unread<'a>>,
-    top: Top,
-    /// The next part, the part before it, and the first group of the next part.
+    /// The numbers of nodes and of groups of the stream's own list, whose parts are the last nodes.
+    nodes: usize,
+    top_groups: usize,
+    /// The next part, and the first group of it.
     part: usize,
-    last_part: usize,
     next_group: usize,
     /// The list that is written, and the lists around it.
     list: Place,
@@ -51,31 +43,20 @@ impl<'a> Printer<'a> {
         let end = tree.atoms.len().saturating_sub(1);
         assign_roles(&mut tree, first, end, true, Role::Block);
         let part = tree.nodes.len();
-        let all = tree.push_node(Form::Leaf, first, end);
         let mut start = first;
         while start < end {
             let past = tree.part_end(start, end, true);
-            let next = tree.push_node(Form::Unread, start, tree.without_mark(past));
-            tree.append(all, next);
+            tree.push_node(Form::Unread, start, tree.without_mark(past));
             start = past;
         }
-        let top = Top {
-            atoms: end.saturating_add(1),
-            nodes: tree.nodes.len(),
-            groups: groups.len(),
-        };
         Ok(Printer {
+            nodes: tree.nodes.len(),
             tree,
+            top_groups: groups.len(),
             groups,
-            top,
-            part: part.saturating_add(1),
-            last_part: NOWHERE,
+            part,
             next_group: 0,
-            list: Place {
-                group: NOWHERE,
-                at: first,
-                end,
-            },
+            list: Place { at: first, end },
             outer: Vec::new(alloc),
             joined: 0,
         })
@@ -113,7 +94,7 @@ impl<'a> Printer<'a> {
             }
             return gap;
         }
-        if self.list.group == NOWHERE && index == self.tree.node(self.part).first {
+        if self.outer.is_empty() && index == self.tree.node(self.part).first {
             self.lay_part();
         }
         let own = *self.tree.atom(index);
@@ -122,7 +103,6 @@ impl<'a> Printer<'a> {
         if own.is_group() {
             let inner = self.tree.node(own.node);
             let place = Place {
-                group: own.node,
                 at: inner.from,
                 end: inner.until,
             };
@@ -136,31 +116,30 @@ impl<'a> Printer<'a> {
     /// Reads the next part, and breaks its lines.
     fn lay_part(&mut self) {
         let part = *self.tree.node(self.part);
-        let past = part.end.saturating_add(1);
+        let last = *self.tree.node(self.part.saturating_sub(1));
         self.read_groups(part.end);
-        self.tree.place(part.first, past);
+        self.tree.place(part.first, part.end.saturating_add(1));
         let node = self.tree.read_part(part.first, part.end, true);
         self.tree.lay_all(node);
-        let gap = if self.last_part == NOWHERE {
+        let gap = if part.first == 1 {
             Gap::Nothing
-        } else if self.tree.parts_items(self.tree.node(self.last_part), &part) {
+        } else if self.tree.parts_items(&last, &part) {
             Gap::Blank(0)
         } else {
             Gap::Line(0)
         };
         self.tree.set_gap(part.first, gap);
-        self.last_part = self.part;
-        self.part = part.next;
+        self.part = self.part.saturating_add(1);
     }
 
     /// Reads and measures the groups of the part that ends here.
     fn read_groups(&mut self, end: usize) {
-        let top = self.top;
+        let top = self.top_groups;
         let first = self.next_group;
-        self.tree.atoms.truncate(top.atoms);
-        self.tree.nodes.truncate(top.nodes);
-        self.groups.truncate(top.groups);
-        for next in first..top.groups {
+        self.tree.atoms.truncate(self.list.end.saturating_add(1));
+        self.tree.nodes.truncate(self.nodes);
+        self.groups.truncate(top);
+        for next in first..top {
             match self.groups.get(next) {
                 Some(group) if self.tree.node(group.node).first < end => {
                     let group = *group;
@@ -170,7 +149,7 @@ impl<'a> Printer<'a> {
                 _ => break,
             }
         }
-        for next in top.groups..usize::MAX {
+        for next in top..usize::MAX {
             let Some(group) = self.groups.get(next) else {
                 break;
             };
@@ -180,7 +159,7 @@ impl<'a> Printer<'a> {
         // Groups are before the groups inside them, and are measured after them.
         let past = self.next_group;
         let count = self.groups.len();
-        self.measure_groups(top.groups, count);
+        self.measure_groups(top, count);
         self.measure_groups(first, past);
     }
 

@@ -27,7 +27,7 @@ impl Tree {
         for _ in own.first..own.end {
             let next = self.node(joined).next;
             let before = self.distance(own.first, self.node(next).first);
-            if !self.line.is_fresh || joined == own.last || before > TAB {
+            if !self.is_fresh || joined == own.last || before > TAB {
                 break;
             }
             joined = next;
@@ -43,7 +43,7 @@ impl Tree {
     fn last_goes_on(&self, task: Task, own: &Node, call: &Node) -> bool {
         let before = self.distance(own.first, call.first);
         let width = self.width(call.first, call.end);
-        let room = WIDTH.saturating_sub(self.line.column.saturating_add(task.tail));
+        let room = WIDTH.saturating_sub(self.column.saturating_add(task.tail));
         let several = self.node(own.child).next != own.last;
         let room = if several { room.min(CALL) } else { room };
         let alone = deeper(task.indent).saturating_add(width);
@@ -56,7 +56,7 @@ impl Tree {
     /// Writes the next call of a chain on its own line, which is deeper unless a line of closers ends the root.
     pub fn next_call(&mut self, task: Task, own: &Node, child: &Node) {
         let mut rest = task;
-        if task.step == Step::Next && !self.line.is_shut {
+        if task.step == Step::Next && !self.is_shut {
             rest.indent = deeper(task.indent);
         }
         self.begin_line(child.first, rest.indent);
@@ -93,7 +93,7 @@ impl Tree {
         let word = child.first.saturating_sub(1);
         let before = self.atom(word);
         let equals = before.is_mark('=') || matches!(before.kind, Kind::Sign(Sign::Assign));
-        if before.is_word(Word::Else) && task.step == Step::Broken && !self.line.is_shut {
+        if before.is_word(Word::Else) && task.step == Step::Broken && !self.is_shut {
             self.begin_line(word, task.indent);
             self.put(word, child.first);
         } else {
@@ -125,7 +125,7 @@ impl Tree {
         let stays = closure || self.atom(child.first).is_word(Word::Prefix);
         let width = self.width(child.first, child.end).saturating_add(tail);
         let fits = !child.must && below.saturating_add(width) <= WIDTH;
-        if below < self.line.column && fits && !stays {
+        if below < self.column && fits && !stays {
             self.begin_line(child.first, below);
             return self.lay(task.child, below, tail);
         }
@@ -135,7 +135,7 @@ impl Tree {
     /// Writes the next condition or block of an `if`, a `match` or a loop.
     pub fn next_of_control(&mut self, task: Task, own: &Node, child: &Node) {
         let block = child.form == Form::Group && self.atom(child.first).is_brace();
-        let line = block && task.step == Step::Broken && !self.line.is_shut;
+        let line = block && task.step == Step::Broken && !self.is_shut;
         self.reach(task, own, child, line);
         let step = if block || self.fits(child, 2) {
             Step::Next
@@ -163,29 +163,5 @@ impl Tree {
         let short = self.are_short(pattern.first, pattern.end, Role::Between, PATTERN);
         let step = if short { Step::Fill } else { Step::Line };
         self.push(step, patterns, pattern.child, pattern.first);
-    }
-
-    /// Writes the guard or the body of an arm. A guard that does not fit begins a line, and so does the block after it.
-    pub fn next_of_arm(&mut self, task: Task, own: &Node, child: &Node) {
-        let guard = self.previous(child.first).is_word(Word::If);
-        if !guard {
-            let block = child.form == Form::Group && self.atom(child.first).is_full();
-            self.reach(task, own, child, task.step == Step::Apart && block);
-            let tail = self.tail_of(task, own, child);
-            self.leave(Step::Next, task, child);
-            return self.lay(task.child, task.indent, tail);
-        }
-        let width = self.rest(task.at, child.end).saturating_add(ARM);
-        let fits = !child.must && self.line.column.saturating_add(width) <= WIDTH;
-        if fits && task.step == Step::Next {
-            self.write(own, task.at, child.end);
-            return self.leave(Step::Next, task, child);
-        }
-        let indent = deeper(task.indent);
-        self.begin_line(task.at, indent);
-        self.put(task.at, child.first);
-        self.lead(own, child.first);
-        self.leave(Step::Apart, task, child);
-        self.lay(task.child, indent, ARM);
     }
 }

@@ -91,16 +91,6 @@ pub struct Reader {
     pub depth: usize,
 }
 
-/// The line that is written.
-#[derive(Clone, Copy)]
-pub struct Line {
-    /// The number of its characters.
-    pub column: usize,
-    /// Whether it has only spaces, and whether it has only closers.
-    pub is_fresh: bool,
-    pub is_shut: bool,
-}
-
 /// The atoms and nodes of lists.
 #[derive(Drop)]
 pub struct Tree {
@@ -109,9 +99,12 @@ pub struct Tree {
     pub reader: Reader,
     /// The indexes of `<` without a `>` yet.
     pub angles: Vec<usize>,
-    pub line: Line,
     /// What is left to do, the next last.
     pub tasks: Vec<Task>,
+    /// The number of characters of the line that is written, whether it has only spaces, and whether only closers.
+    pub column: usize,
+    pub is_fresh: bool,
+    pub is_shut: bool,
     /// The error of an allocation that failed.
     pub failure: Option<AllocError>,
 }
@@ -132,12 +125,10 @@ impl Tree {
                 depth: 0,
             },
             angles: Vec::new(alloc),
-            line: Line {
-                column: 0,
-                is_fresh: true,
-                is_shut: false,
-            },
             tasks: Vec::new(alloc),
+            column: 0,
+            is_fresh: true,
+            is_shut: false,
             failure: None,
         })
     }
