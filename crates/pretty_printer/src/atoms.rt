@@ -62,11 +62,10 @@ pub enum Role {
     Semicolon,
     Colon,
     Dot,
+    Where,
     /// The `|` that begins and ends a closure's parameters. `||` ends them.
     BarOpen,
     BarClose,
-    /// An `if` whose value is used.
-    Choice,
     /// A group that a macro repeats.
     Repeated,
     /// The brackets of an attribute, and parentheses in one.

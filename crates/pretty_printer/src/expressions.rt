@@ -70,11 +70,13 @@ impl Tree {
         let previous = *self.previous(index);
         let next = *self.next(index);
         let closes = next.role == Role::BarOpen || next.role == Role::BarClose;
-        // It is the rest of an operator such as `>>`, or the `|` after `move`.
+        // It is the rest of an operator such as `>>`, the `|` after `move`, or a label.
         let passed = own.role == Role::Between && previous.glued
-            || own.role == Role::BarOpen && previous.is_word(Word::Prefix);
+            || own.role == Role::BarOpen && previous.is_word(Word::Prefix)
+            || own.role == Role::Colon && previous.is_word(Word::Lifetime)
+            || own.is_word(Word::Lifetime) && next.role == Role::Colon;
         match own.kind {
-            _ if passed && !self.reader.opens.is_empty() => {}
+            _ if passed => {}
             Kind::Sign(_) => match own.role {
                 Role::Before => self.open(Form::Plain, index, BEFORE),
                 Role::Range => self.open(Form::Plain, index, RANGE),
@@ -258,8 +260,12 @@ impl Tree {
             self.reduce_one(index);
         }
         let child = self.take_operand(index);
-        self.append(self.top().0, child);
-        self.append(self.top().0, own.node);
+        let (node, _) = self.top();
+        self.append(node, child);
+        self.append(node, own.node);
+        if let Some(control) = self.nodes.get_mut(node) {
+            control.from = control.from.min(own.node);
+        }
         if !self.next(index).is_word(Word::Else) {
             self.reduce_one(index.saturating_add(1));
         }

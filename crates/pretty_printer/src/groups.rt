@@ -23,7 +23,7 @@ impl Tree {
         self.read_unread(own.last);
         let head = self.head_inside(own);
         if !self.goes_on(head) {
-            return self.lay_lines(task.node, task.indent);
+            return self.lay_lines(task, task.node);
         }
         // The last part goes on over the next lines, as if there were no delimiters.
         let last = *self.node(own.last);
@@ -46,22 +46,16 @@ impl Tree {
         self.push(step, task, NOWHERE, NOWHERE);
     }
 
-    /// Begins to write a group with its parts on lines.
-    pub fn lay_lines(&mut self, group: usize, indent: usize) {
+    /// Begins to write a group, which is in the node of the task, with its parts on lines.
+    pub fn lay_lines(&mut self, task: Task, group: usize) {
         let own = *self.node(group);
         if own.child == NOWHERE {
             return self.put(own.first, own.end);
         }
-        let task = Task {
-            step: Step::Close,
-            node: group,
-            child: NOWHERE,
-            at: NOWHERE,
-            indent,
-            tail: 0,
-        };
-        self.open_group(Step::Close, task);
-        self.push_parts(self.step_of(&own), task, group);
+        let mut lines = task;
+        lines.node = group;
+        self.open_group(Step::Close, lines);
+        self.push_parts(self.step_of(&own), lines, group);
     }
 
     /// Leaves the parts of a list to this step. Their lines are deeper than those of the task.
@@ -201,7 +195,7 @@ impl Tree {
         };
         self.leave(step, task, child);
         if atom.role == Role::Params {
-            return self.lay_lines(task.child, task.indent);
+            return self.lay_lines(task, task.child);
         }
         let indent = if impls { below } else { task.indent };
         self.lay(task.child, indent, tail);

@@ -11,7 +11,7 @@ pub const CALL: usize = 60;
 /// The largest width of the arguments of an attribute.
 const META: usize = 70;
 
-/// The largest width of an `if` whose value is used.
+/// The largest width of an `if` whose value is used, and of a `let` with `else`.
 const BRANCHES: usize = 50;
 
 /// The largest width of the fields of a struct literal.
@@ -25,8 +25,13 @@ impl Tree {
     pub fn finish(&mut self, index: usize, end: usize) {
         let mut own = *self.node(index);
         own.end = end;
-        let chain = own.form == Form::Chain && self.node(own.child).next != own.last;
-        let wide = chain && self.width(own.first, end) > CALL;
+        let branch = self.previous(end).role == Role::Branch;
+        let limit = match own.form {
+            Form::Chain if self.node(own.child).next != own.last => CALL,
+            Form::Control | Form::Let if branch => BRANCHES,
+            _ => usize::MAX,
+        };
+        let wide = self.width(own.first, end) > limit;
         own.must = own.must || wide || self.is_tall(own.first, end);
         if own.form == Form::Leaf && own.child != NOWHERE {
             own.form = Form::Plain;
@@ -40,7 +45,7 @@ impl Tree {
     /// Returns the width of the first line of a node with this last child, or `NO_HEAD`.
     fn head_of(&self, own: &Node, last: &Node) -> usize {
         let opener = match own.form {
-            Form::Control => self.node(self.block_of(own.child)),
+            Form::Control => self.node(own.from),
             _ => last,
         };
         let head = match own.form {
@@ -53,17 +58,6 @@ impl Tree {
             return NO_HEAD;
         }
         self.distance(own.first, opener.first).saturating_add(head)
-    }
-
-    /// Returns the first block from this child on. A condition, and a pattern and a list of `for`, come before it.
-    fn block_of(&self, child: usize) -> usize {
-        let mut block = child;
-        for _ in 0..2 {
-            if self.node(block).form != Form::Group {
-                block = self.node(block).next;
-            }
-        }
-        block
     }
 
     /// Returns whether the body of a closure begins on the line of its parameters: it is a block, or ends with one.
@@ -79,31 +73,10 @@ impl Tree {
 
     /// Sets the offset of each atom in the list on one line. All its groups are measured.
     pub fn place(&mut self, first: usize, end: usize) {
-        if !self.place_atoms(first, end) {
-            return;
-        }
-        let mut changed = false;
-        // An `if` in a branch of another ends where that one does, and is not wider.
-        let mut past = first;
-        for index in first..end {
-            if index >= past && self.atom(index).role == Role::Choice {
-                past = self.choice_end(index, end);
-                changed = self.spread(index, past) || changed;
-            }
-        }
-        if changed {
-            self.place_atoms(first, end);
-        }
-    }
-
-    /// Sets the offsets. Returns whether an `if` whose value is used begins in the list.
-    fn place_atoms(&mut self, first: usize, end: usize) -> bool {
         let mut offset: usize = 0;
         let mut tall: usize = 0;
-        let mut choices = false;
         for index in first..end {
             if let Some(own) = self.atoms.get_mut(index) {
-                choices = choices || own.role == Role::Choice;
                 let space = (index > first && own.is_spaced()) as usize;
                 own.offset = offset.saturating_add(space);
                 own.tall_before = tall;
@@ -111,37 +84,6 @@ impl Tree {
                 tall = tall.saturating_add(own.tall as usize);
             }
         }
-        choices
-    }
-
-    /// Returns the index after the branches of the `if` at this index.
-    fn choice_end(&self, index: usize, end: usize) -> usize {
-        for later in index..end {
-            if self.atom(later).is_body() && !self.next(later).is_word(Word::Else) {
-                return later.saturating_add(1);
-            }
-        }
-        end
-    }
-
-    /// Makes blocks of the branches of the `if` in `index..past`, if they are too wide for one line. Returns whether it
-    /// did.
-    fn spread(&mut self, index: usize, past: usize) -> bool {
-        // The semicolon of `let` counts too.
-        let more = self.atom(index).is_word(Word::Let) as usize;
-        let width = self.width(index, past).saturating_add(more);
-        if !self.is_tall(index, past) && width <= BRANCHES {
-            return false;
-        }
-        for later in index..past {
-            if let Some(own) = self.atoms.get_mut(later) {
-                if own.role == Role::Branch {
-                    own.role = Role::Block;
-                    own.tall = own.tall || own.is_full();
-                }
-            }
-        }
-        true
     }
 
     /// Reads the parts of a group, and measures it. The groups inside it are measured.

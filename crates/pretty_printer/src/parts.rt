@@ -113,7 +113,7 @@ impl Tree {
             block = last.node;
             stop = end.saturating_sub(1);
         }
-        let head = self.find_word(at, stop, Word::Where);
+        let head = self.find_role(at, stop, Role::Where);
         let node = self.read_head(first, at, head);
         let mut after = block;
         if head < stop {
@@ -171,15 +171,5 @@ impl Tree {
         }
         self.read_parts(node, false);
         node
-    }
-
-    /// Returns the index of the first atom in `from..end` that is this word, or `end`.
-    fn find_word(&self, from: usize, end: usize, word: Word) -> usize {
-        for index in from..end {
-            if self.atom(index).is_word(word) {
-                return index;
-            }
-        }
-        end
     }
 }

@@ -135,19 +135,20 @@ impl<'a> Printer<'a> {
     /// Reads and measures the groups of the part that ends here.
     fn read_groups(&mut self, end: usize) {
         let top = self.top_groups;
-        let first = self.next_group;
         self.tree.atoms.truncate(self.list.end.saturating_add(1));
         self.tree.nodes.truncate(self.nodes);
         self.groups.truncate(top);
-        for next in first..top {
-            match self.groups.get(next) {
-                Some(group) if self.tree.node(group.node).first < end => {
-                    let group = *group;
-                    self.read_group(group);
-                    self.next_group = next.saturating_add(1);
-                }
-                _ => break,
+        for next in self.next_group..top {
+            let Some(group) = self.groups.get(next) else {
+                break;
+            };
+            let group = *group;
+            if self.tree.node(group.node).first >= end {
+                break;
             }
+            let pushed = self.groups.push(group);
+            self.tree.check(pushed);
+            self.next_group = next.saturating_add(1);
         }
         for next in top..usize::MAX {
             let Some(group) = self.groups.get(next) else {
@@ -157,10 +158,11 @@ impl<'a> Printer<'a> {
             self.read_group(group);
         }
         // Groups are before the groups inside them, and are measured after them.
-        let past = self.next_group;
-        let count = self.groups.len();
-        self.measure_groups(top, count);
-        self.measure_groups(first, past);
+        for _ in top..self.groups.len() {
+            if let Some(group) = self.groups.pop() {
+                self.tree.measure_group(group.node);
+            }
+        }
     }
 
     /// Reads the list of a group.
@@ -179,16 +181,5 @@ impl<'a> Printer<'a> {
             node.until = end;
         }
         assign_roles(tree, first, end, block, role);
-    }
-
-    /// Measures the groups in `from..until`, the last first.
-    fn measure_groups(&mut self, from: usize, until: usize) {
-        for passed in from..until {
-            let past = until.saturating_sub(passed.saturating_sub(from));
-            if let Some(group) = self.groups.get(past.saturating_sub(1)) {
-                let node = group.node;
-                self.tree.measure_group(node);
-            }
-        }
     }
 }

@@ -76,9 +76,9 @@ impl State {
         match own.kind {
             Kind::Word(word) => {
                 if let Some(head) = head_of(word) {
-                    if self.take_head(word, head, previous, tree.next(index)) {
-                        role = Role::Choice;
-                    }
+                    self.take_head(word, head, previous, tree.next(index));
+                } else if word == Word::Where {
+                    role = Role::Where;
                 }
             }
             Kind::Group(_) => role = self.group_role(tree, index, own),
@@ -93,11 +93,6 @@ impl State {
             Kind::Nothing => {}
         }
         let spaced = !previous.is_nothing() && wants_space(tree, index, previous, own, role);
-        // A `let` that ends with `else` and a block may be on one line.
-        let lets = own.is_word(Word::Else)
-            && !previous.is_brace()
-            && tree.atom(self.start).is_word(Word::Let);
-        let start = self.start;
         self.ends = self.ends && self.start < NO_START && !own.glued;
         if self.ends {
             self.start = index.saturating_add(1);
@@ -106,9 +101,6 @@ impl State {
             changed.role = role;
             changed.ends = self.ends;
             changed.gap = if spaced { Gap::Space } else { Gap::Nothing };
-        }
-        if lets {
-            tree.set_role(start, Role::Choice);
         }
     }
 
@@ -137,13 +129,13 @@ impl State {
         role
     }
 
-    /// Takes the head that begins with this word. Returns whether it is an `if` whose value is used.
-    fn take_head(&mut self, word: Word, head: Head, previous: &Atom, next: &Atom) -> bool {
+    /// Takes the head that begins with this word.
+    fn take_head(&mut self, word: Word, head: Head, previous: &Atom, next: &Atom) {
         let bounds = word == Word::For && (self.head == Head::Impl || next.is_mark('<'));
         let inner = is_item(head) && (next.is_group() || self.head == Head::Fn);
         let name = word == Word::Union && !next.is_name();
         if bounds || inner || name {
-            return false;
+            return;
         }
         let after_sign = previous.is_sign()
             && previous.role != Role::Greater
@@ -161,7 +153,6 @@ impl State {
             Word::Else if self.last == Head::Branch || !previous.is_brace() => Head::Branch,
             _ => head,
         };
-        self.head == Head::Branch && word == Word::If && !after_else
     }
 
     /// Returns whether an item began that has no braces yet.

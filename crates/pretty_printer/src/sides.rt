@@ -91,7 +91,7 @@ impl Tree {
     /// Writes the next side of an assignment or a `let`, or the block after `else`.
     pub fn next_side(&mut self, task: Task, own: &Node, child: &Node) {
         let word = child.first.saturating_sub(1);
-        let before = self.atom(word);
+        let before = *self.atom(word);
         let equals = before.is_mark('=') || matches!(before.kind, Kind::Sign(Sign::Assign));
         if before.is_word(Word::Else) && task.step == Step::Broken && !self.is_shut {
             self.begin_line(word, task.indent);
@@ -105,6 +105,9 @@ impl Tree {
         }
         let tail = self.tail_of(task, own, child);
         self.leave(Step::Next, task, child);
+        if before.is_word(Word::Else) {
+            return self.lay_lines(task, task.child);
+        }
         self.lay(task.child, task.indent, tail);
     }
 
@@ -143,8 +146,10 @@ impl Tree {
             Step::Broken
         };
         self.leave(step, task, child);
-        let tail = if child.next == NOWHERE { task.tail } else { 0 };
-        self.lay(task.child, task.indent, tail);
+        if block {
+            return self.lay_lines(task, task.child);
+        }
+        self.lay(task.child, task.indent, 0);
     }
 
     /// Lays out an arm that is not on one line, with each of its patterns on its own line if they do not fit.

@@ -55,7 +55,7 @@ pub struct Node {
     pub last: usize,
     pub next: usize,
     /// Of a group: the index of its list's first atom, and the one after the last. Of an item: the node of its bounds
-    /// or its body, and the index after its head.
+    /// or its body, and the index after its head. Of `if`, `match` and loops: the node of the first block.
     pub from: usize,
     pub until: usize,
     /// The width of its first line if its last part can go on over the next lines, or `NO_HEAD`.
