@@ -10,7 +10,9 @@ const ARM: usize = 0;
 const WEAKEST: usize = 1;
 /// Of the operators.
 const ASSIGN: usize = 2;
+
 const RANGE: usize = 3;
+
 const AND: usize = 5;
 /// Of what is before its only operand.
 const BEFORE: usize = 14;
@@ -150,8 +152,9 @@ impl Tree {
                     self.set_operand(node);
                 }
             }
-            Kind::Word(Word::In) if self.reader.controls > 0 => return self.attach(ASSIGN, index),
-            Kind::Word(Word::Else) if !self.reader.opens.is_empty() => return self.attach(ASSIGN, index),
+            Kind::Word(Word::In | Word::Else) if !self.reader.opens.is_empty() => {
+                return self.attach(ASSIGN, index);
+            }
             Kind::Word(Word::If) => return self.take_arm(index),
             Kind::Sign(_) if own.role == Role::Arm => return self.take_arm(index),
             Kind::Sign(_) if own.role == Role::Dot && !previous.glued => {

@@ -21,8 +21,9 @@ impl Tree {
             return self.lay(own.child, task.indent, task.tail.saturating_add(1));
         }
         self.read_unread(own.last);
+        // The first line of nothing is too wide too.
         let head = self.head_inside(own);
-        if !self.goes_on(head) {
+        if self.column.saturating_add(head) >= WIDTH {
             return self.lay_lines(task, task.node);
         }
         // The last part goes on over the next lines, as if there were no delimiters.
@@ -149,29 +150,24 @@ impl Tree {
     fn is_item(&self, part: &Node) -> bool {
         let begins = matches!(
             self.atom(part.first).kind,
-            Kind::Word(Word::Pub | Word::Fn | Word::Impl | Word::Item | Word::Prefix | Word::Keyword)
+            Kind::Word(
+                Word::Pub | Word::Fn | Word::Impl | Word::Item | Word::Prefix | Word::Keyword
+            )
         );
         begins && (self.atom(part.end).is_mark(';') || self.previous(part.end).is_brace())
     }
 
-    /// Lays out an item: its head on one line if it fits, and otherwise its parameters on lines.
-    pub fn lay_item(&mut self, task: Task, own: &Node) {
-        let body = self.node(own.from).form == Form::Group;
-        if self.fit(own.first, own.until, if body { 2 } else { 0 }) {
-            self.put(own.first, own.until);
-            self.push(Step::Next, task, own.from, own.until);
-        } else {
-            self.push(Step::Broken, task, own.child, own.first);
-        }
-    }
-
-    /// Writes the next child of an item.
+    /// Writes the next child of an item: its head on one line if it fits, and otherwise its parameters on lines.
     pub fn next_of_item(&mut self, task: Task, own: &Node, child: &Node) {
         let atom = *self.atom(child.first);
         if child.form == Form::Bounds {
-            // The bounds go on after parameters on lines.
-            let shut = task.step == Step::Broken && self.is_shut;
-            self.reach(task, own, child, !shut);
+            self.write(own, task.at, child.first);
+            if task.step == Step::Broken && self.is_shut {
+                // They go on after the parameters.
+                self.lead(own, child.first);
+            } else {
+                self.begin_line(child.first, task.indent);
+            }
             self.put(child.first, child.from);
             self.leave(Step::Apart, task, child);
             return self.push_parts(Step::Part, task, task.child);
@@ -179,26 +175,21 @@ impl Tree {
         if child.first >= own.until {
             return self.next_body(task, own, child, &atom);
         }
-        let impls = own.form == Form::Impl;
-        let tail = self.tail_of(task, own, child);
-        let below = deeper(task.indent);
-        self.write(own, task.at, child.first);
-        self.lead(own, child.first);
-        let colon = self.previous(child.first).role == Role::Colon;
-        if colon {
-            self.begin_line(child.first, below);
-        }
-        let step = if colon {
-            Step::Apart
+        let tail = if self.atom(own.until).is_brace() {
+            3
         } else {
-            Step::Broken
+            1
         };
-        self.leave(step, task, child);
+        if self.fit(task.at, own.until, tail) {
+            return self.push(task.step, task, child.next, task.at);
+        }
+        self.reach(task, own, child, false);
+        self.leave(Step::Broken, task, child);
         if atom.role == Role::Params {
             return self.lay_lines(task, task.child);
         }
-        let indent = if impls { below } else { task.indent };
-        self.lay(task.child, indent, tail);
+        let tail = self.tail_of(task, own, child);
+        self.lay(task.child, task.indent, tail);
     }
 
     /// Writes the body of an item. An empty one after a head of several lines has two lines.

@@ -186,10 +186,16 @@ impl Tree {
         let single = atom.role == Role::Tuple;
         let named = bang || !single && self.name_width(own.first) < NAME;
         let several = self.node(self.node(value.child).next).next != NOWHERE;
-        if value.form == Form::Chain && several && named && atom.is_round() || single && value.head == NO_HEAD {
+        if value.form == Form::Chain && several && named && atom.is_round()
+            || single && value.head == NO_HEAD
+        {
             return 0;
         }
-        if single { value.head } else { within(0, value.head) }
+        if single {
+            value.head
+        } else {
+            within(0, value.head)
+        }
     }
 
     /// Returns the width of the name of a call, at most about `NAME`.

@@ -1,6 +1,6 @@
 //! Breaks the lines of a part from the outside in, by a list of tasks.
-use crate::tree::{Form, NO_HEAD, NOWHERE, Node, Tree};
 use crate::atoms::Role;
+use crate::tree::{Form, NOWHERE, Node, Tree};
 use layout::Gap;
 
 /// The number of columns of a line.
@@ -12,28 +12,23 @@ pub const TAB: usize = 4;
 /// The largest column at which a line begins. It keeps the size of a deeply nested text in proportion to its tokens.
 const DEEPEST: usize = 60;
 
-/// What is to be done. The atoms before it are written.
+/// What is to be done.
 #[derive(Clone, Copy, PartialEq)]
 pub enum Step {
     /// Lay out the node, which is not on one line.
     Lay,
-    /// Lay out the next child of the node, after one that is on one line.
+    /// Lay out the next child: after one on one line, after one that is not, with its block on its own line, and on its
+    /// own line.
     Next,
-    /// The same, after a child that is not.
     Broken,
-    /// The same, with a block on its own line.
     Apart,
-    /// The same, with each child on its own line.
     Line,
-    /// Lay out the next part of a list, on its own line.
+    /// Lay out the next part of a list: on its own line, with as many as fit, and the same for names in imports only.
     Part,
-    /// The same, with as many parts on a line as fit.
     Fill,
-    /// The same, but each path and the part after it begin a line.
     Import,
-    /// Write the closer of the group on its own line.
+    /// Write the closer of the group: on its own line, and on this line.
     Close,
-    /// Write the closer of the group on this line.
     Shut,
 }
 
@@ -71,7 +66,7 @@ impl Tree {
     /// Writes a node if it fits on this line. Otherwise that is the next task.
     pub fn lay(&mut self, node: usize, indent: usize, tail: usize) {
         let own = *self.node(node);
-        if own.form == Form::Leaf || own.form != Form::Item && self.fits(&own, tail) {
+        if own.form == Form::Leaf || self.fits(&own, tail) {
             return self.put(own.first, own.end);
         }
         self.push_task(Task {
@@ -122,7 +117,7 @@ impl Tree {
             Form::Operators => self.next_operand(task, &own, &child),
             Form::Assign | Form::Let => self.next_side(task, &own, &child),
             Form::Control => self.next_of_control(task, &own, &child),
-            Form::Item | Form::Impl => self.next_of_item(task, &own, &child),
+            Form::Item => self.next_of_item(task, &own, &child),
             _ => {
                 self.reach(task, &own, &child, false);
                 let tail = self.tail_of(task, &own, &child);
@@ -142,7 +137,6 @@ impl Tree {
             Form::Group => self.lay_group(task, own),
             Form::Chain => self.lay_chain(task, own),
             Form::Arm => self.lay_arm(task, own),
-            Form::Item | Form::Impl => self.lay_item(task, own),
             _ => self.push(Step::Next, task, own.child, own.first),
         }
     }
@@ -241,11 +235,6 @@ impl Tree {
         self.column = column.saturating_add(1);
         self.is_fresh = false;
         self.is_shut = true;
-    }
-
-    /// Returns whether a group goes on from this line by its last part, whose first line has this width.
-    pub fn goes_on(&self, head: usize) -> bool {
-        head != NO_HEAD && self.column.saturating_add(head) < WIDTH
     }
 }
 

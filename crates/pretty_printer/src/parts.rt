@@ -2,7 +2,7 @@
 ghost use Rattle.std.specs.Prelude.{◌<◌, ◌≤◌};
 
 use crate::atoms::{Kind, Role};
-use crate::tree::{Form, NOWHERE, Tree};
+use crate::tree::{Form, Tree};
 use crate::words::Word;
 
 /// The width in characters up to which a part is not read, because no rule breaks its line.
@@ -73,11 +73,7 @@ impl Tree {
         if first >= end {
             return self.push_node(Form::Leaf, first, end);
         }
-        let item = if block {
-            self.item_at(first, end)
-        } else {
-            end
-        };
+        let item = if block { self.item_at(first, end) } else { end };
         if item < end {
             self.read_item(first, item, end)
         } else {
@@ -103,60 +99,40 @@ impl Tree {
         end
     }
 
-    /// Reads an item, whose keyword is the atom at `at`.
+    /// Reads an item, whose keyword is the atom at `at`: its generics, its parameters, its bounds and its body.
     fn read_item(&mut self, first: usize, at: usize, end: usize) -> usize {
-        let mut stop = end;
-        let mut block = NOWHERE;
-        let last = self.previous(end);
-        let empty = last.is_brace() && !last.is_full();
-        if last.is_brace() {
-            block = last.node;
-            stop = end.saturating_sub(1);
-        }
-        let head = self.find_role(at, stop, Role::Where);
-        let node = self.read_head(first, at, head);
-        let mut after = block;
-        if head < stop {
-            after = self.push_list_node(Form::Bounds, head, stop);
-            // Only one bound of an `impl` without items may be on the line of its head.
-            let comma = self.previous(stop).ends_part();
-            if let Some(own) = self.nodes.get_mut(after) {
-                own.must = own.must || !empty || own.child != own.last || comma;
-            }
-            self.append(node, after);
-        }
-        self.append(node, block);
-        if let Some(own) = self.nodes.get_mut(node) {
-            own.from = after;
-            own.until = head;
-        }
-        self.finish(node, end);
-        node
-    }
-
-    /// Reads the head of an item up to its bounds or its body: its generics, its parameters, and the rest.
-    fn read_head(&mut self, first: usize, at: usize, end: usize) -> usize {
+        let node = self.push_node(Form::Item, first, end);
         let impls = self.atom(at).is_word(Word::Impl);
-        let form = if impls { Form::Impl } else { Form::Item };
-        let node = self.push_node(form, first, end);
+        let last = *self.previous(end);
+        let stop = end.saturating_sub(last.is_brace() as usize);
+        let head = self.find_role(at, stop, Role::Where);
         let mut from = at.saturating_add(2).saturating_sub(impls as usize);
         if self.atom(from).role == Role::Less {
             let past = self.atom(from).node.saturating_add(1);
             let generics = self.push_list_node(Form::Group, from, past);
             self.append(node, generics);
-            from = self.node(generics).end;
+            from = past;
         }
-        let own = self.atom(from);
-        if own.role == Role::Params {
-            self.append(node, own.node);
-            from = from.saturating_add(1);
-        } else if own.role == Role::Colon {
-            from = from.saturating_add(1);
+        if self.atom(from).role == Role::Params {
+            self.append(node, self.atom(from).node);
         }
-        if from < end {
-            let child = self.read_expression(from, end);
-            self.append(node, child);
+        if head < stop {
+            let bounds = self.push_list_node(Form::Bounds, head, stop);
+            // Only one bound of an `impl` without items may be on the line of its head.
+            let lone = impls && last.is_brace() && !last.is_full();
+            let comma = self.previous(stop).ends_part();
+            if let Some(own) = self.nodes.get_mut(bounds) {
+                own.must = own.must || !lone || own.child != own.last || comma;
+            }
+            self.append(node, bounds);
         }
+        if last.is_brace() {
+            self.append(node, last.node);
+        }
+        if let Some(own) = self.nodes.get_mut(node) {
+            own.until = head;
+        }
+        self.finish(node, end);
         node
     }
 

@@ -7,13 +7,6 @@ use layout::Gap;
 use proc_macro2::TokenStream;
 use std::alloc::{AllocError, Global};
 
-/// A list that is written: the index of its next atom, and the index after its last.
-#[derive(Clone, Copy)]
-struct Place {
-    at: usize,
-    end: usize,
-}
-
 /// Chooses the gaps of a stream, one after another.
 #[derive(Drop)]
 pub struct Printer<'a> {
@@ -26,9 +19,10 @@ pub struct Printer<'a> {
     /// The next part, and the first group of it.
     part: usize,
     next_group: usize,
-    /// The list that is written, and the lists around it.
-    list: Place,
-    outer: Vec<Place>,
+    /// The index of the next atom in the list that is written, the one after its last, and those of the lists around.
+    at: usize,
+    end: usize,
+    outer: Vec<(usize, usize)>,
     /// The number of tokens without a gap that come next, because they are in one atom.
     joined: usize,
 }
@@ -56,7 +50,8 @@ impl<'a> Printer<'a> {
             groups,
             part,
             next_group: 0,
-            list: Place { at: first, end },
+            at: first,
+            end,
             outer: Vec::new(alloc),
             joined: 0,
         })
@@ -86,11 +81,12 @@ impl<'a> Printer<'a> {
     /// Returns the gap before the next atom of the list, or before its end.
     #[inline(never)]
     fn step(&mut self) -> Gap {
-        let index = self.list.at;
-        if index >= self.list.end {
+        let index = self.at;
+        if index >= self.end {
             let gap = self.tree.atom(index).gap;
-            if let Some(outer) = self.outer.pop() {
-                self.list = outer;
+            if let Some((at, end)) = self.outer.pop() {
+                self.at = at;
+                self.end = end;
             }
             return gap;
         }
@@ -99,16 +95,13 @@ impl<'a> Printer<'a> {
         }
         let own = *self.tree.atom(index);
         self.joined = own.tokens().saturating_sub(1);
-        self.list.at = index.saturating_add(1);
+        self.at = index.saturating_add(1);
         if own.is_group() {
-            let inner = self.tree.node(own.node);
-            let place = Place {
-                at: inner.from,
-                end: inner.until,
-            };
-            let pushed = self.outer.push(self.list);
+            let pushed = self.outer.push((self.at, self.end));
             self.tree.check(pushed);
-            self.list = place;
+            let inner = self.tree.node(own.node);
+            self.at = inner.from;
+            self.end = inner.until;
         }
         own.gap
     }
@@ -135,7 +128,7 @@ impl<'a> Printer<'a> {
     /// Reads and measures the groups of the part that ends here.
     fn read_groups(&mut self, end: usize) {
         let top = self.top_groups;
-        self.tree.atoms.truncate(self.list.end.saturating_add(1));
+        self.tree.atoms.truncate(self.end.saturating_add(1));
         self.tree.nodes.truncate(self.nodes);
         self.groups.truncate(top);
         for next in self.next_group..top {

@@ -3,7 +3,7 @@ use crate::atoms::{Atom, Kind, NOTHING, Role, Sign};
 use crate::tree::{Form, Tree};
 use crate::words::{Word, word_of};
 use pm_token::parts::{is_raw, name_of};
-use proc_macro2::{Delimiter, Ident, Spacing, TokenTree};
+use proc_macro2::{Ident, Spacing, TokenTree};
 use std::alloc::AllocError;
 
 /// A group whose atoms are not read yet.
@@ -32,9 +32,19 @@ pub fn push_list<'a>(
                 let node = tree.push_node(Form::Group, own, own.saturating_add(1));
                 let trees = group.stream_ref().trees();
                 groups.push(Unread { node, trees })?;
-                group_atom(group.delimiter(), node, trees)
+                let mut atom = Atom::new(Kind::Group(group.delimiter()), 2);
+                atom.node = node;
+                if atom.is_brace() && has_statements(trees) {
+                    atom.role = Role::Block;
+                }
+                atom
             }
-            Some(TokenTree::Ident(ident)) => name_atom(ident),
+            Some(TokenTree::Ident(ident)) if is_raw(ident) => {
+                Atom::new(Kind::Word(Word::Name), width_of(ident))
+            }
+            Some(TokenTree::Ident(ident)) => {
+                Atom::new(Kind::Word(word_of(name_of(ident))), width_of(ident))
+            }
             Some(TokenTree::Literal(literal)) => literal_atom(literal.text()),
             Some(TokenTree::Punct(punct)) => mark_atom(punct.as_char(), trees, index),
             None => break,
@@ -45,27 +55,6 @@ pub fn push_list<'a>(
     // The gap of the atom after a list is that before its closer.
     tree.atoms.push(NOTHING)?;
     Ok(())
-}
-
-/// Returns the atom of an identifier.
-fn name_atom(ident: &Ident) -> Atom {
-    let word = if is_raw(ident) {
-        Word::Name
-    } else {
-        word_of(name_of(ident))
-    };
-    Atom::new(Kind::Word(word), width_of(ident))
-}
-
-/// Returns the atom of a group with these trees, which has this node.
-fn group_atom(delimiter: Delimiter, node: usize, trees: &[TokenTree]) -> Atom {
-    let mut atom = Atom::new(Kind::Group(delimiter), 2);
-    atom.node = node;
-    // Only braces need it.
-    if delimiter == Delimiter::Brace && has_statements(trees) {
-        atom.role = Role::Block;
-    }
-    atom
 }
 
 /// Returns whether `;` or `=>` is among the trees.

@@ -35,10 +35,8 @@ pub enum Form {
     Control,
     /// A pattern, its guard if it has one, and its body.
     Arm,
-    /// An item: its generics, parameters, types, bounds and body.
+    /// An item: its generics, parameters, bounds and body.
     Item,
-    /// An `impl`, which has a trait and a type as an item has its result.
-    Impl,
     /// `where`, with a child for each bound.
     Bounds,
 }
@@ -54,8 +52,8 @@ pub struct Node {
     pub child: usize,
     pub last: usize,
     pub next: usize,
-    /// Of a group: the index of its list's first atom, and the one after the last. Of an item: the node of its bounds
-    /// or its body, and the index after its head. Of `if`, `match` and loops: the node of the first block.
+    /// Of a group: the index of its list's first atom, and the one after the last. Of `if`, `match` and loops: the node
+    /// of the first block. Of an item: the index after its head.
     pub from: usize,
     pub until: usize,
     /// The width of its first line if its last part can go on over the next lines, or `NO_HEAD`.

@@ -63,8 +63,19 @@ pub fn word_of(text: &str) -> Word {
         b"where" => Word::Where,
         b"while" => Word::While,
         b"continue" | b"dyn" | b"ref" | b"type" | b"use" => Word::Keyword,
-        b"block" | b"expr" | b"ident" | b"item" | b"lifetime" | b"literal" | b"meta" | b"pat"
-        | b"path" | b"stmt" | b"tt" | b"ty" | b"vis" => Word::Fragment,
+        b"block"
+        | b"expr"
+        | b"ident"
+        | b"item"
+        | b"lifetime"
+        | b"literal"
+        | b"meta"
+        | b"pat"
+        | b"path"
+        | b"stmt"
+        | b"tt"
+        | b"ty"
+        | b"vis" => Word::Fragment,
         _ => Word::Name,
     }
 }
