@@ -81,8 +81,6 @@ pub enum Role {
     Branch,
     /// Statements, items or fields. Until roles are given: braces with `;` or `=>`.
     Block,
-    /// The block of an `if`, a `match` or a loop in the head of another.
-    Inner,
     /// The fields of a struct literal or of a variant.
     Fields,
     /// Any other braces.
@@ -190,7 +188,7 @@ impl Atom {
 
     /// Whether it is the braces of an item, or of a head such as `if a`.
     pub fn is_body(&self) -> bool {
-        matches!(self.role, Role::Block | Role::Inner | Role::Branch)
+        matches!(self.role, Role::Block | Role::Branch)
     }
 
     /// Whether a space is before it on one line.

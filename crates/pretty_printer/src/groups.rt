@@ -74,9 +74,7 @@ impl Tree {
         let several = own.child != own.last;
         let list = atom.is_list() && !matches!(atom.role, Role::Params | Role::Repeated);
         let short = self.are_short(own.from, own.until, Role::Comma, SHORT);
-        if atom.role == Role::Use && self.find_role(own.from, own.until, Role::Use) < own.until {
-            Step::Import
-        } else if atom.role == Role::Use || derive || list && several && short {
+        if atom.role == Role::Use || derive || list && several && short {
             Step::Fill
         } else {
             Step::Part
@@ -108,7 +106,7 @@ impl Tree {
         if !first {
             self.put(last.end, part.first);
         }
-        if !first && self.joins(task.step, &last, part) {
+        if !first && task.step == Step::Fill && self.fits(part, 2) {
             self.lead(own, part.first);
         } else {
             let blank = !first && self.parts_items(&last, part);
@@ -122,21 +120,6 @@ impl Tree {
         self.push(task.step, task, part.next, task.child);
         let comma = part.end < own.until && self.atom(part.end).ends_part();
         self.lay(task.child, task.indent, comma as usize);
-    }
-
-    /// Returns whether a part goes on with the line of the one before it.
-    fn joins(&self, step: Step, last: &Node, part: &Node) -> bool {
-        let may = match step {
-            Step::Fill => true,
-            Step::Import => !self.is_path(part) && !self.is_path(last),
-            _ => false,
-        };
-        may && self.fits(part, 2)
-    }
-
-    /// Returns whether a part of an import is a path.
-    fn is_path(&self, part: &Node) -> bool {
-        self.find_role(part.first, part.end, Role::Path) < part.end
     }
 
     /// Returns whether an empty line is between two parts: between two items, if one of them has several lines or the

@@ -48,9 +48,16 @@ impl Tree {
             Form::Control => self.node(own.from),
             _ => last,
         };
+        let first = self.atom(last.first);
+        // The body of a closure begins on the line of its parameters if it is a block, or ends with one.
+        let block = match last.form {
+            Form::Group | Form::Plain => self.previous(last.end).is_brace(),
+            Form::Control => first.is_word(Word::Match) || first.is_word(Word::Loop),
+            form => form == Form::Closure,
+        };
         let head = match own.form {
             Form::Plain | Form::Chain => last.head,
-            Form::Closure if self.has_block(last) => last.head,
+            Form::Closure if block => last.head,
             Form::Control if opener.form == Form::Group => 1,
             _ => NO_HEAD,
         };
@@ -58,17 +65,6 @@ impl Tree {
             return NO_HEAD;
         }
         self.distance(own.first, opener.first).saturating_add(head)
-    }
-
-    /// Returns whether the body of a closure begins on the line of its parameters: it is a block, or ends with one.
-    fn has_block(&self, body: &Node) -> bool {
-        let first = self.atom(body.first);
-        match body.form {
-            Form::Group | Form::Plain => self.previous(body.end).is_brace(),
-            Form::Closure => body.head != NO_HEAD,
-            Form::Control => first.is_word(Word::Match) || first.is_word(Word::Loop),
-            _ => false,
-        }
     }
 
     /// Sets the offset of each atom in the list on one line. All its groups are measured.
@@ -132,21 +128,11 @@ impl Tree {
     /// Returns whether a group whose parts are read needs several lines. `inner` is the width of its list.
     fn needs_lines(&self, own: &Node, atom: &Atom, inner: usize) -> bool {
         let comma = self.previous(own.until).is_mark(',');
+        let previous = self.previous(own.first);
         let single = own.child == own.last;
         let loose = matches!(atom.role, Role::Repeated | Role::Attribute | Role::Meta)
             || atom.role == Role::Tuple && single
-            || self.previous(own.first).role == Role::Bang;
-        own.must
-            || matches!(atom.role, Role::Block | Role::Inner)
-            || self.is_tall(own.from, own.until)
-            || comma && !loose
-            || inner > FIELDS
-                && inner.saturating_sub(comma as usize) > self.limit(own, atom, single)
-    }
-
-    /// Returns the largest width of the list of a group on one line.
-    fn limit(&self, own: &Node, atom: &Atom, single: bool) -> usize {
-        let previous = self.previous(own.first);
+            || previous.role == Role::Bang;
         let next = self.atom(own.end);
         let pattern = next.role == Role::Arm
             || next.is_mark('=')
@@ -154,12 +140,17 @@ impl Tree {
             || next.is_word(Word::If)
             || previous.is_word(Word::Let);
         let index = !atom.is_round() && previous.is_value();
-        match atom.role {
+        let limit = match atom.role {
             Role::Fields => FIELDS,
             Role::Meta if !single => META,
             Role::Plain | Role::Tuple if !(single || pattern || index) => CALL,
             _ => usize::MAX,
-        }
+        };
+        own.must
+            || atom.role == Role::Block
+            || self.is_tall(own.from, own.until)
+            || comma && !loose
+            || inner.saturating_sub(comma as usize) > limit
     }
 
     /// Returns the width of the first line inside a group if its last part goes on over the next lines, or `NO_HEAD`.

@@ -23,10 +23,9 @@ pub enum Step {
     Broken,
     Apart,
     Line,
-    /// Lay out the next part of a list: on its own line, with as many as fit, and the same for names in imports only.
+    /// Lay out the next part of a list: on its own line, and with as many as fit.
     Part,
     Fill,
-    Import,
     /// Write the closer of the group: on its own line, and on this line.
     Close,
     Shut,
@@ -69,14 +68,15 @@ impl Tree {
         if own.form == Form::Leaf || self.fits(&own, tail) {
             return self.put(own.first, own.end);
         }
-        self.push_task(Task {
+        let task = Task {
             step: Step::Lay,
             node,
             child: NOWHERE,
             at: NOWHERE,
             indent,
             tail,
-        });
+        };
+        self.push(Step::Lay, task, NOWHERE, NOWHERE);
     }
 
     /// Leaves the children of a task's node from `child` on to this step.
@@ -85,18 +85,13 @@ impl Tree {
         left.step = step;
         left.child = child;
         left.at = at;
-        self.push_task(left);
+        let pushed = self.tasks.push(left);
+        self.check(pushed);
     }
 
     /// Leaves the children after this one to this step.
     pub fn leave(&mut self, step: Step, task: Task, child: &Node) {
         self.push(step, task, child.next, child.end);
-    }
-
-    /// Adds a task.
-    fn push_task(&mut self, task: Task) {
-        let pushed = self.tasks.push(task);
-        self.check(pushed);
     }
 
     /// Does what a task says, or leaves tasks for it.

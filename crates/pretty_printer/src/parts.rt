@@ -68,35 +68,32 @@ impl Tree {
         end
     }
 
-    /// Reads the part with these atoms, and returns its node.
+    /// Reads the part with these atoms, and returns its node. An item begins with attributes, a visibility and a keyword.
     pub fn read_part(&mut self, first: usize, end: usize, block: bool) -> usize {
         if first >= end {
             return self.push_node(Form::Leaf, first, end);
         }
-        let item = if block { self.item_at(first, end) } else { end };
-        if item < end {
-            self.read_item(first, item, end)
-        } else {
-            self.read_expression(first, end)
-        }
-    }
-
-    /// Returns the index of the keyword of an item, which may follow attributes and a visibility, or `end`.
-    fn item_at(&self, first: usize, end: usize) -> usize {
         for index in first..end {
             let own = self.atom(index);
-            match own.kind {
-                Kind::Word(Word::Impl | Word::Item) => return index,
-                Kind::Word(Word::Fn) if self.find_role(index, end, Role::Params) < end => {
-                    return index;
-                }
-                Kind::Word(Word::Pub | Word::Prefix | Word::Extern | Word::String) => {}
-                Kind::Group(_) if own.is_list() => {}
-                _ if own.role == Role::Hash => {}
-                _ => break,
+            let item = match own.kind {
+                Kind::Word(Word::Fn) => self.find_role(index, end, Role::Params) < end,
+                _ => own.is_word(Word::Impl) || own.is_word(Word::Item),
+            };
+            if item && block {
+                return self.read_item(first, index, end);
+            }
+            let front = match own.kind {
+                Kind::Word(word) => matches!(
+                    word,
+                    Word::Pub | Word::Prefix | Word::Extern | Word::String
+                ),
+                _ => own.is_list() || own.role == Role::Hash,
+            };
+            if !front {
+                break;
             }
         }
-        end
+        self.read_expression(first, end)
     }
 
     /// Reads an item, whose keyword is the atom at `at`: its generics, its parameters, its bounds and its body.
@@ -136,7 +133,7 @@ impl Tree {
         node
     }
 
-    /// Reads a list that is not a group: the bounds after `where`, or the parameters in angles.
+    /// Adds a list that is not a group: the bounds after `where`, or the parameters in angles.
     fn push_list_node(&mut self, form: Form, first: usize, end: usize) -> usize {
         let node = self.push_node(form, first, end);
         let angles = (form == Form::Group) as usize;
@@ -145,7 +142,18 @@ impl Tree {
             own.from = first.saturating_add(1);
             own.until = until;
         }
-        self.read_parts(node, false);
+        self.push_unread(node, first.saturating_add(1), until, false);
         node
+    }
+
+    /// Adds parts that are not read to the children of a list.
+    pub fn push_unread(&mut self, list: usize, from: usize, until: usize, block: bool) {
+        let mut start = from;
+        while start < until {
+            let past = self.part_end(start, until, block);
+            let part = self.push_node(Form::Unread, start, self.without_mark(past));
+            self.append(list, part);
+            start = past;
+        }
     }
 }

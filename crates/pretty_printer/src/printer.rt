@@ -2,7 +2,7 @@
 use crate::atoms::Role;
 use crate::reading::{Unread, push_list};
 use crate::roles::assign_roles;
-use crate::tree::{Form, Tree};
+use crate::tree::{NOWHERE, Tree};
 use layout::Gap;
 use proc_macro2::TokenStream;
 use std::alloc::{AllocError, Global};
@@ -37,12 +37,7 @@ impl<'a> Printer<'a> {
         let end = tree.atoms.len().saturating_sub(1);
         assign_roles(&mut tree, first, end, true, Role::Block);
         let part = tree.nodes.len();
-        let mut start = first;
-        while start < end {
-            let past = tree.part_end(start, end, true);
-            tree.push_node(Form::Unread, start, tree.without_mark(past));
-            start = past;
-        }
+        tree.push_unread(NOWHERE, first, end, true);
         Ok(Printer {
             nodes: tree.nodes.len(),
             tree,

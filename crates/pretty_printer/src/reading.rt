@@ -102,28 +102,16 @@ fn width_of(ident: &Ident) -> usize {
 }
 
 /// Returns the atom of the lifetime or the operator that begins with this mark, which is the tree at this index.
-#[inline(always)]
-fn mark_atom(mark: char, trees: &[TokenTree], index: usize) -> Atom {
+fn mark_atom(first: char, trees: &[TokenTree], index: usize) -> Atom {
     let next = index.saturating_add(1);
-    if mark == '\'' {
+    if first == '\'' {
         if let Some(TokenTree::Ident(ident)) = trees.get(next) {
             let width = width_of(ident).saturating_add(1);
             return Atom::new(Kind::Word(Word::Lifetime), width);
         }
     }
-    let (sign, width) = operator(mark, trees, index);
-    let mut atom = Atom::new(Kind::Sign(sign), width);
-    atom.glued = is_joint(trees, index.saturating_add(width).saturating_sub(1));
-    atom
-}
-
-/// Returns the operator that begins with this mark, which is the tree at this index, and the number of its marks.
-fn operator(first: char, trees: &[TokenTree], index: usize) -> (Sign, usize) {
-    let Some(second) = next_mark(trees, index) else {
-        return (Sign::One(first), 1);
-    };
-    match (first, second) {
-        ('.', '.') => match next_mark(trees, index.saturating_add(1)) {
+    let (sign, width) = match (first, next_mark(trees, index).unwrap_or(' ')) {
+        ('.', '.') => match next_mark(trees, next) {
             Some('.' | '=') => (Sign::Range, 3),
             _ => (Sign::Range, 2),
         },
@@ -135,7 +123,10 @@ fn operator(first: char, trees: &[TokenTree], index: usize) -> (Sign, usize) {
         ('=' | '!' | '<' | '>', '=') => (Sign::Compare, 2),
         ('+' | '-' | '*' | '/' | '%' | '^' | '&' | '|', '=') => (Sign::Assign, 2),
         _ => (Sign::One(first), 1),
-    }
+    };
+    let mut atom = Atom::new(Kind::Sign(sign), width);
+    atom.glued = is_joint(trees, index.saturating_add(width).saturating_sub(1));
+    atom
 }
 
 /// Returns the mark after the one at this index, if an operator may go on with it.

@@ -13,7 +13,6 @@ pub fn assign_roles(tree: &mut Tree, first: usize, end: usize, block: bool, insi
         in_bars: false,
         head: Head::Nothing,
         last: Head::Nothing,
-        outer: 0,
         ends: false,
         depth: 0,
         inside,
@@ -55,8 +54,6 @@ pub struct State {
     pub head: Head,
     /// The head of the last braces.
     pub last: Head,
-    /// The number of heads around this one.
-    pub outer: usize,
     /// Whether a statement, an item or an arm ends with the atom.
     pub ends: bool,
     /// The number of open `<`.
@@ -114,7 +111,7 @@ impl State {
             self.ends = role == Role::Attribute && passed < 3;
             return role;
         }
-        let item = self.is_in_item();
+        let item = is_item(self.head);
         let role = self.brace_role(own, previous, next);
         let first = passed == 1 && previous.is_word(Word::Prefix);
         let operand = awaits_operand(previous) && !first;
@@ -124,8 +121,20 @@ impl State {
             Kind::Sign(sign) => matches!(sign, Sign::Arm | Sign::One(';' | ',' | '.' | '?')),
             _ => false,
         };
+        let next_role = tree.next(self.start).role;
+        let statement = match tree.atom(self.start).kind {
+            Kind::Group(_) => passed == 0,
+            Kind::Word(Word::Lifetime) => true,
+            // For example `unsafe` and `async move`.
+            Kind::Word(Word::Prefix) => passed < 3,
+            Kind::Word(Word::Name | Word::MacroRules) => {
+                matches!(next_role, Role::Bang | Role::Path)
+            }
+            Kind::Word(word) => head_of(word).is_some(),
+            _ => false,
+        };
         let ends = braces && !goes_on && !operand && self.head != Head::Other;
-        self.ends = ends && (item || self.ends_statement(tree, passed));
+        self.ends = ends && (item || statement);
         role
     }
 
@@ -144,20 +153,12 @@ impl State {
             || previous.is_nothing() && self.start == NO_START
             || previous.is_word(Word::Return);
         let after_else = previous.is_word(Word::Else);
-        if matches!(self.head, Head::Other | Head::Branch) && !after_else {
-            self.outer = self.outer.saturating_add(1);
-        }
         self.head = match word {
             Word::If if after_else => self.last,
             Word::If if is_value => Head::Branch,
             Word::Else if self.last == Head::Branch || !previous.is_brace() => Head::Branch,
             _ => head,
         };
-    }
-
-    /// Returns whether an item began that has no braces yet.
-    pub fn is_in_item(&self) -> bool {
-        is_item(self.head)
     }
 
     /// Returns the role of braces.
@@ -174,19 +175,13 @@ impl State {
             || next.is_mark(':')
             || next.is_word(Word::In)
             || awaits_operand(previous);
-        if self.head == Head::Nothing || !self.is_in_item() && goes_on {
+        if self.head == Head::Nothing || !is_item(self.head) && goes_on {
             return self.value_role(own, previous);
         }
         self.last = self.head;
         self.head = Head::Nothing;
-        let inner = self.outer > 0;
-        if inner {
-            self.head = Head::Other;
-            self.outer = self.outer.saturating_sub(1);
-        }
         match self.last {
             Head::Branch if own.role != Role::Block => Role::Branch,
-            _ if inner => Role::Inner,
             _ => Role::Block,
         }
     }
@@ -226,27 +221,10 @@ impl State {
             Role::Tuple
         }
     }
-
-    /// Returns whether a statement or an arm ends with a block that has so many atoms of it before it.
-    fn ends_statement(&self, tree: &Tree, passed: usize) -> bool {
-        let first = tree.atom(self.start);
-        let next = tree.next(self.start);
-        match first.kind {
-            Kind::Group(_) => passed == 0,
-            Kind::Word(word) => match word {
-                Word::Lifetime => true,
-                // For example `unsafe` and `async move`.
-                Word::Prefix => passed < 3,
-                Word::Name | Word::MacroRules => matches!(next.role, Role::Bang | Role::Path),
-                _ => head_of(word).is_some(),
-            },
-            _ => false,
-        }
-    }
 }
 
 /// Returns whether it is the head of an item.
-fn is_item(head: Head) -> bool {
+pub fn is_item(head: Head) -> bool {
     matches!(head, Head::Fn | Head::Impl | Head::Item)
 }
 

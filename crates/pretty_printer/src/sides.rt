@@ -18,7 +18,17 @@ impl Tree {
     /// Lays out a chain that is not on one line.
     pub fn lay_chain(&mut self, task: Task, own: &Node) {
         let call = *self.node(own.last);
-        if self.last_goes_on(task, own, &call) {
+        let before = self.distance(own.first, call.first);
+        let width = self.width(call.first, call.end);
+        let several = self.node(own.child).next != own.last;
+        let rest = WIDTH.saturating_sub(self.column.saturating_add(task.tail));
+        let room = if several { rest.min(CALL) } else { rest };
+        let alone = deeper(task.indent).saturating_add(width);
+        let fits_alone = !call.must && alone.saturating_add(task.tail) <= WIDTH;
+        let fits = before.saturating_add(width) <= room;
+        let opens = !fits_alone && before.saturating_add(call.head) <= room;
+        if !self.is_tall(own.first, call.first) && (fits || opens) {
+            // Only the last call goes on over the next lines.
             self.put(own.first, call.first);
             return self.lay(own.last, task.indent, task.tail);
         }
@@ -37,20 +47,6 @@ impl Tree {
         self.leave(Step::Next, task, &root);
         let tail = if joined == own.last { task.tail } else { 0 };
         self.lay(joined, task.indent, tail);
-    }
-
-    /// Returns whether all but the last call of a chain is on this line, and the last call begins there.
-    fn last_goes_on(&self, task: Task, own: &Node, call: &Node) -> bool {
-        let before = self.distance(own.first, call.first);
-        let width = self.width(call.first, call.end);
-        let room = WIDTH.saturating_sub(self.column.saturating_add(task.tail));
-        let several = self.node(own.child).next != own.last;
-        let room = if several { room.min(CALL) } else { room };
-        let alone = deeper(task.indent).saturating_add(width);
-        let fits_alone = !call.must && alone.saturating_add(task.tail) <= WIDTH;
-        let fits = before.saturating_add(width) <= room;
-        let head = call.head != NO_HEAD && before.saturating_add(call.head) <= room;
-        !self.is_tall(own.first, call.first) && (fits || head && !fits_alone)
     }
 
     /// Writes the next call of a chain on its own line, which is deeper unless a line of closers ends the root.

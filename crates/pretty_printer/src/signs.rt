@@ -1,6 +1,6 @@
 //! Pairs angles, gives operators their roles, and chooses the spaces of a line.
 use crate::atoms::{Atom, Kind, Role, Sign};
-use crate::roles::{Head, NO_START, State};
+use crate::roles::{Head, NO_START, State, is_item};
 use crate::tree::Tree;
 use crate::words::Word;
 
@@ -72,11 +72,10 @@ impl State {
             Sign::One(mark) => mark,
             _ => ' ',
         };
-        let listed = self.depth > 0 || self.in_bars || self.is_in_item();
+        let listed = self.depth > 0 || self.in_bars || is_item(self.head);
         self.ends = mark == ';' || mark == ',' && !listed;
         if self.ends || matches!(sign, Sign::Arm) {
             self.head = Head::Nothing;
-            self.outer = 0;
             if self.start < NO_START {
                 self.start = index.saturating_add(1);
             }
@@ -129,11 +128,12 @@ fn bang_role(previous: &Atom, next: &Atom, value: bool) -> Role {
 
 /// Returns the role of any other operator.
 fn plain_role(sign: Sign, value: bool) -> Role {
+    let side = if value { Role::Between } else { Role::Before };
     match sign {
         Sign::Path => Role::Path,
         Sign::Range => Role::Range,
         Sign::Arm => Role::Arm,
-        Sign::And => side(value),
+        Sign::And => side,
         Sign::One(c) => match c {
             ':' => Role::Colon,
             ',' => Role::Comma,
@@ -142,16 +142,11 @@ fn plain_role(sign: Sign, value: bool) -> Role {
             '#' => Role::Hash,
             '$' | '~' => Role::Before,
             '?' if value => Role::After,
-            '-' | '*' | '&' | '@' | '?' => side(value),
+            '-' | '*' | '&' | '@' | '?' => side,
             _ => Role::Between,
         },
         _ => Role::Between,
     }
-}
-
-/// Returns the role of an operator that has two operands after a value.
-fn side(value: bool) -> Role {
-    if value { Role::Between } else { Role::Before }
 }
 
 /// Returns whether a space should be before the atom `next` at this index, which gets this role. The atom is not the
@@ -168,7 +163,16 @@ pub fn wants_space(tree: &Tree, index: usize, previous: &Atom, next: &Atom, role
         let opens = matches!(previous.kind, Kind::Word(Word::Impl | Word::For | Word::Fn));
         return previous.is_keyword() && !(opens && role == Role::Less);
     }
-    !next.is_list() || is_apart(previous, next)
+    if !next.is_list() {
+        return true;
+    }
+    match previous.kind {
+        Kind::Word(Word::Pub) => !next.is_round(),
+        Kind::Word(Word::Fn | Word::Await | Word::MacroRules) => false,
+        Kind::Word(Word::Lifetime) => true,
+        Kind::Word(_) => previous.is_keyword(),
+        _ => previous.is_brace() || previous.role == Role::Attribute,
+    }
 }
 
 /// Returns whether an operator with this role touches what is before it.
@@ -204,16 +208,5 @@ fn is_wide(tree: &Tree, index: usize, previous: &Atom, next: &Atom) -> bool {
         | Role::Separator => false,
         Role::Bang => !next.is_list(),
         _ => true,
-    }
-}
-
-/// Returns whether a space is between an atom and the parentheses or brackets after it.
-fn is_apart(previous: &Atom, next: &Atom) -> bool {
-    match previous.kind {
-        Kind::Word(Word::Pub) => !next.is_round(),
-        Kind::Word(Word::Fn | Word::Await | Word::MacroRules) => false,
-        Kind::Word(Word::Lifetime) => true,
-        Kind::Word(_) => previous.is_keyword(),
-        _ => previous.is_brace() || previous.role == Role::Attribute,
     }
 }
