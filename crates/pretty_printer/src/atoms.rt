@@ -143,10 +143,6 @@ impl Atom {
         }
     }
 
-    pub fn is_nothing(&self) -> bool {
-        matches!(self.kind, Kind::Nothing)
-    }
-
     pub fn is_word(&self, word: Word) -> bool {
         matches!(self.kind, Kind::Word(own) if own == word)
     }
@@ -203,19 +199,10 @@ impl Atom {
 
     /// Whether it is a word, but not a keyword.
     pub fn is_name(&self) -> bool {
-        match self.kind {
-            Kind::Word(word) => matches!(
-                word,
-                Word::Name
-                    | Word::Fragment
-                    | Word::Derive
-                    | Word::Literal
-                    | Word::String
-                    | Word::Lifetime
-                    | Word::Union
-            ),
-            _ => false,
-        }
+        matches!(
+            self.kind,
+            Kind::Word(Word::Name | Word::Fragment | Word::Literal | Word::String | Word::Lifetime)
+        )
     }
 
     /// Whether it is a keyword.

@@ -145,13 +145,6 @@ impl Tree {
             Kind::Group(_) if own.is_body() && self.reader.controls > 0 && !bang => {
                 return self.take_block(index, own);
             }
-            // A call or an index of a chain has it as its root.
-            Kind::Group(_) if previous.is_group() || !own.is_round() && !bang => {
-                if self.reader.chain != NOWHERE && own.role == Role::Plain {
-                    let node = self.take_operand(index);
-                    self.set_operand(node);
-                }
-            }
             Kind::Word(Word::In | Word::Else) if !self.reader.opens.is_empty() => {
                 return self.attach(ASSIGN, index);
             }

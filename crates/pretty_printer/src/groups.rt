@@ -70,11 +70,15 @@ impl Tree {
     /// Returns the step that writes the parts of a group.
     fn step_of(&self, own: &Node) -> Step {
         let atom = self.atom(own.first);
-        let derive = atom.role == Role::Meta && self.previous(own.first).is_word(Word::Derive);
         let several = own.child != own.last;
         let list = atom.is_list() && !matches!(atom.role, Role::Params | Role::Repeated);
-        let short = self.are_short(own.from, own.until, Role::Comma, SHORT);
-        if atom.role == Role::Use || derive || list && several && short {
+        let most = if atom.role == Role::Meta {
+            usize::MAX
+        } else {
+            SHORT
+        };
+        let short = list && several && self.are_short(own.from, own.until, Role::Comma, most);
+        if atom.role == Role::Use || short {
             Step::Fill
         } else {
             Step::Part

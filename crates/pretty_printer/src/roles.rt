@@ -89,7 +89,8 @@ impl State {
             }
             Kind::Nothing => {}
         }
-        let spaced = !previous.is_nothing() && wants_space(tree, index, previous, own, role);
+        let begins = matches!(previous.kind, Kind::Nothing);
+        let spaced = !begins && wants_space(tree, index, previous, own, role);
         self.ends = self.ends && self.start < NO_START && !own.glued;
         if self.ends {
             self.start = index.saturating_add(1);
@@ -121,14 +122,15 @@ impl State {
             Kind::Sign(sign) => matches!(sign, Sign::Arm | Sign::One(';' | ',' | '.' | '?')),
             _ => false,
         };
-        let next_role = tree.next(self.start).role;
+        let second = tree.next(self.start);
         let statement = match tree.atom(self.start).kind {
             Kind::Group(_) => passed == 0,
             Kind::Word(Word::Lifetime) => true,
             // For example `unsafe` and `async move`.
             Kind::Word(Word::Prefix) => passed < 3,
             Kind::Word(Word::Name | Word::MacroRules) => {
-                matches!(next_role, Role::Bang | Role::Path)
+                // For example `m! {}` and `union U {}`.
+                matches!(second.role, Role::Bang | Role::Path) || second.is_any_word()
             }
             Kind::Word(word) => head_of(word).is_some(),
             _ => false,
@@ -142,15 +144,14 @@ impl State {
     fn take_head(&mut self, word: Word, head: Head, previous: &Atom, next: &Atom) {
         let bounds = word == Word::For && (self.head == Head::Impl || next.is_mark('<'));
         let inner = is_item(head) && (next.is_group() || self.head == Head::Fn);
-        let name = word == Word::Union && !next.is_name();
-        if bounds || inner || name {
+        if bounds || inner {
             return;
         }
         let after_sign = previous.is_sign()
             && previous.role != Role::Greater
             && previous.role != Role::Semicolon;
         let is_value = after_sign
-            || previous.is_nothing() && self.start == NO_START
+            || matches!(previous.kind, Kind::Nothing) && self.start == NO_START
             || previous.is_word(Word::Return);
         let after_else = previous.is_word(Word::Else);
         self.head = match word {
@@ -233,7 +234,7 @@ fn head_of(word: Word) -> Option<Head> {
     match word {
         Word::Fn => Some(Head::Fn),
         Word::Impl => Some(Head::Impl),
-        Word::Item | Word::Union | Word::Extern => Some(Head::Item),
+        Word::Item | Word::Extern => Some(Head::Item),
         Word::For | Word::While | Word::Loop | Word::Match | Word::If => Some(Head::Other),
         Word::Else => Some(Head::Else),
         _ => None,

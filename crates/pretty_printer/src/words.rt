@@ -6,8 +6,6 @@ pub enum Word {
     Name,
     /// The name of a kind of fragment in a macro's matcher, such as `expr`.
     Fragment,
-    /// The name `derive`.
-    Derive,
     Literal,
     String,
     Lifetime,
@@ -33,7 +31,6 @@ pub enum Word {
     Pub,
     /// `break`, `return` and `yield`
     Return,
-    Union,
     Where,
     While,
 }
@@ -43,7 +40,6 @@ pub fn word_of(text: &str) -> Word {
     match text.as_bytes() {
         b"as" => Word::As,
         b"await" => Word::Await,
-        b"derive" => Word::Derive,
         b"else" => Word::Else,
         b"extern" => Word::Extern,
         b"fn" => Word::Fn,
@@ -59,7 +55,6 @@ pub fn word_of(text: &str) -> Word {
         b"async" | b"const" | b"move" | b"mut" | b"static" | b"unsafe" => Word::Prefix,
         b"pub" => Word::Pub,
         b"break" | b"return" | b"yield" => Word::Return,
-        b"union" => Word::Union,
         b"where" => Word::Where,
         b"while" => Word::While,
         b"continue" | b"dyn" | b"ref" | b"type" | b"use" => Word::Keyword,
