@@ -24,9 +24,21 @@ impl Tree {
         self.reader.controls = 0;
         self.reader.operand = NOWHERE;
         self.reader.chain = NOWHERE;
-        self.reader.depth = 0;
+        let mut depth: usize = 0;
         for index in first..end {
-            self.take(index);
+            let own = *self.atom(index);
+            match own.role {
+                Role::Less => depth = depth.saturating_add(1),
+                Role::Greater => depth = depth.saturating_sub(1),
+                _ => {}
+            }
+            if depth > 0 || own.role == Role::Greater {
+                self.go_on(index, &own);
+            } else if self.reader.operand == NOWHERE {
+                self.begin(index, &own);
+            } else {
+                self.take_next(index, &own);
+            }
         }
         self.reduce(ARM, end);
         let node = self.take_operand(end);
@@ -38,23 +50,6 @@ impl Tree {
         self.append(all, node);
         self.finish(all, end);
         all
-    }
-
-    /// Takes the next atom.
-    fn take(&mut self, index: usize) {
-        let own = *self.atom(index);
-        match own.role {
-            Role::Less => self.reader.depth = self.reader.depth.saturating_add(1),
-            Role::Greater => self.reader.depth = self.reader.depth.saturating_sub(1),
-            _ => {}
-        }
-        if self.reader.depth > 0 || own.role == Role::Greater {
-            self.go_on(index, &own);
-        } else if self.reader.operand == NOWHERE {
-            self.begin(index, &own);
-        } else {
-            self.take_next(index, &own);
-        }
     }
 
     /// Adds the atom to the operand, or begins an operand with it.

@@ -101,7 +101,6 @@ impl Tree {
         } else {
             NO_HEAD
         };
-        let closed = matches!(atom.role, Role::Repeated | Role::Params);
         if let Some(atom) = self.atoms.get_mut(own.first) {
             atom.width = inner.saturating_add(if padded { 4 } else { 2 });
             atom.tall = must;
@@ -111,7 +110,6 @@ impl Tree {
         if let Some(node) = self.nodes.get_mut(group) {
             node.must = must;
             node.head = match inside {
-                NO_HEAD if closed => NO_HEAD,
                 NO_HEAD => 1,
                 _ => inside.saturating_add(1),
             };
@@ -164,48 +162,27 @@ impl Tree {
         if !open || self.is_tall(own.from, value.first) {
             return NO_HEAD;
         }
-        let before = self.distance(own.from, value.first);
+        let several = own.last != own.child;
         let block = value.form == Form::Group && self.atom(value.first).is_brace();
-        if own.last != own.child {
-            // Of several parts only a block or a closure goes on.
-            return if block || value.form == Form::Closure {
-                within(before, value.head)
-            } else {
-                NO_HEAD
-            };
+        if several && !block && value.form != Form::Closure {
+            return NO_HEAD;
         }
-        let single = atom.role == Role::Tuple;
-        let named = bang || !single && self.name_width(own.first) < NAME;
-        let several = self.node(self.node(value.child).next).next != NOWHERE;
-        if value.form == Form::Chain && several && named && atom.is_round()
-            || single && value.head == NO_HEAD
-        {
+        let tuple = atom.role == Role::Tuple && !several;
+        let name = self.previous(own.first);
+        let path = self.previous(own.first.saturating_sub(1)).role == Role::Path;
+        let short = bang || name.is_name() && name.width < NAME && !path;
+        let calls = self.node(self.node(value.child).next).next != NOWHERE;
+        let chain = value.form == Form::Chain && calls && short && atom.is_round();
+        if chain && !several || tuple && value.head == NO_HEAD {
             return 0;
         }
-        if single {
-            value.head
+        let width = self
+            .distance(own.from, value.first)
+            .saturating_add(value.head);
+        if width > CALL && !tuple {
+            NO_HEAD
         } else {
-            within(0, value.head)
+            width
         }
     }
-
-    /// Returns the width of the name of a call, at most about `NAME`.
-    fn name_width(&self, group: usize) -> usize {
-        let mut width: usize = 0;
-        for passed in 1..group {
-            let own = self.atom(group.saturating_sub(passed));
-            let mark = matches!(own.role, Role::Path | Role::Bang | Role::Greater);
-            if !(own.is_name() || mark) || width >= NAME {
-                break;
-            }
-            width = width.saturating_add(own.width);
-        }
-        width
-    }
-}
-
-/// Returns the width of a first line, or `NO_HEAD` if it is larger than arguments may have.
-fn within(before: usize, head: usize) -> usize {
-    let width = before.saturating_add(head);
-    if width > CALL { NO_HEAD } else { width }
 }

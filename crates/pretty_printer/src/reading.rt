@@ -60,10 +60,11 @@ pub fn push_list<'a>(
 /// Returns whether `;` or `=>` is among the trees.
 fn has_statements(trees: &[TokenTree]) -> bool {
     for index in 0..trees.len() {
-        match mark_at(trees, index) {
-            Some(';') => return true,
-            Some('=') if next_mark(trees, index) == Some('>') => return true,
-            _ => {}
+        if let Some(TokenTree::Punct(punct)) = trees.get(index) {
+            let mark = punct.as_char();
+            if mark == ';' || mark == '=' && next_mark(trees, index) == Some('>') {
+                return true;
+            }
         }
     }
     false
@@ -131,17 +132,10 @@ fn mark_atom(first: char, trees: &[TokenTree], index: usize) -> Atom {
 
 /// Returns the mark after the one at this index, if an operator may go on with it.
 fn next_mark(trees: &[TokenTree], index: usize) -> Option<char> {
-    if is_joint(trees, index) {
-        mark_at(trees, index.saturating_add(1))
-    } else {
-        None
-    }
-}
-
-/// Returns the mark at this index, if an operator may go on with it.
-fn mark_at(trees: &[TokenTree], index: usize) -> Option<char> {
-    match trees.get(index) {
-        Some(TokenTree::Punct(punct)) if punct.as_char() != '\'' => Some(punct.as_char()),
+    match trees.get(index.saturating_add(1)) {
+        Some(TokenTree::Punct(punct)) if is_joint(trees, index) && punct.as_char() != '\'' => {
+            Some(punct.as_char())
+        }
         _ => None,
     }
 }

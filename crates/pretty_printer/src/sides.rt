@@ -1,12 +1,9 @@
 //! Breaks the lines of chains and operators, of what has a left and a right side, and of control flow.
-use crate::atoms::{Kind, Role, Sign};
+use crate::atoms::Role;
 use crate::limits::CALL;
 use crate::lines::{Step, TAB, Task, WIDTH, deeper};
-use crate::tree::{Form, NO_HEAD, NOWHERE, Node, Tree};
+use crate::tree::{Form, NO_HEAD, Node, Tree};
 use crate::words::Word;
-
-/// The number of columns of ` else {`.
-const ELSE: usize = 7;
 
 /// The number of columns of ` => {`.
 const ARM: usize = 5;
@@ -88,47 +85,35 @@ impl Tree {
     pub fn next_side(&mut self, task: Task, own: &Node, child: &Node) {
         let word = child.first.saturating_sub(1);
         let before = *self.atom(word);
-        let equals = before.is_mark('=') || matches!(before.kind, Kind::Sign(Sign::Assign));
-        if before.is_word(Word::Else) && task.step == Step::Broken && !self.is_shut {
+        let gives_up = before.is_word(Word::Else);
+        if gives_up && task.step == Step::Broken && !self.is_shut {
             self.begin_line(word, task.indent);
             self.put(word, child.first);
         } else {
             self.write(own, task.at, child.first);
         }
         self.lead(own, child.first);
-        if equals && child.first > own.first {
-            return self.lay_value(task, own, child);
-        }
         let tail = self.tail_of(task, own, child);
-        self.leave(Step::Next, task, child);
-        if before.is_word(Word::Else) {
+        let fits = self.fits(child, tail);
+        self.leave(if fits { Step::Next } else { Step::Broken }, task, child);
+        if gives_up {
             return self.lay_lines(task, task.child);
         }
-        self.lay(task.child, task.indent, tail);
-    }
-
-    /// Writes the right side of `=` on this line, or on the next if it fits there. Closures and blocks stay.
-    fn lay_value(&mut self, task: Task, own: &Node, child: &Node) {
-        let tail = if child.next == NOWHERE {
-            self.tail_of(task, own, child)
-        } else {
-            ELSE
-        };
-        if self.fits(child, tail) {
-            self.put(child.first, child.end);
-            return self.leave(Step::Next, task, child);
-        }
-        self.leave(Step::Broken, task, child);
+        let equals = before.role == Role::Between && child.first > own.first;
         let below = deeper(task.indent);
-        let closure = child.form == Form::Closure && child.head != NO_HEAD;
-        let stays = closure || self.atom(child.first).is_word(Word::Prefix);
-        let width = self.width(child.first, child.end).saturating_add(tail);
-        let fits = !child.must && below.saturating_add(width) <= WIDTH;
-        if below < self.column && fits && !stays {
+        if equals && !fits && below < self.column && self.fits_below(child, below, tail) {
             self.begin_line(child.first, below);
             return self.lay(task.child, below, tail);
         }
         self.lay(task.child, task.indent, tail);
+    }
+
+    /// Returns whether the right side of `=` fits on the next line. Closures and blocks stay on the line of `=`.
+    fn fits_below(&self, child: &Node, below: usize, tail: usize) -> bool {
+        let closure = child.form == Form::Closure && child.head != NO_HEAD;
+        let width = self.width(child.first, child.end).saturating_add(tail);
+        let stays = closure || self.atom(child.first).is_word(Word::Prefix);
+        !stays && !child.must && below.saturating_add(width) <= WIDTH
     }
 
     /// Writes the next condition or block of an `if`, a `match` or a loop.

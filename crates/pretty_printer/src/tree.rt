@@ -83,10 +83,9 @@ pub struct Reader {
     pub opens: Vec<(usize, usize)>,
     /// The number of them that are `Control`.
     pub controls: usize,
-    /// The operand that is read, the chain of calls that it ends, and the number of `<` that are open in it.
+    /// The operand that is read, and the chain of calls that it ends.
     pub operand: usize,
     pub chain: usize,
-    pub depth: usize,
 }
 
 /// The atoms and nodes of lists.
@@ -120,7 +119,6 @@ impl Tree {
                 controls: 0,
                 operand: NOWHERE,
                 chain: NOWHERE,
-                depth: 0,
             },
             angles: Vec::new(alloc),
             tasks: Vec::new(alloc),
