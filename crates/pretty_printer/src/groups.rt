@@ -31,13 +31,7 @@ impl Tree {
         self.open_group(Step::Shut, task);
         self.put(own.from, last.first);
         self.lead(own, last.first);
-        let mut part = own.last;
-        if last.form == Form::Chain && head > 0 && atom.role != Role::Tuple {
-            // All but the last call of a chain is on this line.
-            self.put(last.first, self.node(last.last).first);
-            part = last.last;
-        }
-        self.lay(part, task.indent, task.tail.saturating_add(1));
+        self.lay(own.last, task.indent, task.tail.saturating_add(1));
     }
 
     /// Writes the opener of a group, and leaves its closer to this step.
@@ -181,9 +175,7 @@ impl Tree {
 
     /// Writes the body of an item. An empty one after a head of several lines has two lines.
     fn next_body(&mut self, task: Task, own: &Node, child: &Node, brace: &Atom) {
-        let width = self.rest(task.at, child.first).saturating_add(2);
-        let full = self.column.saturating_add(width) > WIDTH;
-        self.reach(task, own, child, task.step == Step::Apart || full);
+        self.reach(task, own, child, task.step == Step::Apart);
         self.leave(Step::Next, task, child);
         if task.step != Step::Next && !brace.is_full() {
             self.put_mark();

@@ -116,7 +116,6 @@ impl State {
         let role = self.brace_role(own, previous, next);
         let first = passed == 1 && previous.is_word(Word::Prefix);
         let operand = awaits_operand(previous) && !first;
-        let braces = role == Role::Block || role == Role::Expression;
         let goes_on = match next.kind {
             Kind::Word(word) => word == Word::Else,
             Kind::Sign(sign) => matches!(sign, Sign::Arm | Sign::One(';' | ',' | '.' | '?')),
@@ -135,7 +134,7 @@ impl State {
             Kind::Word(word) => head_of(word).is_some(),
             _ => false,
         };
-        let ends = braces && !goes_on && !operand && self.head != Head::Other;
+        let ends = role != Role::Use && !goes_on && !operand && self.head != Head::Other;
         self.ends = ends && (item || statement);
         role
     }
