@@ -1,5 +1,4 @@
 //! What lines are made of: words, operators and groups.
-use crate::words::Word;
 use layout::Gap;
 use proc_macro2::Delimiter;
 
@@ -13,19 +12,50 @@ pub enum Kind {
     Group(Delimiter),
 }
 
+/// A name, a keyword, a literal or a lifetime.
+#[derive(Clone, Copy, PartialEq)]
+pub enum Word {
+    Name,
+    /// The name of a kind of fragment in a macro's matcher, such as `expr`.
+    Fragment,
+    Literal,
+    String,
+    Lifetime,
+    /// A keyword that no rule mentions.
+    Keyword,
+    As,
+    Await,
+    Else,
+    Extern,
+    Fn,
+    For,
+    If,
+    Impl,
+    In,
+    /// `enum`, `mod`, `struct` and `trait`
+    Item,
+    Let,
+    Loop,
+    MacroRules,
+    Match,
+    /// `async`, `const`, `move`, `mut`, `static` and `unsafe`
+    Prefix,
+    Pub,
+    /// `break`, `return` and `yield`
+    Return,
+    Where,
+    While,
+}
+
 /// An operator, of one mark or of several.
 #[derive(Clone, Copy)]
 pub enum Sign {
     One(char),
-    /// `::`
+    /// `::`, `->`, `=>`, `&&` and `||`
     Path,
-    /// `->`
     Arrow,
-    /// `=>`
     Arm,
-    /// `&&`
     And,
-    /// `||`
     Or,
     /// `..`, `..=` and `...`
     Range,
@@ -42,11 +72,9 @@ pub enum Role {
     /// `<` and `>` around types.
     Less,
     Greater,
-    /// An operator between two operands.
+    /// An operator between two operands, before its only operand, and after it.
     Between,
-    /// An operator before its only operand.
     Before,
-    /// An operator after its only operand.
     After,
     Path,
     Range,
@@ -205,11 +233,6 @@ impl Atom {
         )
     }
 
-    /// Whether it is a keyword.
-    pub fn is_keyword(&self) -> bool {
-        self.is_any_word() && !self.is_name()
-    }
-
     /// Whether an operator after it has two sides.
     pub fn is_value(&self) -> bool {
         match self.kind {
@@ -217,5 +240,45 @@ impl Atom {
             Kind::Group(_) => self.role != Role::Attribute,
             _ => self.role == Role::Greater || self.role == Role::After,
         }
+    }
+}
+
+/// Returns what an identifier with this text is.
+pub fn word_of(text: &str) -> Word {
+    match text.as_bytes() {
+        b"as" => Word::As,
+        b"await" => Word::Await,
+        b"else" => Word::Else,
+        b"extern" => Word::Extern,
+        b"fn" => Word::Fn,
+        b"for" => Word::For,
+        b"if" => Word::If,
+        b"impl" => Word::Impl,
+        b"in" => Word::In,
+        b"let" => Word::Let,
+        b"loop" => Word::Loop,
+        b"macro_rules" => Word::MacroRules,
+        b"match" => Word::Match,
+        b"enum" | b"mod" | b"struct" | b"trait" => Word::Item,
+        b"async" | b"const" | b"move" | b"mut" | b"static" | b"unsafe" => Word::Prefix,
+        b"pub" => Word::Pub,
+        b"break" | b"return" | b"yield" => Word::Return,
+        b"where" => Word::Where,
+        b"while" => Word::While,
+        b"continue" | b"dyn" | b"ref" | b"type" | b"use" => Word::Keyword,
+        b"block"
+        | b"expr"
+        | b"ident"
+        | b"item"
+        | b"lifetime"
+        | b"literal"
+        | b"meta"
+        | b"pat"
+        | b"path"
+        | b"stmt"
+        | b"tt"
+        | b"ty"
+        | b"vis" => Word::Fragment,
+        _ => Word::Name,
     }
 }

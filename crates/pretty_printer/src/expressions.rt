@@ -1,8 +1,7 @@
 //! Reads expressions, patterns and types as trees. Each operator takes the operands that bind more strongly.
-use crate::atoms::{Atom, Kind, Role, Sign};
+use crate::atoms::{Atom, Kind, Role, Sign, Word};
 use crate::roles::awaits_operand;
 use crate::tree::{Form, NOWHERE, Tree};
-use crate::words::Word;
 
 /// The strengths with which nodes take their operands. Nothing but the end of a part ends an arm.
 const ARM: usize = 0;
@@ -66,10 +65,11 @@ impl Tree {
     fn begin(&mut self, index: usize, own: &Atom) {
         let previous = *self.previous(index);
         let next = *self.next(index);
-        let closes = next.role == Role::BarOpen || next.role == Role::BarClose;
+        let closure = next.role == Role::BarOpen || next.role == Role::BarClose;
+        let opens = own.role == Role::BarOpen || own.role == Role::BarClose && !own.is_mark('|');
         // It is the rest of an operator such as `>>`, the `|` after `move`, or a label.
         let passed = own.role == Role::Between && previous.glued
-            || own.role == Role::BarOpen && previous.is_word(Word::Prefix)
+            || opens && previous.is_word(Word::Prefix)
             || own.role == Role::Colon && previous.is_word(Word::Lifetime)
             || own.is_word(Word::Lifetime) && next.role == Role::Colon;
         match own.kind {
@@ -77,14 +77,11 @@ impl Tree {
             Kind::Sign(_) => match own.role {
                 Role::Before => self.open(Form::Plain, index, BEFORE),
                 Role::Range => self.open(Form::Plain, index, RANGE),
-                Role::BarOpen => self.open(Form::Closure, index, WEAKEST),
-                Role::BarClose if !own.is_mark('|') && !previous.is_word(Word::Prefix) => {
-                    self.open(Form::Closure, index, WEAKEST);
-                }
+                _ if opens => self.open(Form::Closure, index, WEAKEST),
                 Role::BarClose => {}
                 _ => self.go_on(index, own),
             },
-            Kind::Word(Word::Prefix) if closes => self.open(Form::Closure, index, WEAKEST),
+            Kind::Word(Word::Prefix) if closure => self.open(Form::Closure, index, WEAKEST),
             Kind::Word(word) => match word {
                 Word::For if next.is_mark('<') => self.go_on(index, own),
                 Word::If if previous.is_word(Word::Else) => {}

@@ -1,8 +1,7 @@
 //! Breaks the lines of groups and of items.
-use crate::atoms::{Atom, Kind, Role};
+use crate::atoms::{Atom, Kind, Role, Word};
 use crate::lines::{Step, Task, WIDTH, deeper};
 use crate::tree::{Form, NOWHERE, Node, Tree};
-use crate::words::Word;
 use layout::Gap;
 
 /// The largest width of an element if several elements share a line.
@@ -16,14 +15,10 @@ impl Tree {
         if own.child == NOWHERE || doc {
             return self.put(own.first, own.end);
         }
-        if atom.role == Role::Attribute || self.is_doubled(own) {
-            self.open_group(Step::Shut, task);
-            return self.lay(own.child, task.indent, task.tail.saturating_add(1));
-        }
         self.read_unread(own.last);
-        // The first line of nothing is too wide too.
+        let inside = atom.role == Role::Attribute || self.is_doubled(own);
         let head = self.head_inside(own);
-        if self.column.saturating_add(head) >= WIDTH {
+        if !inside && self.column.saturating_add(head) >= WIDTH {
             return self.lay_lines(task, task.node);
         }
         // The last part goes on over the next lines, as if there were no delimiters.

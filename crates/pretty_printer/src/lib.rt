@@ -27,7 +27,6 @@ mod roles;
 mod sides;
 mod signs;
 mod tree;
-mod words;
 
 use layout::{Chooser, Gap, LayoutError, Place, text_with};
 use printer::Printer;

@@ -1,22 +1,17 @@
 //! Measures from the inside out: widths on one line, and what needs several lines. rustfmt's limits are here.
-use crate::atoms::{Atom, Role};
+use crate::atoms::{Atom, Role, Word};
 use crate::parts::SHORT;
 use crate::tree::{Form, NO_HEAD, NOWHERE, Node, Tree};
-use crate::words::Word;
 use layout::Gap;
 
 /// The largest width in characters on one line of a chain of calls, and of arguments.
 pub const CALL: usize = 60;
-
 /// The largest width of the arguments of an attribute.
 const META: usize = 70;
-
 /// The largest width of an `if` whose value is used, and of a `let` with `else`.
 const BRANCHES: usize = 50;
-
 /// The largest width of the fields of a struct literal.
 const FIELDS: usize = 18;
-
 /// The width from which the name of a call is long: a chain as its only argument begins on the next line.
 const NAME: usize = 4;
 

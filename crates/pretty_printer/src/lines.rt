@@ -5,10 +5,8 @@ use layout::Gap;
 
 /// The number of columns of a line.
 pub const WIDTH: usize = 100;
-
 /// The number of columns by which a block is indented.
 pub const TAB: usize = 4;
-
 /// The largest column at which a line begins. It keeps the size of a deeply nested text in proportion to its tokens.
 const DEEPEST: usize = 60;
 

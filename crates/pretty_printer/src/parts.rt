@@ -1,9 +1,8 @@
 //! Reads the parts of lists: statements, items, arms, fields and arguments.
 ghost use Rattle.std.specs.Prelude.{◌<◌, ◌≤◌};
 
-use crate::atoms::{Kind, Role};
+use crate::atoms::{Kind, Role, Word};
 use crate::tree::{Form, Tree};
-use crate::words::Word;
 
 /// The width in characters up to which a part is not read, because no rule breaks its line.
 pub const SHORT: usize = 50;

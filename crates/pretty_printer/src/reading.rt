@@ -1,7 +1,6 @@
 //! Reads the trees of a list as atoms.
-use crate::atoms::{Atom, Kind, NOTHING, Role, Sign};
+use crate::atoms::{Atom, Kind, NOTHING, Role, Sign, Word, word_of};
 use crate::tree::{Form, Tree};
-use crate::words::{Word, word_of};
 use pm_token::parts::{is_raw, name_of};
 use proc_macro2::{Ident, Spacing, TokenTree};
 use std::alloc::AllocError;

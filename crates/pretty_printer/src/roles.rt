@@ -1,8 +1,7 @@
 //! Gives words and groups their roles.
-use crate::atoms::{Atom, Kind, Role, Sign};
+use crate::atoms::{Atom, Kind, Role, Sign, Word};
 use crate::signs::{pair_angles, wants_space};
 use crate::tree::Tree;
-use crate::words::Word;
 use layout::Gap;
 
 /// Gives the atoms in `first..end` their roles, and the gaps before them on one line. They are the list of a group with

@@ -1,13 +1,11 @@
 //! Breaks the lines of chains and operators, of what has a left and a right side, and of control flow.
-use crate::atoms::Role;
+use crate::atoms::{Role, Word};
 use crate::limits::CALL;
 use crate::lines::{Step, TAB, Task, WIDTH, deeper};
 use crate::tree::{Form, NO_HEAD, Node, Tree};
-use crate::words::Word;
 
 /// The number of columns of ` => {`.
 const ARM: usize = 5;
-
 /// The largest width of a pattern if several patterns share a line.
 const PATTERN: usize = 20;
 

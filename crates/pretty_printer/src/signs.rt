@@ -1,8 +1,7 @@
 //! Pairs angles, gives operators their roles, and chooses the spaces of a line.
-use crate::atoms::{Atom, Kind, Role, Sign};
+use crate::atoms::{Atom, Kind, Role, Sign, Word};
 use crate::roles::{Head, NO_START, State, is_item};
 use crate::tree::Tree;
-use crate::words::Word;
 
 /// Pairs the `<` at this index and those after it with the `>` that end types.
 pub fn pair_angles(tree: &mut Tree, index: usize, end: usize) {
@@ -161,7 +160,8 @@ pub fn wants_space(tree: &Tree, index: usize, previous: &Atom, next: &Atom, role
     }
     if next.is_sign() && matches!(role, Role::Path | Role::Range | Role::Less) {
         let opens = matches!(previous.kind, Kind::Word(Word::Impl | Word::For | Word::Fn));
-        return previous.is_keyword() && !(opens && role == Role::Less);
+        let keyword = previous.is_any_word() && !previous.is_name();
+        return keyword && !(opens && role == Role::Less);
     }
     if !next.is_list() {
         return true;
@@ -170,7 +170,7 @@ pub fn wants_space(tree: &Tree, index: usize, previous: &Atom, next: &Atom, role
         Kind::Word(Word::Pub) => !next.is_round(),
         Kind::Word(Word::Fn | Word::Await | Word::MacroRules) => false,
         Kind::Word(Word::Lifetime) => true,
-        Kind::Word(_) => previous.is_keyword(),
+        Kind::Word(_) => !previous.is_name(),
         _ => previous.is_brace() || previous.role == Role::Attribute,
     }
 }

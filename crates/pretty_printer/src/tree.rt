@@ -6,7 +6,6 @@ use std::alloc::{AllocError, AllocFailed, Global};
 
 /// The index of nothing.
 pub const NOWHERE: usize = usize::MAX;
-
 /// The width of a first line that does not exist.
 pub const NO_HEAD: usize = usize::MAX;
 
