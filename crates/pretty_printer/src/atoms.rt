@@ -23,7 +23,6 @@ pub enum Word {
     Lifetime,
     /// A keyword that no rule mentions.
     Keyword,
-    As,
     Await,
     Else,
     Extern,
@@ -246,7 +245,6 @@ impl Atom {
 /// Returns what an identifier with this text is.
 pub fn word_of(text: &str) -> Word {
     match text.as_bytes() {
-        b"as" => Word::As,
         b"await" => Word::Await,
         b"else" => Word::Else,
         b"extern" => Word::Extern,
@@ -265,7 +263,7 @@ pub fn word_of(text: &str) -> Word {
         b"break" | b"return" | b"yield" => Word::Return,
         b"where" => Word::Where,
         b"while" => Word::While,
-        b"continue" | b"dyn" | b"ref" | b"type" | b"use" => Word::Keyword,
+        b"as" | b"continue" | b"dyn" | b"ref" | b"type" | b"use" => Word::Keyword,
         b"block"
         | b"expr"
         | b"ident"

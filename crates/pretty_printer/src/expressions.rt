@@ -106,11 +106,6 @@ impl Tree {
         let node = self.push_node(form, index, index);
         let control = (form == Form::Control) as usize;
         self.reader.controls = self.reader.controls.saturating_add(control);
-        self.push_open(node, strength);
-    }
-
-    /// Adds an open node.
-    fn push_open(&mut self, node: usize, strength: usize) {
         let pushed = self.reader.opens.push((node, strength));
         self.check(pushed);
     }
@@ -174,13 +169,6 @@ impl Tree {
         self.reader.operand = self.push_node(Form::Leaf, index, index);
     }
 
-    /// Begins an operand with a node.
-    fn set_operand(&mut self, node: usize) {
-        let first = self.node(node).first;
-        self.reader.operand = self.push_node(Form::Leaf, first, first);
-        self.append(self.reader.operand, node);
-    }
-
     /// Ends the operand, and returns its node, or that of its last call.
     fn take_call(&mut self, end: usize) -> usize {
         let node = self.reader.operand;
@@ -228,7 +216,9 @@ impl Tree {
             self.reader.controls = self.reader.controls.saturating_sub(control as usize);
             self.append(node, child);
             self.finish(node, end);
-            self.set_operand(node);
+            let first = self.node(node).first;
+            self.reader.operand = self.push_node(Form::Leaf, first, first);
+            self.append(self.reader.operand, node);
         }
     }
 
@@ -269,7 +259,9 @@ impl Tree {
             let statement = self.reader.opens.len() == 1;
             self.attach(ASSIGN, index);
             self.reader.opens.pop();
-            return self.push_open(node, if statement { WEAKEST } else { AND });
+            let kept = if statement { WEAKEST } else { AND };
+            let pushed = self.reader.opens.push((node, kept));
+            return self.check(pushed);
         }
         if own.form == Form::Operators && own_strength == strength {
             return self.attach(BEFORE, index);

@@ -103,12 +103,13 @@ impl Tree {
             self.lead(own, part.first);
         } else {
             let blank = !first && self.parts_items(&last, part);
+            let indent = task.indent;
             let gap = if blank {
-                Gap::Blank(task.indent)
+                Gap::Blank(indent)
             } else {
-                Gap::Line(task.indent)
+                Gap::Line(indent)
             };
-            self.break_line(part.first, gap, task.indent);
+            self.break_line(part.first, gap, indent);
         }
         self.push(task.step, task, part.next, task.child);
         let comma = part.end < own.until && self.atom(part.end).ends_part();

@@ -91,7 +91,8 @@ impl Tree {
         let gap = if padded { Gap::Space } else { Gap::Nothing };
         let inner = self.width(own.from, own.until);
         let must = self.needs_lines(&own, &atom, inner);
-        let inside = if must || inner > SHORT {
+        let long = must || inner > SHORT;
+        let inside = if long {
             self.head_inside(&own)
         } else {
             NO_HEAD

@@ -69,27 +69,18 @@ impl Tree {
 
     /// Reads the part with these atoms, and returns its node. An item begins with attributes, a visibility and a keyword.
     pub fn read_part(&mut self, first: usize, end: usize, block: bool) -> usize {
-        if first >= end {
-            return self.push_node(Form::Leaf, first, end);
-        }
         for index in first..end {
             let own = self.atom(index);
-            let item = match own.kind {
-                Kind::Word(Word::Fn) => self.find_role(index, end, Role::Params) < end,
-                _ => own.is_word(Word::Impl) || own.is_word(Word::Item),
-            };
-            if item && block {
-                return self.read_item(first, index, end);
-            }
-            let front = match own.kind {
-                Kind::Word(word) => matches!(
-                    word,
-                    Word::Pub | Word::Prefix | Word::Extern | Word::String
-                ),
-                _ => own.is_list() || own.role == Role::Hash,
-            };
-            if !front {
-                break;
+            match own.kind {
+                Kind::Word(Word::Impl | Word::Item) if block => {
+                    return self.read_item(first, index, end);
+                }
+                Kind::Word(Word::Fn) if block && self.find_role(index, end, Role::Params) < end => {
+                    return self.read_item(first, index, end);
+                }
+                Kind::Word(Word::Pub | Word::Prefix | Word::Extern | Word::String) => {}
+                _ if own.is_list() || own.role == Role::Hash => {}
+                _ => break,
             }
         }
         self.read_expression(first, end)

@@ -19,10 +19,9 @@ pub fn push_list<'a>(
     groups: &mut Vec<Unread<'a>>,
     trees: &'a [TokenTree],
 ) -> Result<(), AllocError> {
-    let mut passed: usize = 0;
+    let mut past: usize = 0;
     for index in 0..trees.len() {
-        if passed > 0 {
-            passed -= 1;
+        if index < past {
             continue;
         }
         let atom = match trees.get(index) {
@@ -48,7 +47,7 @@ pub fn push_list<'a>(
             Some(TokenTree::Punct(punct)) => mark_atom(punct.as_char(), trees, index),
             None => break,
         };
-        passed = atom.tokens().saturating_sub(1);
+        past = index.saturating_add(atom.tokens());
         tree.atoms.push(atom)?;
     }
     // The gap of the atom after a list is that before its closer.

@@ -1,14 +1,14 @@
 //! Gives words and groups their roles.
 use crate::atoms::{Atom, Kind, Role, Sign, Word};
 use crate::signs::{pair_angles, wants_space};
-use crate::tree::Tree;
+use crate::tree::{NOWHERE, Tree};
 use layout::Gap;
 
 /// Gives the atoms in `first..end` their roles, and the gaps before them on one line. They are the list of a group with
 /// the role `inside`, in braces if `block`.
 pub fn assign_roles(tree: &mut Tree, first: usize, end: usize, block: bool, inside: Role) {
     let mut state = State {
-        start: if block { first } else { NO_START },
+        start: if block { first } else { NOWHERE },
         in_bars: false,
         head: Head::Nothing,
         last: Head::Nothing,
@@ -33,20 +33,16 @@ pub enum Head {
     Impl,
     /// Any other item.
     Item,
-    Else,
     /// An `if` whose value is used, and its `else`.
     Branch,
-    /// `if`, `for`, `while`, `loop` or `match`.
+    /// `if`, `else`, `for`, `while`, `loop` or `match`.
     Other,
 }
-
-/// The start of no statement.
-pub const NO_START: usize = usize::MAX;
 
 /// What is known of the list before the next atom.
 #[derive(Clone, Copy)]
 pub struct State {
-    /// The index of the first atom of the statement or the arm.
+    /// The index of the first atom of the statement or the arm. In a list that is not in braces: `NOWHERE`.
     pub start: usize,
     /// Whether the atoms are the parameters of a closure.
     pub in_bars: bool,
@@ -90,7 +86,7 @@ impl State {
         }
         let begins = matches!(previous.kind, Kind::Nothing);
         let spaced = !begins && wants_space(tree, index, previous, own, role);
-        self.ends = self.ends && self.start < NO_START && !own.glued;
+        self.ends = self.ends && self.start < NOWHERE && !own.glued;
         if self.ends {
             self.start = index.saturating_add(1);
         }
@@ -149,7 +145,7 @@ impl State {
             && previous.role != Role::Greater
             && previous.role != Role::Semicolon;
         let is_value = after_sign
-            || matches!(previous.kind, Kind::Nothing) && self.start == NO_START
+            || matches!(previous.kind, Kind::Nothing) && self.start == NOWHERE
             || previous.is_word(Word::Return);
         let after_else = previous.is_word(Word::Else);
         self.head = match word {
@@ -233,8 +229,9 @@ fn head_of(word: Word) -> Option<Head> {
         Word::Fn => Some(Head::Fn),
         Word::Impl => Some(Head::Impl),
         Word::Item | Word::Extern => Some(Head::Item),
-        Word::For | Word::While | Word::Loop | Word::Match | Word::If => Some(Head::Other),
-        Word::Else => Some(Head::Else),
+        Word::For | Word::While | Word::Loop | Word::Match | Word::If | Word::Else => {
+            Some(Head::Other)
+        }
         _ => None,
     }
 }

@@ -60,11 +60,8 @@ impl Tree {
     pub fn next_operand(&mut self, task: Task, own: &Node, child: &Node) {
         let fills = task.step == Step::Fill && self.fit(task.at, child.end, ARM.saturating_add(1));
         let pattern = matches!(task.step, Step::Line | Step::Fill);
-        let inner = if pattern {
-            task.indent
-        } else {
-            deeper(task.indent)
-        };
+        let below = deeper(task.indent);
+        let inner = if pattern { task.indent } else { below };
         self.leave(task.step, task, child);
         if child.first == own.first {
             return self.lay(task.child, task.indent, task.tail);

@@ -1,7 +1,7 @@
 //! Pairs angles, gives operators their roles, and chooses the spaces of a line.
 use crate::atoms::{Atom, Kind, Role, Sign, Word};
-use crate::roles::{Head, NO_START, State, is_item};
-use crate::tree::Tree;
+use crate::roles::{Head, State, is_item};
+use crate::tree::{NOWHERE, Tree};
 
 /// Pairs the `<` at this index and those after it with the `>` that end types.
 pub fn pair_angles(tree: &mut Tree, index: usize, end: usize) {
@@ -75,7 +75,7 @@ impl State {
         self.ends = mark == ';' || mark == ',' && !listed;
         if self.ends || matches!(sign, Sign::Arm) {
             self.head = Head::Nothing;
-            if self.start < NO_START {
+            if self.start < NOWHERE {
                 self.start = index.saturating_add(1);
             }
         }
