@@ -18,8 +18,7 @@ const NAME: usize = 4;
 impl Tree {
     /// Ends a node before `end`, and measures it.
     pub fn finish(&mut self, index: usize, end: usize) {
-        let mut own = *self.node(index);
-        own.end = end;
+        let own = self.node(index);
         let branch = self.previous(end).role == Role::Branch;
         let limit = match own.form {
             Form::Chain if self.node(own.child).next != own.last => CALL,
@@ -27,13 +26,15 @@ impl Tree {
             _ => usize::MAX,
         };
         let wide = self.width(own.first, end) > limit;
-        own.must = own.must || wide || self.is_tall(own.first, end);
-        if own.form == Form::Leaf && own.child != NOWHERE {
-            own.form = Form::Plain;
-        }
-        own.head = self.head_of(&own, self.node(own.last));
+        let must = own.must || wide || self.is_tall(own.first, end);
+        let head = self.head_of(own, self.node(own.last));
         if let Some(node) = self.nodes.get_mut(index) {
-            *node = own;
+            node.end = end;
+            node.must = must;
+            node.head = head;
+            if node.form == Form::Leaf && node.child != NOWHERE {
+                node.form = Form::Plain;
+            }
         }
     }
 
@@ -51,7 +52,7 @@ impl Tree {
             form => form == Form::Closure,
         };
         let head = match own.form {
-            Form::Plain | Form::Chain => last.head,
+            Form::Leaf | Form::Plain | Form::Chain => last.head,
             Form::Closure if block => last.head,
             Form::Control if opener.form == Form::Group => 1,
             _ => NO_HEAD,

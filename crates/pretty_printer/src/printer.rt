@@ -59,9 +59,6 @@ impl<'a> Printer<'a> {
             self.joined -= 1;
             return Gap::Nothing;
         }
-        if self.tree.failure.is_some() {
-            return Gap::Space;
-        }
         self.step()
     }
 
@@ -85,20 +82,25 @@ impl<'a> Printer<'a> {
             }
             return gap;
         }
-        if self.outer.is_empty() && index == self.tree.node(self.part).first {
-            self.lay_part();
+        if self.outer.is_empty() && self.tree.failure.is_none() {
+            let first = self.tree.node(self.part).first;
+            if index == first {
+                self.lay_part();
+            }
         }
-        let own = *self.tree.atom(index);
+        let own = self.tree.atom(index);
+        let gap = own.gap;
         self.joined = own.tokens().saturating_sub(1);
         self.at = index.saturating_add(1);
         if own.is_group() {
+            let inner = self.tree.node(own.node);
+            let (from, until) = (inner.from, inner.until);
             let pushed = self.outer.push((self.at, self.end));
             self.tree.check(pushed);
-            let inner = self.tree.node(own.node);
-            self.at = inner.from;
-            self.end = inner.until;
+            self.at = from;
+            self.end = until;
         }
-        own.gap
+        gap
     }
 
     /// Reads the next part, and breaks its lines.
