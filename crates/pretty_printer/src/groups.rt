@@ -9,7 +9,7 @@ const SHORT: usize = 10;
 
 impl Tree {
     /// Lays out a group that is not on one line. The gap before it is written.
-    pub fn lay_group(&mut self, task: Task, own: &Node) {
+    pub fn lay_group(&mut self, task: &Task, own: &Node) {
         let atom = *self.atom(own.first);
         let doc = atom.role == Role::Attribute && own.until.saturating_sub(own.from) == 3;
         if own.child == NOWHERE || doc {
@@ -30,30 +30,30 @@ impl Tree {
     }
 
     /// Writes the opener of a group, and leaves its closer to this step.
-    fn open_group(&mut self, step: Step, task: Task) {
+    fn open_group(&mut self, step: Step, task: &Task) {
         self.put_mark();
         self.is_shut = false;
         self.push(step, task, NOWHERE, NOWHERE);
     }
 
     /// Begins to write a group, which is in the node of the task, with its parts on lines.
-    pub fn lay_lines(&mut self, task: Task, group: usize) {
+    pub fn lay_lines(&mut self, task: &Task, group: usize) {
         let own = *self.node(group);
         if own.child == NOWHERE {
             return self.put(own.first, own.end);
         }
-        let mut lines = task;
+        let mut lines = *task;
         lines.node = group;
-        self.open_group(Step::Close, lines);
-        self.push_parts(self.step_of(&own), lines, group);
+        self.open_group(Step::Close, &lines);
+        self.push_parts(self.step_of(&own), &lines, group);
     }
 
     /// Leaves the parts of a list to this step. Their lines are deeper than those of the task.
-    fn push_parts(&mut self, step: Step, task: Task, list: usize) {
-        let mut parts = task;
+    fn push_parts(&mut self, step: Step, task: &Task, list: usize) {
+        let mut parts = *task;
         parts.node = list;
         parts.indent = deeper(task.indent);
-        self.push(step, parts, self.node(list).child, NOWHERE);
+        self.push(step, &parts, self.node(list).child, NOWHERE);
     }
 
     /// Returns the step that writes the parts of a group.
@@ -93,7 +93,7 @@ impl Tree {
     }
 
     /// Writes the next part of a list.
-    pub fn next_part(&mut self, task: Task, own: &Node, part: &Node) {
+    pub fn next_part(&mut self, task: &Task, own: &Node, part: &Node) {
         let last = *self.node(task.at);
         let first = task.at == NOWHERE;
         if !first {
@@ -135,7 +135,7 @@ impl Tree {
     }
 
     /// Writes the next child of an item: its head on one line if it fits, and otherwise its parameters on lines.
-    pub fn next_of_item(&mut self, task: Task, own: &Node, child: &Node) {
+    pub fn next_of_item(&mut self, task: &Task, own: &Node, child: &Node) {
         let atom = *self.atom(child.first);
         if child.form == Form::Bounds {
             self.write(own, task.at, child.first);
@@ -170,7 +170,7 @@ impl Tree {
     }
 
     /// Writes the body of an item. An empty one after a head of several lines has two lines.
-    fn next_body(&mut self, task: Task, own: &Node, child: &Node, brace: &Atom) {
+    fn next_body(&mut self, task: &Task, own: &Node, child: &Node, brace: &Atom) {
         self.reach(task, own, child, task.step == Step::Apart);
         self.leave(Step::Next, task, child);
         if task.step != Step::Next && !brace.is_full() {

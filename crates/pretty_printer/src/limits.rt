@@ -80,30 +80,28 @@ impl Tree {
 
     /// Reads the parts of a group, and measures it. The groups inside it are measured.
     pub fn measure_group(&mut self, group: usize) {
-        let own = *self.node(group);
-        let atom = *self.atom(own.first);
-        if own.from >= own.until {
+        let own = self.node(group);
+        let (first, from, until) = (own.first, own.from, own.until);
+        let brace = self.atom(first).is_brace();
+        if from >= until {
             return;
         }
-        self.place(own.from, own.until);
-        self.read_parts(group, atom.is_brace());
-        let own = *self.node(group);
-        let padded = atom.is_brace() && atom.role != Role::Use && !self.is_doubled(&own);
+        self.place(from, until);
+        self.read_parts(group, brace);
+        let own = self.node(group);
+        let atom = self.atom(first);
+        let padded = brace && atom.role != Role::Use && !self.is_doubled(own);
         let gap = if padded { Gap::Space } else { Gap::Nothing };
-        let inner = self.width(own.from, own.until);
-        let must = self.needs_lines(&own, &atom, inner);
+        let inner = self.width(from, until);
+        let must = self.needs_lines(own, atom, inner);
         let long = must || inner > SHORT;
-        let inside = if long {
-            self.head_inside(&own)
-        } else {
-            NO_HEAD
-        };
-        if let Some(atom) = self.atoms.get_mut(own.first) {
+        let inside = if long { self.head_inside(own) } else { NO_HEAD };
+        if let Some(atom) = self.atoms.get_mut(first) {
             atom.width = inner.saturating_add(if padded { 4 } else { 2 });
             atom.tall = must;
         }
-        self.set_gap(own.from, gap);
-        self.set_gap(own.until, gap);
+        self.set_gap(from, gap);
+        self.set_gap(until, gap);
         if let Some(node) = self.nodes.get_mut(group) {
             node.must = must;
             node.head = match inside {

@@ -54,7 +54,7 @@ impl Tree {
         // Each child has at most one task for each step, so this ends long before.
         for _ in 0..usize::MAX {
             match self.tasks.pop() {
-                Some(task) => self.take_task(task),
+                Some(task) => self.take_task(&task),
                 None => break,
             }
         }
@@ -74,12 +74,12 @@ impl Tree {
             indent,
             tail,
         };
-        self.push(Step::Lay, task, NOWHERE, NOWHERE);
+        self.push(Step::Lay, &task, NOWHERE, NOWHERE);
     }
 
     /// Leaves the children of a task's node from `child` on to this step.
-    pub fn push(&mut self, step: Step, task: Task, child: usize, at: usize) {
-        let mut left = task;
+    pub fn push(&mut self, step: Step, task: &Task, child: usize, at: usize) {
+        let mut left = *task;
         left.step = step;
         left.child = child;
         left.at = at;
@@ -88,12 +88,12 @@ impl Tree {
     }
 
     /// Leaves the children after this one to this step.
-    pub fn leave(&mut self, step: Step, task: Task, child: &Node) {
+    pub fn leave(&mut self, step: Step, task: &Task, child: &Node) {
         self.push(step, task, child.next, child.end);
     }
 
     /// Does what a task says, or leaves tasks for it.
-    fn take_task(&mut self, task: Task) {
+    fn take_task(&mut self, task: &Task) {
         let own = *self.node(task.node);
         match task.step {
             Step::Lay => return self.lay_node(task, &own),
@@ -121,7 +121,7 @@ impl Tree {
     }
 
     /// Begins to lay out a node that is not on one line.
-    fn lay_node(&mut self, task: Task, own: &Node) {
+    fn lay_node(&mut self, task: &Task, own: &Node) {
         match own.form {
             Form::Unread => {
                 self.read_unread(task.node);
@@ -136,7 +136,7 @@ impl Tree {
 
     /// Returns the number of characters that must follow a child on its line: up to the opener of the next child, or to
     /// the end.
-    pub fn tail_of(&self, task: Task, own: &Node, child: &Node) -> usize {
+    pub fn tail_of(&self, task: &Task, own: &Node, child: &Node) -> usize {
         if child.next == NOWHERE {
             return self.rest(child.end, own.end).saturating_add(task.tail);
         }
@@ -189,7 +189,7 @@ impl Tree {
     }
 
     /// Writes the atoms of a node before one of its children, and the space before it, or a line break if `line`.
-    pub fn reach(&mut self, task: Task, own: &Node, child: &Node, line: bool) {
+    pub fn reach(&mut self, task: &Task, own: &Node, child: &Node, line: bool) {
         self.write(own, task.at, child.first);
         if line {
             self.break_line(child.first, Gap::Line(task.indent), task.indent);

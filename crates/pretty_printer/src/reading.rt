@@ -19,6 +19,7 @@ pub fn push_list<'a>(
     groups: &mut Vec<Unread<'a>>,
     trees: &'a [TokenTree],
 ) -> Result<(), AllocError> {
+    tree.atoms.reserve(trees.len().saturating_add(1))?;
     let mut past: usize = 0;
     for index in 0..trees.len() {
         if index < past {

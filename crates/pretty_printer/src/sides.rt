@@ -11,7 +11,7 @@ const PATTERN: usize = 20;
 
 impl Tree {
     /// Lays out a chain that is not on one line.
-    pub fn lay_chain(&mut self, task: Task, own: &Node) {
+    pub fn lay_chain(&mut self, task: &Task, own: &Node) {
         let call = *self.node(own.last);
         let before = self.distance(own.first, call.first);
         let width = self.width(call.first, call.end);
@@ -45,19 +45,19 @@ impl Tree {
     }
 
     /// Writes the next call of a chain on its own line, which is deeper unless a line of closers ends the root.
-    pub fn next_call(&mut self, task: Task, own: &Node, child: &Node) {
-        let mut rest = task;
+    pub fn next_call(&mut self, task: &Task, own: &Node, child: &Node) {
+        let mut rest = *task;
         if task.step == Step::Next && !self.is_shut {
             rest.indent = deeper(task.indent);
         }
         self.begin_line(child.first, rest.indent);
-        self.leave(Step::Line, rest, child);
+        self.leave(Step::Line, &rest, child);
         let tail = if child.end == own.end { task.tail } else { 0 };
         self.lay(task.child, rest.indent, tail);
     }
 
     /// Writes the next operand, with its operator at the beginning of a line. Lines of patterns are not deeper.
-    pub fn next_operand(&mut self, task: Task, own: &Node, child: &Node) {
+    pub fn next_operand(&mut self, task: &Task, own: &Node, child: &Node) {
         let fills = task.step == Step::Fill && self.fit(task.at, child.end, ARM.saturating_add(1));
         let pattern = matches!(task.step, Step::Line | Step::Fill);
         let below = deeper(task.indent);
@@ -77,7 +77,7 @@ impl Tree {
     }
 
     /// Writes the next side of an assignment or a `let`, or the block after `else`.
-    pub fn next_side(&mut self, task: Task, own: &Node, child: &Node) {
+    pub fn next_side(&mut self, task: &Task, own: &Node, child: &Node) {
         let word = child.first.saturating_sub(1);
         let before = *self.atom(word);
         let gives_up = before.is_word(Word::Else);
@@ -112,7 +112,7 @@ impl Tree {
     }
 
     /// Writes the next condition or block of an `if`, a `match` or a loop.
-    pub fn next_of_control(&mut self, task: Task, own: &Node, child: &Node) {
+    pub fn next_of_control(&mut self, task: &Task, own: &Node, child: &Node) {
         let block = child.form == Form::Group && self.atom(child.first).is_brace();
         let line = block && task.step == Step::Broken && !self.is_shut;
         self.reach(task, own, child, line);
@@ -129,7 +129,7 @@ impl Tree {
     }
 
     /// Lays out an arm that is not on one line, with each of its patterns on its own line if they do not fit.
-    pub fn lay_arm(&mut self, task: Task, own: &Node) {
+    pub fn lay_arm(&mut self, task: &Task, own: &Node) {
         let pattern = *self.node(own.child);
         let bar = self.node(pattern.child).end;
         let bars = pattern.form == Form::Operators && self.atom(bar).is_mark('|');
@@ -138,11 +138,11 @@ impl Tree {
             return self.lay(own.child, task.indent, 3);
         }
         self.leave(Step::Broken, task, &pattern);
-        let mut patterns = task;
+        let mut patterns = *task;
         patterns.node = own.child;
         patterns.tail = 3;
         let short = self.are_short(pattern.first, pattern.end, Role::Between, PATTERN);
         let step = if short { Step::Fill } else { Step::Line };
-        self.push(step, patterns, pattern.child, pattern.first);
+        self.push(step, &patterns, pattern.child, pattern.first);
     }
 }

@@ -9,6 +9,9 @@ pub const NOWHERE: usize = usize::MAX;
 /// The width of a first line that does not exist.
 pub const NO_HEAD: usize = usize::MAX;
 
+/// The number of nodes, of open nodes and of tasks for which there is room at first.
+const ROOM: usize = 32;
+
 /// The kind of a node.
 #[derive(Clone, Copy, PartialEq)]
 pub enum Form {
@@ -112,15 +115,15 @@ impl Tree {
         atoms.push(NOTHING)?;
         Ok(Tree {
             atoms,
-            nodes: Vec::new(alloc),
+            nodes: Vec::with_capacity(alloc, ROOM)?,
             reader: Reader {
-                opens: Vec::new(alloc),
+                opens: Vec::with_capacity(alloc, ROOM)?,
                 controls: 0,
                 operand: NOWHERE,
                 chain: NOWHERE,
             },
             angles: Vec::new(alloc),
-            tasks: Vec::new(alloc),
+            tasks: Vec::with_capacity(alloc, ROOM)?,
             column: 0,
             is_fresh: true,
             is_shut: false,
