@@ -7,7 +7,7 @@ use crate::tree::{Form, NOWHERE, Tree};
 const ARM: usize = 0;
 /// Of closures, control flow and `return`.
 const WEAKEST: usize = 1;
-/// Of the operators.
+
 const ASSIGN: usize = 2;
 
 const RANGE: usize = 3;

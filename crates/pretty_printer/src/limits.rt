@@ -102,12 +102,10 @@ impl Tree {
         }
         self.set_gap(from, gap);
         self.set_gap(until, gap);
+        let head = if inside == NO_HEAD { 0 } else { inside };
         if let Some(node) = self.nodes.get_mut(group) {
             node.must = must;
-            node.head = match inside {
-                NO_HEAD => 1,
-                _ => inside.saturating_add(1),
-            };
+            node.head = head.saturating_add(1);
         }
     }
 

@@ -82,11 +82,8 @@ impl<'a> Printer<'a> {
             }
             return gap;
         }
-        if self.outer.is_empty() && self.tree.failure.is_none() {
-            let first = self.tree.node(self.part).first;
-            if index == first {
-                self.lay_part();
-            }
+        if self.outer.is_empty() && index == self.tree.node(self.part).first {
+            self.lay_part();
         }
         let own = self.tree.atom(index);
         let gap = own.gap;

@@ -229,9 +229,8 @@ fn head_of(word: Word) -> Option<Head> {
         Word::Fn => Some(Head::Fn),
         Word::Impl => Some(Head::Impl),
         Word::Item | Word::Extern => Some(Head::Item),
-        Word::For | Word::While | Word::Loop | Word::Match | Word::If | Word::Else => {
-            Some(Head::Other)
-        }
+        Word::For | Word::While | Word::Loop | Word::Match | Word::If => Some(Head::Other),
+        Word::Else => Some(Head::Other),
         _ => None,
     }
 }

@@ -94,21 +94,18 @@ impl Tree {
         if gives_up {
             return self.lay_lines(task, task.child);
         }
+        // The right side of `=` may fit on the next line. Closures and blocks stay.
+        let closure = child.form == Form::Closure && child.head != NO_HEAD;
+        let stays = closure || self.atom(child.first).is_word(Word::Prefix) || child.must || fits;
         let equals = before.role == Role::Between && child.first > own.first;
         let below = deeper(task.indent);
-        if equals && !fits && below < self.column && self.fits_below(child, below, tail) {
+        let width = self.width(child.first, child.end).saturating_add(tail);
+        let fits_below = below < self.column && below.saturating_add(width) <= WIDTH;
+        if equals && !stays && fits_below {
             self.begin_line(child.first, below);
             return self.lay(task.child, below, tail);
         }
         self.lay(task.child, task.indent, tail);
-    }
-
-    /// Returns whether the right side of `=` fits on the next line. Closures and blocks stay on the line of `=`.
-    fn fits_below(&self, child: &Node, below: usize, tail: usize) -> bool {
-        let closure = child.form == Form::Closure && child.head != NO_HEAD;
-        let width = self.width(child.first, child.end).saturating_add(tail);
-        let stays = closure || self.atom(child.first).is_word(Word::Prefix);
-        !stays && !child.must && below.saturating_add(width) <= WIDTH
     }
 
     /// Writes the next condition or block of an `if`, a `match` or a loop.
@@ -116,12 +113,8 @@ impl Tree {
         let block = child.form == Form::Group && self.atom(child.first).is_brace();
         let line = block && task.step == Step::Broken && !self.is_shut;
         self.reach(task, own, child, line);
-        let step = if block || self.fits(child, 2) {
-            Step::Next
-        } else {
-            Step::Broken
-        };
-        self.leave(step, task, child);
+        let flat = block || self.fits(child, 2);
+        self.leave(if flat { Step::Next } else { Step::Broken }, task, child);
         if block {
             return self.lay_lines(task, task.child);
         }

@@ -177,18 +177,12 @@ pub fn wants_space(tree: &Tree, index: usize, previous: &Atom, next: &Atom, role
 
 /// Returns whether an operator with this role touches what is before it.
 fn is_close(role: Role, own: &Atom) -> bool {
-    match role {
-        Role::Comma
-        | Role::Semicolon
-        | Role::Dot
-        | Role::Colon
-        | Role::Greater
-        | Role::Bang
-        | Role::After
-        | Role::Separator => true,
-        Role::BarClose => own.is_mark('|'),
-        _ => false,
-    }
+    let ends = matches!(
+        role,
+        Role::Comma | Role::Semicolon | Role::Colon | Role::Separator
+    );
+    let touches = matches!(role, Role::Dot | Role::Greater | Role::Bang | Role::After);
+    ends || touches || role == Role::BarClose && own.is_mark('|')
 }
 
 /// Returns whether a space follows an operator.
@@ -198,15 +192,8 @@ fn is_wide(tree: &Tree, index: usize, previous: &Atom, next: &Atom) -> bool {
             let dollar = tree.atom(index.saturating_sub(3));
             !(dollar.is_mark('$') && next.is_word(Word::Fragment))
         }
-        Role::Before
-        | Role::Path
-        | Role::Less
-        | Role::Hash
-        | Role::Dot
-        | Role::Range
-        | Role::BarOpen
-        | Role::Separator => false,
         Role::Bang => !next.is_list(),
-        _ => true,
+        Role::Plain | Role::Between | Role::Arm | Role::BarClose => true,
+        role => role == Role::Comma || role == Role::Semicolon,
     }
 }

@@ -164,7 +164,7 @@ impl Tree {
         }
     }
 
-    /// Adds a node without children, and returns its index.
+    /// Adds a node without children, and returns its index, or `NOWHERE` once an allocation failed.
     pub fn push_node(&mut self, form: Form, first: usize, end: usize) -> usize {
         let index = self.nodes.len();
         let mut node = NO_NODE;
@@ -173,7 +173,11 @@ impl Tree {
         node.end = end;
         let pushed = self.nodes.push(node);
         self.check(pushed);
-        index
+        if self.failure.is_none() {
+            index
+        } else {
+            NOWHERE
+        }
     }
 
     /// Makes a finished node the last child of another, unless one of them is missing.
