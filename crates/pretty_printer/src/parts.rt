@@ -66,7 +66,7 @@ impl Tree {
         end
     }
 
-    /// Reads the part with these atoms, and returns its node. An item begins with attributes, a visibility and a keyword.
+    /// Reads the part with these atoms, and returns its node.
     pub fn read_part(&mut self, first: usize, end: usize, block: bool) -> usize {
         for index in first..end {
             let own = self.atom(index);

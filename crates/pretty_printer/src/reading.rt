@@ -13,7 +13,8 @@ pub struct Unread<'a> {
     pub trees: &'a [TokenTree],
 }
 
-/// Adds the atoms of these trees at the end of the atoms, and their groups at the end of the groups.
+/// Adds the atoms of these trees at the end of the atoms, and their groups at the end of the groups. After the atoms is
+/// `NOTHING`, whose gap is that before the closer.
 pub fn push_list<'a>(
     tree: &mut Tree,
     groups: &mut Vec<Unread<'a>>,
@@ -51,7 +52,6 @@ pub fn push_list<'a>(
         past = index.saturating_add(atom.tokens());
         tree.atoms.push(atom)?;
     }
-    // The gap of the atom after a list is that before its closer.
     tree.atoms.push(NOTHING)?;
     Ok(())
 }

@@ -93,6 +93,7 @@ impl State {
         if let Some(changed) = tree.atoms.get_mut(index) {
             changed.role = role;
             changed.ends = self.ends;
+            changed.tall = changed.tall || role == Role::Where && self.head != Head::Impl;
             changed.gap = if spaced { Gap::Space } else { Gap::Nothing };
         }
     }
@@ -109,8 +110,7 @@ impl State {
         }
         let item = is_item(self.head);
         let role = self.brace_role(own, previous, next);
-        let first = passed == 1 && previous.is_word(Word::Prefix);
-        let operand = awaits_operand(previous) && !first;
+        let operand = awaits_operand(previous) && !(passed == 1 && previous.is_word(Word::Prefix));
         let goes_on = match next.kind {
             Kind::Word(word) => word == Word::Else,
             Kind::Sign(sign) => matches!(sign, Sign::Arm | Sign::One(';' | ',' | '.' | '?')),
@@ -129,8 +129,9 @@ impl State {
             Kind::Word(word) => head_of(word).is_some(),
             _ => false,
         };
-        let ends = role != Role::Use && !goes_on && !operand && self.head != Head::Other;
-        self.ends = ends && (item || statement);
+        let braces = role == Role::Block || role == Role::Expression || second.is_any_word();
+        let ends = braces && !goes_on && !operand && self.head != Head::Other;
+        self.ends = ends && self.depth == 0 && (item || statement);
         role
     }
 
