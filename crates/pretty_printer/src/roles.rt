@@ -69,7 +69,7 @@ impl State {
             Kind::Word(word) => {
                 if let Some(head) = head_of(word) {
                     self.take_head(word, head, previous, tree.next(index));
-                } else if word == Word::Where {
+                } else if word == Word::Where && is_item(self.head) {
                     role = Role::Where;
                 }
             }
