@@ -39,5 +39,8 @@ pub mod FunctionLemmas
 pub mod RangeStepLemmas
 pub mod FrontLemmas
 pub mod TransferLemmas
+pub mod FieldReaderLemmas
 pub mod PartReaderLemmas
+pub mod ItemReaderLemmas
 pub mod TreeLemmas
+pub mod VariantReaderLemmas

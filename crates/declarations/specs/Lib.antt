@@ -26,5 +26,7 @@ pub mod EntryList
 pub mod EntryCheck
 pub mod Parameter
 pub mod Function
+pub mod ItemReader
+pub mod VariantReader
 pub mod CompileError
 pub mod rules

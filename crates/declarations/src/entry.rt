@@ -254,7 +254,7 @@ fn literal(trees: &[TokenTree]) -> Result<&[TokenTree], &[TokenTree]>
 
 /// Skips an expression.
 #[tactic(auto, using(crate::proofs::EntryLemmas::expression_reads))]
-fn past_expression(trees: &[TokenTree]) -> Result<&[TokenTree], &[TokenTree]>
+pub(crate) fn past_expression(trees: &[TokenTree]) -> Result<&[TokenTree], &[TokenTree]>
     ensures { ReadsRule expression trees.now result }
 {
     let start = Place {

@@ -260,7 +260,7 @@ fn is_name(class: Class) -> bool
 
 /// The name at the start of the trees, and the trees after it.
 #[tactic(auto, using(crate::proofs::FunctionPartLemmas::names_of))]
-fn name_of(trees: &[TokenTree]) -> Result<(&Ident, &[TokenTree]), &[TokenTree]>
+pub(crate) fn name_of(trees: &[TokenTree]) -> Result<(&Ident, &[TokenTree]), &[TokenTree]>
     ensures { MatchResult result (λ found. IsNameAt trees.now found.0.now found.1.now)
         (λ left. Sticks word trees.now left.now) }
 {
@@ -360,7 +360,7 @@ fn body_of(trees: &[TokenTree]) -> Result<(Option<&Group>, &[TokenTree]), &[Toke
 }
 
 /// The group in braces at the start of the trees, and the trees after it.
-fn split_braces(trees: &[TokenTree]) -> Option<(&Group, &[TokenTree])>
+pub(crate) fn split_braces(trees: &[TokenTree]) -> Option<(&Group, &[TokenTree])>
     ensures found { IfSome result (λ found. (trees.now ≡ trees_are.Group found.0.now ∷ found.1.now)
         × (found.0.now.delimiter ≡ Delimiter.Brace)) }
     ensures none { IfNone result ((group : Grouped) → (rest : List Tree) → trees.now ≡ trees_are.Group group ∷ rest

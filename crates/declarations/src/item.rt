@@ -1,24 +1,30 @@
 //! Structs, enums and unions, as a derive macro gets them.
-ghost use Rattle.std.specs.Prelude.{◌≡◌, ◌∷◌, IfErr, IfNone, IfOk, IfSome, List, MatchResult};
+ghost use Rattle.std.specs.Prelude.{◌≡◌, ◌∷◌, [], IfErr, IfNone, IfOk, IfSome, List, MatchResult};
+ghost use Rattle.grammars.specs.Grammar.{Then};
 ghost use Rattle.pm_stream.specs.declared.stream.Group.{Group as Grouped};
 ghost use Rattle.pm_stream.specs.declared.stream.TokenTree.{TokenTree as Tree};
 ghost use Rattle.pm_stream.specs.declared.stream.TokenTree.TheVariants as trees_are;
 ghost use Rattle.pm_token.specs.Leaf.{Name};
 ghost use Rattle.declarations.specs.Fault.{extent_at};
-ghost use Rattle.declarations.specs.Forms.{IsFrom, IsItem};
-ghost use Rattle.declarations.specs.Item.{AreBracesLeft, HasBraces, HasEnding, IsLeft, IsTypeItem, behind_generics};
+ghost use Rattle.declarations.specs.Forms.{IsItem};
+ghost use Rattle.declarations.specs.Item.{HasBraces, IsTypeItem};
+ghost use Rattle.declarations.specs.ItemReader.{FindsEnding, HasSemicolon, IsKeywordAt, IsTypeKeyword};
+ghost use Rattle.declarations.specs.ItemReader.{is_type_keyword, rest_of};
+ghost use Rattle.declarations.specs.Reader.{Finds, Sticks};
 ghost use Rattle.declarations.specs.Reading.{FaultAt};
-ghost use Rattle.declarations.specs.Whole.{IsWhole, ReadsAll};
+ghost use Rattle.declarations.specs.Whole.{IsWhole};
 ghost use Rattle.declarations.specs.declared.class.Class.TheVariants as classes;
 ghost use Rattle.declarations.specs.declared.class.Keyword.TheVariants as keywords;
-ghost use Rattle.declarations.specs.declared.place.Item.TheVariants as items;
+ghost use Rattle.declarations.specs.rules.Bodies.{braced, semicolon, struct_rest};
+ghost use Rattle.declarations.specs.rules.Items.{type_item, type_keyword};
+ghost use Rattle.declarations.specs.rules.Parts.{where_clause};
 
-use crate::class::{Class, Keyword};
+use crate::class::{Class, Keyword, Word};
 use crate::fault::Fault;
-use crate::parts::{split_attributes, split_generics, split_visibility, split_where};
-use crate::place::{Item, Part, Place, Rule, Spot, State};
+use crate::function::{name_of, past_generics, past_visibility, past_where, split_braces};
+use crate::parameter::past_attributes;
+use crate::reader::{part, past_one};
 use crate::signs::name_class;
-use crate::walk::read_whole;
 use pm_stream::{Group, TokenTree};
 use pm_token::{Delimiter, Ident};
 
@@ -78,44 +84,76 @@ pub enum Fields<'a> {
 ///
 /// For `pub struct S<T>(T) where T: A;` the visibility is `pub`, the name is `S`, the generic parameters are `<T>`, the
 /// fields are `(T)`, and the where clause is `where T: A`.
+#[tactic(auto, using(crate::proofs::ItemReaderLemmas::promises))]
 pub fn parse_type_item(trees: &[TokenTree]) -> Result<TypeItem<'_>, Fault>
     ensures ok { IfOk result (λ item. IsTypeItem trees.now item) }
     ensures fault { IfErr result (λ fault. FaultAt (IsWhole IsItem) trees.now fault.at) }
     ensures span { IfErr result (λ fault. fault.span ≡ extent_at trees.now fault.at) }
 {
-    let start = Place {
-        item: Item::Alone,
-        rule: Rule::Alone,
-        state: State::At(Spot::Before(Part::TypeItem)),
-        depth: 0,
-    };
-    match read_whole(trees, start) {
-        Ok(()) => item_of(trees),
-        Err(fault) => Err(fault),
+    match item_of(trees) {
+        Ok((item, rest)) => {
+            if rest.is_empty() {
+                Ok(item)
+            } else {
+                Err(Fault::ahead_of(trees.len() - rest.len(), rest))
+            }
+        }
+        Err(left) => Err(Fault::ahead_of(trees.len() - left.len(), left)),
     }
 }
 
-/// The parts of an item that is all of the trees.
-fn item_of(trees: &[TokenTree]) -> Result<TypeItem<'_>, Fault>
-    requires { ReadsAll IsItem trees.now }
-    ensures { MatchResult result (λ item. IsTypeItem trees.now item) (λ fault. ⊥) }
+/// Reads the item at the start of the trees. Returns it and the trees after it, or the trees from the error on. The
+/// parts are those of the item if no trees are after it.
+fn item_of(trees: &[TokenTree]) -> Result<(TypeItem<'_>, &[TokenTree]), &[TokenTree]>
+    ensures { MatchResult result (λ found. Finds type_item trees.now found.1.now
+        × (found.1.now ≡ [] → IsTypeItem trees.now found.0)) (λ left. Sticks type_item trees.now left.now) }
 {
-    let (attributes, rest) = split_attributes(trees)?;
-    let (visibility, rest) = split_visibility(rest)?;
-    let (keyword, rest) = split_name(rest)?;
-    let (name, rest) = split_name(rest)?;
-    let (generics, rest) = split_generics(rest)?;
-    let ending = ending_of(name_class(keyword), rest)?;
-    Ok(TypeItem {
-        attributes,
-        visibility,
+    let from_visibility = past_attributes(trees)?;
+    let from_keyword = past_visibility(from_visibility)?;
+    let (class, keyword, from_name) = keyword_of(from_keyword)?;
+    let (name, from_generics) = name_of(from_name)?;
+    let from_ending = past_generics(from_generics)?;
+    let (ending, rest) = ending_of(class, from_ending)?;
+    let item = TypeItem {
+        attributes: part(trees, from_visibility),
+        visibility: part(from_visibility, from_keyword),
         keyword,
         name,
-        generics,
+        generics: part(from_generics, from_ending),
         where_clause: ending.where_clause,
         body: ending.body,
         semicolon: ending.semicolon,
-    })
+    };
+    Ok((item, rest))
+}
+
+/// The keyword at the start of the trees with its class, and the trees after it.
+#[tactic(auto, using(crate::proofs::ItemReaderLemmas::keywords_of))]
+fn keyword_of(trees: &[TokenTree]) -> Result<(Class, &Ident, &[TokenTree]), &[TokenTree]>
+    ensures { MatchResult result (λ found. IsKeywordAt trees.now found.0 found.1.now found.2.now)
+        (λ left. Sticks type_keyword trees.now left.now) }
+{
+    match split_name(trees) {
+        Ok((keyword, rest)) => {
+            let class = name_class(keyword);
+            if is_type_keyword(class) {
+                Ok((class, keyword, rest))
+            } else {
+                Err(trees)
+            }
+        }
+        Err(_) => Err(trees),
+    }
+}
+
+/// Whether the sign begins a struct, an enum or a union.
+fn is_type_keyword(class: Class) -> bool
+    ensures { result ≡ is_type_keyword class }
+{
+    match class {
+        Class::Keyword(Keyword::Struct | Keyword::Enum) | Class::Word(Word::Union) => true,
+        _ => false,
+    }
 }
 
 /// What comes after the generic parameters of an item.
@@ -126,82 +164,130 @@ struct Ending<'a> {
     semicolon: &'a [TokenTree],
 }
 
-fn ending_of<'a>(keyword: Class, trees: &'a [TokenTree]) -> Result<Ending<'a>, Fault>
-    requires { IsLeft keyword trees.now }
-    ensures { MatchResult result (λ ending. HasEnding keyword trees.now ending.body ending.where_clause.now
-        ending.semicolon.now) (λ fault. ⊥) }
+/// Reads what comes after the generic parameters of an item with this keyword, and the trees after it.
+#[tactic(auto, using(crate::proofs::ItemReaderLemmas::bodies_of))]
+fn ending_of<'a>(
+    keyword: Class,
+    trees: &'a [TokenTree],
+) -> Result<(Ending<'a>, &'a [TokenTree]), &'a [TokenTree]>
+    requires { IsTypeKeyword keyword }
+    ensures { MatchResult result (λ found. FindsEnding keyword trees.now found.0.body found.0.where_clause.now
+        found.0.semicolon.now found.1.now) (λ left. Sticks (rest_of keyword) trees.now left.now) }
 {
     match keyword {
         Class::Keyword(Keyword::Struct) => struct_ending(trees),
-        Class::Keyword(Keyword::Enum) => {
-            let (where_clause, variants, semicolon) = braces_of(trees)?;
-            Ok(Ending {
-                where_clause,
-                body: Body::Enum(variants),
+        Class::Keyword(Keyword::Enum) => match braces_of(trees) {
+            Ok((where_clause, variants, semicolon)) => Ok((
+                Ending {
+                    where_clause,
+                    body: Body::Enum(variants),
+                    semicolon,
+                },
                 semicolon,
-            })
-        }
-        _ => {
-            let (where_clause, fields, semicolon) = braces_of(trees)?;
-            Ok(Ending {
-                where_clause,
-                body: Body::Union(fields),
+            )),
+            Err(left) => Err(left),
+        },
+        _ => match braces_of(trees) {
+            Ok((where_clause, fields, semicolon)) => Ok((
+                Ending {
+                    where_clause,
+                    body: Body::Union(fields),
+                    semicolon,
+                },
                 semicolon,
-            })
-        }
+            )),
+            Err(left) => Err(left),
+        },
     }
 }
 
-fn struct_ending(trees: &[TokenTree]) -> Result<Ending<'_>, Fault>
-    requires { ReadsAll (IsFrom (behind_generics items.Struct)) trees.now }
-    ensures { MatchResult result (λ ending. HasEnding (classes.Keyword keywords.Struct) trees.now ending.body
-        ending.where_clause.now ending.semicolon.now) (λ fault. ⊥) }
+/// Reads what comes after the generic parameters of a struct, and the trees after it.
+#[tactic(auto, using(crate::proofs::ItemReaderLemmas::tuples))]
+fn struct_ending(trees: &[TokenTree]) -> Result<(Ending<'_>, &[TokenTree]), &[TokenTree]>
+    ensures { MatchResult result (λ found. FindsEnding (classes.Keyword keywords.Struct) trees.now found.0.body
+        found.0.where_clause.now found.0.semicolon.now found.1.now) (λ left. Sticks struct_rest trees.now left.now) }
 {
     match split_parentheses(trees) {
-        Some((fields, rest)) => {
-            let (where_clause, semicolon) = split_where(rest)?;
-            Ok(Ending {
-                where_clause,
-                body: Body::Struct(Fields::Tuple(fields)),
-                semicolon,
-            })
-        }
+        Some((fields, from_clause)) => match semicolon_of(from_clause) {
+            Ok((where_clause, semicolon, rest)) => Ok((
+                Ending {
+                    where_clause,
+                    body: Body::Struct(Fields::Tuple(fields)),
+                    semicolon,
+                },
+                rest,
+            )),
+            Err(left) => Err(left),
+        },
         None => plain_ending(trees),
     }
 }
 
-/// The end of a struct that has no fields in parentheses.
-fn plain_ending(trees: &[TokenTree]) -> Result<Ending<'_>, Fault>
-    requires left { ReadsAll (IsFrom (behind_generics items.Struct)) trees.now }
-    requires plain { (group : Grouped) → (rest : List Tree) → trees.now ≡ trees_are.Group group ∷ rest
+/// Reads the end of a struct that has no fields in parentheses, and the trees after it.
+#[tactic(auto, using(crate::proofs::ItemReaderLemmas::plains))]
+fn plain_ending(trees: &[TokenTree]) -> Result<(Ending<'_>, &[TokenTree]), &[TokenTree]>
+    requires { (group : Grouped) → (rest : List Tree) → trees.now ≡ trees_are.Group group ∷ rest
         → group.delimiter ≡ Delimiter.Parenthesis → ⊥ }
-    ensures { MatchResult result (λ ending. HasEnding (classes.Keyword keywords.Struct) trees.now ending.body
-        ending.where_clause.now ending.semicolon.now) (λ fault. ⊥) }
+    ensures { MatchResult result (λ found. FindsEnding (classes.Keyword keywords.Struct) trees.now found.0.body
+        found.0.where_clause.now found.0.semicolon.now found.1.now) (λ left. Sticks struct_rest trees.now left.now) }
 {
-    let (where_clause, rest) = split_where(trees)?;
-    match split_group(rest) {
-        Some((group, after)) => Ok(Ending {
-            where_clause,
-            body: Body::Struct(Fields::Named(group)),
-            semicolon: after,
-        }),
-        None => Ok(Ending {
-            where_clause,
-            body: Body::Struct(Fields::Unit),
-            semicolon: rest,
-        }),
+    match past_where(trees) {
+        Ok(from_body) => match split_braces(from_body) {
+            Some((group, rest)) => Ok((
+                Ending {
+                    where_clause: part(trees, from_body),
+                    body: Body::Struct(Fields::Named(group)),
+                    semicolon: rest,
+                },
+                rest,
+            )),
+            None => match past_one(from_body, Class::Semicolon) {
+                Ok(rest) => Ok((
+                    Ending {
+                        where_clause: part(trees, from_body),
+                        body: Body::Struct(Fields::Unit),
+                        semicolon: part(from_body, rest),
+                    },
+                    rest,
+                )),
+                Err(left) => Err(left),
+            },
+        },
+        Err(left) => Err(left),
+    }
+}
+
+/// A where clause, the `;` after it, and the trees after the `;`.
+#[tactic(auto, using(crate::proofs::ItemReaderLemmas::endings))]
+fn semicolon_of(
+    trees: &[TokenTree],
+) -> Result<(&[TokenTree], &[TokenTree], &[TokenTree]), &[TokenTree]>
+    ensures { MatchResult result (λ found. Finds (Then where_clause semicolon) trees.now found.2.now
+        × (found.2.now ≡ [] → HasSemicolon trees.now found.0.now found.1.now))
+        (λ left. Sticks (Then where_clause semicolon) trees.now left.now) }
+{
+    match past_where(trees) {
+        Ok(from_end) => match past_one(from_end, Class::Semicolon) {
+            Ok(rest) => Ok((part(trees, from_end), part(from_end, rest), rest)),
+            Err(left) => Err(left),
+        },
+        Err(left) => Err(left),
     }
 }
 
 /// A where clause, the braces after it, and the trees after the braces.
-fn braces_of(trees: &[TokenTree]) -> Result<(&[TokenTree], &Group, &[TokenTree]), Fault>
-    requires { AreBracesLeft trees.now }
-    ensures { MatchResult result (λ found. HasBraces trees.now found.0.now found.1.now found.2.now) (λ fault. ⊥) }
+#[tactic(auto, using(crate::proofs::ItemReaderLemmas::braces_of))]
+fn braces_of(trees: &[TokenTree]) -> Result<(&[TokenTree], &Group, &[TokenTree]), &[TokenTree]>
+    ensures { MatchResult result (λ found. Finds braced trees.now found.2.now
+        × (found.2.now ≡ [] → HasBraces trees.now found.0.now found.1.now found.2.now))
+        (λ left. Sticks braced trees.now left.now) }
 {
-    let (where_clause, rest) = split_where(trees)?;
-    match split_group(rest) {
-        Some((group, after)) => Ok((where_clause, group, after)),
-        None => Err(Fault::ahead_of(0, rest)),
+    match past_where(trees) {
+        Ok(from_body) => match split_braces(from_body) {
+            Some((group, rest)) => Ok((part(trees, from_body), group, rest)),
+            None => Err(from_body),
+        },
+        Err(left) => Err(left),
     }
 }
 

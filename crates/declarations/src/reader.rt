@@ -1,9 +1,10 @@
 //! Functions that read by one rule of the grammar. Each returns the trees after what its rule reads at the start of the
 //! trees, or the trees from the error on.
-ghost use Rattle.std.specs.Prelude.{◌≡◌, ◌++◌};
+ghost use Rattle.std.specs.Prelude.{◌≡◌, ◌++◌, MatchResult};
 ghost use Rattle.grammars.specs.First.{heads};
 ghost use Rattle.declarations.specs.Parts.{begins_identifier, begins_mark, is_identifier, is_mark};
-ghost use Rattle.declarations.specs.Reader.{Remains, ReadsRule, classes_in};
+ghost use Rattle.declarations.specs.Reader.{Remains, ReadsRule, Sticks, classes_in};
+ghost use Rattle.declarations.specs.Signs.{BeginsWith};
 ghost use Rattle.declarations.specs.rules.Classes.{is};
 ghost use Rattle.declarations.specs.rules.Names.{one};
 
@@ -71,6 +72,24 @@ fn is_identifier(tree: &TokenTree) -> bool
 #[tactic(auto, using(crate::proofs::ReaderLemmas::steps))]
 pub(crate) fn past(trees: &[TokenTree], class: Class) -> Result<&[TokenTree], &[TokenTree]>
     ensures { ReadsRule (one class) trees.now result }
+{
+    match first_sign(trees) {
+        Some((found, rest)) => {
+            if is(class, found) {
+                Ok(rest)
+            } else {
+                Err(trees)
+            }
+        }
+        None => Err(trees),
+    }
+}
+
+/// The trees after the sign of this class that they begin with.
+#[tactic(auto, using(crate::proofs::TreeLemmas::ones))]
+pub(crate) fn past_one(trees: &[TokenTree], class: Class) -> Result<&[TokenTree], &[TokenTree]>
+    ensures { MatchResult result (λ rest. BeginsWith trees.now class rest.now)
+        (λ left. Sticks (one class) trees.now left.now) }
 {
     match first_sign(trees) {
         Some((found, rest)) => {

@@ -1,17 +1,23 @@
 //! The variants of an enum.
 ghost use Rattle.std.specs.Prelude.{◌≡◌, IfErr, IfOk, MatchResult};
-ghost use Rattle.pm_stream.specs.declared.stream.TokenTree.{TokenTree as Tree};
 ghost use Rattle.declarations.specs.Fault.{extent_at};
 ghost use Rattle.declarations.specs.Forms.{IsVariant};
+ghost use Rattle.declarations.specs.Reader.{Sticks};
 ghost use Rattle.declarations.specs.Reading.{FaultAt};
-ghost use Rattle.declarations.specs.Variant.{HasValue, HasVariantParts, IsVariantAt, SplitsFields};
-ghost use Rattle.declarations.specs.Whole.{ReadsAll};
+ghost use Rattle.declarations.specs.Variant.{IsVariantAt};
+ghost use Rattle.declarations.specs.VariantReader.{TakesFields, TakesValue};
+ghost use Rattle.declarations.specs.rules.Parts.{discriminant, variant};
 
+use crate::class::Class;
+use crate::entry::past_expression;
 use crate::fault::Fault;
-use crate::item::{Fields, split_group, split_name};
-use crate::parts::{split_attributes, split_variant, split_visibility};
+use crate::function::{name_of, past_visibility, split_braces};
+use crate::item::{Fields, split_parentheses};
+use crate::parameter::past_attributes;
+use crate::reader::{is, part};
+use crate::signs::first_sign;
 use pm_stream::TokenTree;
-use pm_token::{Delimiter, Ident};
+use pm_token::Ident;
 
 /// A variant of an enum, split into its parts in reading order.
 #[derive(Clone, Copy, Debug)]
@@ -32,58 +38,69 @@ pub struct Variant<'a> {
 ///
 /// It reads the same trees as [`split_variant`], and returns the same errors. For `#[a] B { c: D } = 1, C` the name is
 /// `B`, the fields are those in the braces, the discriminant is `1`, and the rest is `, C`.
+#[tactic(auto, using(crate::proofs::VariantReaderLemmas::promises))]
 pub fn parse_variant(trees: &[TokenTree]) -> Result<(Variant<'_>, &[TokenTree]), Fault>
     ensures ok { IfOk result (λ found. IsVariantAt trees.now found.0 found.1.now) }
     ensures fault { IfErr result (λ fault. FaultAt IsVariant trees.now fault.at) }
     ensures span { IfErr result (λ fault. fault.span ≡ extent_at trees.now fault.at) }
 {
-    let (part, rest) = split_variant(trees)?;
-    match variant_of(part) {
-        Ok(variant) => Ok((variant, rest)),
-        Err(fault) => Err(fault),
+    match variant_of(trees) {
+        Ok(found) => Ok(found),
+        Err(left) => Err(Fault::ahead_of(trees.len() - left.len(), left)),
     }
 }
 
-/// The parts of a variant that is all of the trees.
-fn variant_of(trees: &[TokenTree]) -> Result<Variant<'_>, Fault>
-    requires { ReadsAll IsVariant trees.now }
-    ensures { MatchResult result (λ variant. HasVariantParts trees.now variant) (λ fault. ⊥) }
+/// The variant at the start of the trees, and the trees after it, or the trees from the error on.
+fn variant_of(trees: &[TokenTree]) -> Result<(Variant<'_>, &[TokenTree]), &[TokenTree]>
+    ensures { MatchResult result (λ found. IsVariantAt trees.now found.0 found.1.now)
+        (λ left. Sticks variant trees.now left.now) }
 {
-    let (attributes, rest) = split_attributes(trees)?;
-    let (visibility, rest) = split_visibility(rest)?;
-    let (name, rest) = split_name(rest)?;
-    let (fields, rest) = fields_first(rest);
-    Ok(Variant {
-        attributes,
-        visibility,
+    let from_visibility = past_attributes(trees)?;
+    let from_name = past_visibility(from_visibility)?;
+    let (name, from_fields) = name_of(from_name)?;
+    let (fields, from_value) = fields_of(from_fields);
+    let (discriminant, rest) = value_of(from_value)?;
+    let variant = Variant {
+        attributes: part(trees, from_visibility),
+        visibility: part(from_visibility, from_name),
         name,
         fields,
-        discriminant: after_first(rest),
-    })
+        discriminant,
+    };
+    Ok((variant, rest))
 }
 
 /// The fields in the group that the trees begin with, if they begin with one, and the trees after it.
-fn fields_first(trees: &[TokenTree]) -> (Fields<'_>, &[TokenTree])
-    ensures { SplitsFields trees.now result.0 result.1.now }
+#[tactic(auto, using(crate::proofs::VariantReaderLemmas::groups_of))]
+fn fields_of(trees: &[TokenTree]) -> (Fields<'_>, &[TokenTree])
+    ensures { TakesFields trees.now result.0 result.1.now }
 {
-    match split_group(trees) {
-        Some((group, rest)) => {
-            if group.delimiter() == Delimiter::Parenthesis {
-                (Fields::Tuple(group), rest)
-            } else {
-                (Fields::Named(group), rest)
-            }
-        }
-        None => (Fields::Unit, trees),
+    if let Some((group, rest)) = split_parentheses(trees) {
+        return (Fields::Tuple(group), rest);
     }
+    if let Some((group, rest)) = split_braces(trees) {
+        return (Fields::Named(group), rest);
+    }
+    (Fields::Unit, trees)
 }
 
-/// The trees after the first one, if there is one.
-fn after_first(trees: &[TokenTree]) -> &[TokenTree]
-    ensures { HasValue trees.now result.now }
+/// Reads `=` and an expression, if `=` is next. Returns the expression, or no trees, and the trees after it.
+#[tactic(auto, using(crate::proofs::VariantReaderLemmas::values_of))]
+fn value_of(trees: &[TokenTree]) -> Result<(&[TokenTree], &[TokenTree]), &[TokenTree]>
+    ensures { MatchResult result (λ found. TakesValue trees.now found.0.now found.1.now)
+        (λ left. Sticks discriminant trees.now left.now) }
 {
-    match trees.split_first() {
-        Some((_, rest)) => rest,
-        None => trees,
+    match first_sign(trees) {
+        Some((class, from_value)) => {
+            if is(Class::Equals, class) {
+                match past_expression(from_value) {
+                    Ok(rest) => Ok((part(from_value, rest), rest)),
+                    Err(left) => Err(left),
+                }
+            } else {
+                Ok((&[], trees))
+            }
+        }
+        None => Ok((&[], trees)),
     }
 }

@@ -1,83 +1,77 @@
-use Rattle.std.proofs.Common.{sym, subst}
-use Rattle.declarations.specs.Item.{IsLeft, HasEnding}
-use Rattle.declarations.proofs.ItemLemmas.{after_attributes-found, attributes_stand}
-use Rattle.declarations.proofs.ItemLemmas.{after_visibility-found, visibility_stands, after_keyword-found}
-use Rattle.declarations.proofs.ItemLemmas.{keyword_stands, after_name-found, name_stands, generics_stand, left_of}
-use Rattle.declarations.proofs.ItemLemmas.{item_parts}
+use Rattle.std.proofs.Common.{refl}
+use Rattle.std.proofs.lemmas.Result.{err_from_is_err_and}
+use Rattle.declarations.proofs.ItemReaderLemmas.{attributes_stick, ending_sticks, fails, generics_stick, item_finds}
+use Rattle.declarations.proofs.ItemReaderLemmas.{item_has, keyword_sticks, name_sticks, visibility_sticks}
 use Rattle.declarations.proofs.item.item_of.Goals as goal
 
-pub returns-in_err-attributes : goal.returns-in_err-attributes
-returns-in_err-attributes c =
-    absurd (attributes_stand c.args.trees.now c.in_err-attributes.field-0.0.at c.requires
-    c.in_err-attributes.ensures.fault)
+pub returns-in_err-from_visibility : goal.returns-in_err-from_visibility
+returns-in_err-from_visibility c =
+    let p = err_from_is_err_and c.from_residual.result c.from_residual.ensures.1 in
+    fails c.args.trees.now c.from_residual.result p.0 c.in_err-from_visibility.field-0.0 p.1 p.2
+    (attributes_stick c.args.trees.now 
+    c.in_err-from_visibility.field-0.0.now c.in_err-from_visibility.ensures)
 
-pub returns-in_err-visibility : goal.returns-in_err-visibility
-returns-in_err-visibility c =
-    let one = after_attributes-found c.args.trees.now c.in_ok-attributes.attributes.now c.in_ok-attributes.rest.now
-    c.requires c.in_ok-attributes.ensures.only in
-    absurd (visibility_stands c.in_ok-attributes.rest.now c.in_err-visibility.field-0.0.at one
-    c.in_err-visibility.ensures.fault)
+pub returns-in_err-from_keyword : goal.returns-in_err-from_keyword
+returns-in_err-from_keyword c =
+    let p = err_from_is_err_and c.from_residual-in_err-from_keyword.result c.from_residual-in_err-from_keyword.ensures.1 in
+    fails c.args.trees.now c.from_residual-in_err-from_keyword.result p.0 c.in_err-from_keyword.field-0.0 p.1 p.2
+    (visibility_sticks c.args.trees.now c.in_ok-from_visibility.from_visibility.now c.in_ok-from_visibility.ensures
+    c.in_err-from_keyword.field-0.0.now c.in_err-from_keyword.ensures)
 
-pub returns-in_err-keyword : goal.returns-in_err-keyword
-returns-in_err-keyword c =
-    let one = after_attributes-found c.args.trees.now c.in_ok-attributes.attributes.now c.in_ok-attributes.rest.now
-    c.requires c.in_ok-attributes.ensures.only in
-    let two = after_visibility-found c.in_ok-attributes.rest.now c.in_ok-visibility.visibility.now
-    c.in_ok-visibility.rest.now one c.in_ok-visibility.ensures.only in
-    absurd (keyword_stands c.in_ok-visibility.rest.now two c.in_err-keyword.ensures.fault)
+pub returns-in_err-class : goal.returns-in_err-class
+returns-in_err-class c =
+    let p = err_from_is_err_and c.from_residual-in_err-class.result c.from_residual-in_err-class.ensures.1 in
+    fails c.args.trees.now c.from_residual-in_err-class.result p.0 c.in_err-class.field-0.0 p.1 p.2
+    (keyword_sticks c.args.trees.now c.in_ok-from_visibility.from_visibility.now c.in_ok-from_visibility.ensures
+    c.in_ok-from_keyword.from_keyword.now c.in_ok-from_keyword.ensures
+    c.in_err-class.field-0.0.now c.in_err-class.ensures)
 
 pub returns-in_err-name : goal.returns-in_err-name
 returns-in_err-name c =
-    let one = after_attributes-found c.args.trees.now c.in_ok-attributes.attributes.now c.in_ok-attributes.rest.now
-    c.requires c.in_ok-attributes.ensures.only in
-    let two = after_visibility-found c.in_ok-attributes.rest.now c.in_ok-visibility.visibility.now
-    c.in_ok-visibility.rest.now one c.in_ok-visibility.ensures.only in
-    let three = after_keyword-found c.in_ok-visibility.rest.now c.in_ok-keyword.rest.now c.in_ok-keyword.keyword.now
-    two c.in_ok-keyword.ensures.found in
-    absurd (name_stands c.in_ok-keyword.keyword.now c.in_ok-keyword.rest.now three c.in_err-name.ensures.fault)
+    let p = err_from_is_err_and c.from_residual-in_err-name.result c.from_residual-in_err-name.ensures.1 in
+    fails c.args.trees.now c.from_residual-in_err-name.result p.0 c.in_err-name.field-0.0 p.1 p.2
+    (name_sticks c.args.trees.now c.in_ok-from_visibility.from_visibility.now c.in_ok-from_visibility.ensures
+    c.in_ok-from_keyword.from_keyword.now c.in_ok-from_keyword.ensures
+    c.in_ok-class.from_name.now c.in_ok-class.class c.in_ok-class.keyword.now c.in_ok-class.ensures
+    c.in_err-name.field-0.0.now c.in_err-name.ensures)
 
-pub returns-in_err-generics : goal.returns-in_err-generics
-returns-in_err-generics c =
-    let one = after_attributes-found c.args.trees.now c.in_ok-attributes.attributes.now c.in_ok-attributes.rest.now
-    c.requires c.in_ok-attributes.ensures.only in
-    let two = after_visibility-found c.in_ok-attributes.rest.now c.in_ok-visibility.visibility.now
-    c.in_ok-visibility.rest.now one c.in_ok-visibility.ensures.only in
-    let three = after_keyword-found c.in_ok-visibility.rest.now c.in_ok-keyword.rest.now c.in_ok-keyword.keyword.now
-    two c.in_ok-keyword.ensures.found in
-    let four = after_name-found c.in_ok-keyword.keyword.now c.in_ok-name.name.now c.in_ok-keyword.rest.now
-    c.in_ok-name.rest.now three c.in_ok-name.ensures.found in
-    absurd (generics_stand c.in_ok-keyword.keyword.now c.in_ok-name.name.now c.in_ok-name.rest.now
-    c.in_err-generics.field-0.0.at four c.in_err-generics.ensures.fault)
+pub returns-in_err-from_ending : goal.returns-in_err-from_ending
+returns-in_err-from_ending c =
+    let p = err_from_is_err_and c.from_residual-in_err-from_ending.result c.from_residual-in_err-from_ending.ensures.1 in
+    fails c.args.trees.now c.from_residual-in_err-from_ending.result p.0 c.in_err-from_ending.field-0.0 p.1 p.2
+    (generics_stick c.args.trees.now c.in_ok-from_visibility.from_visibility.now c.in_ok-from_visibility.ensures
+    c.in_ok-from_keyword.from_keyword.now c.in_ok-from_keyword.ensures
+    c.in_ok-class.from_name.now c.in_ok-class.class c.in_ok-class.keyword.now c.in_ok-class.ensures
+    c.in_ok-name.from_generics.now c.in_ok-name.name.now c.in_ok-name.ensures
+    c.in_err-from_ending.field-0.0.now c.in_err-from_ending.ensures)
+
+pub returns-in_err-ending : goal.returns-in_err-ending
+returns-in_err-ending c =
+    let p = err_from_is_err_and c.from_residual-in_err-ending.result c.from_residual-in_err-ending.ensures.1 in
+    fails c.args.trees.now c.from_residual-in_err-ending.result p.0 c.in_err-ending.field-0.0 p.1 p.2
+    (ending_sticks c.args.trees.now c.in_ok-from_visibility.from_visibility.now c.in_ok-from_visibility.ensures
+    c.in_ok-from_keyword.from_keyword.now c.in_ok-from_keyword.ensures
+    c.in_ok-class.from_name.now c.in_ok-class.class c.in_ok-class.keyword.now c.in_ok-class.ensures
+    c.in_ok-name.from_generics.now c.in_ok-name.name.now c.in_ok-name.ensures
+    c.in_ok-from_ending.from_ending.now c.in_ok-from_ending.ensures
+    c.in_err-ending.field-0.0.now c.in_err-ending.ensures)
 
 pub ending_of-requires : goal.ending_of-requires
-ending_of-requires c =
-    let one = after_attributes-found c.args.trees.now c.in_ok-attributes.attributes.now c.in_ok-attributes.rest.now
-    c.requires c.in_ok-attributes.ensures.only in
-    let two = after_visibility-found c.in_ok-attributes.rest.now c.in_ok-visibility.visibility.now
-    c.in_ok-visibility.rest.now one c.in_ok-visibility.ensures.only in
-    let three = after_keyword-found c.in_ok-visibility.rest.now c.in_ok-keyword.rest.now c.in_ok-keyword.keyword.now
-    two c.in_ok-keyword.ensures.found in
-    let four = after_name-found c.in_ok-keyword.keyword.now c.in_ok-name.name.now c.in_ok-keyword.rest.now
-    c.in_ok-name.rest.now three c.in_ok-name.ensures.found in
-    subst (λ class. IsLeft class c.in_ok-generics.rest.now) (sym c.name_class.ensures)
-    (left_of c.in_ok-keyword.keyword.now c.in_ok-name.name.now c.in_ok-name.rest.now c.in_ok-generics.generics.now
-    c.in_ok-generics.rest.now four c.in_ok-generics.ensures.only)
+ending_of-requires c = c.in_ok-class.ensures.declares
 
 pub returns : goal.returns
-returns c =
-    let one = after_attributes-found c.args.trees.now c.in_ok-attributes.attributes.now c.in_ok-attributes.rest.now
-    c.requires c.in_ok-attributes.ensures.only in
-    let two = after_visibility-found c.in_ok-attributes.rest.now c.in_ok-visibility.visibility.now
-    c.in_ok-visibility.rest.now one c.in_ok-visibility.ensures.only in
-    let three = after_keyword-found c.in_ok-visibility.rest.now c.in_ok-keyword.rest.now c.in_ok-keyword.keyword.now
-    two c.in_ok-keyword.ensures.found in
-    let four = after_name-found c.in_ok-keyword.keyword.now c.in_ok-name.name.now c.in_ok-keyword.rest.now
-    c.in_ok-name.rest.now three c.in_ok-name.ensures.found in
-    let end = c.in_ok-ending.ensures in
-    let ending = c.in_ok-ending.ending in
-    item_parts c.args.trees.now _ c.in_ok-attributes.rest.now c.in_ok-visibility.rest.now c.in_ok-keyword.rest.now
-    c.in_ok-name.rest.now c.in_ok-generics.rest.now c.requires c.in_ok-attributes.ensures.ok
-    c.in_ok-visibility.ensures.ok c.in_ok-keyword.ensures.found c.in_ok-name.ensures.found
-    c.in_ok-generics.ensures.ok
-    (subst (λ class. HasEnding class c.in_ok-generics.rest.now ending.body ending.where_clause.now
-    ending.semicolon.now) c.name_class.ensures end) four
+returns c = (
+  item_finds c.args.trees.now c.in_ok-from_visibility.from_visibility.now c.in_ok-from_visibility.ensures
+    c.in_ok-from_keyword.from_keyword.now c.in_ok-from_keyword.ensures
+    c.in_ok-class.from_name.now c.in_ok-class.class c.in_ok-class.keyword.now c.in_ok-class.ensures
+    c.in_ok-name.from_generics.now c.in_ok-name.name.now c.in_ok-name.ensures
+    c.in_ok-from_ending.from_ending.now c.in_ok-from_ending.ensures
+    c.in_ok-ending.rest.now c.in_ok-ending.ensures.0,
+  λ none. item_has c.args.trees.now c.in_ok-from_visibility.from_visibility.now c.in_ok-from_visibility.ensures
+    c.in_ok-from_keyword.from_keyword.now c.in_ok-from_keyword.ensures
+    c.in_ok-class.from_name.now c.in_ok-class.class c.in_ok-class.keyword.now c.in_ok-class.ensures
+    c.in_ok-name.from_generics.now c.in_ok-name.name.now c.in_ok-name.ensures
+    c.in_ok-from_ending.from_ending.now c.in_ok-from_ending.ensures
+    c.in_ok-ending.rest.now _ c.in_ok-ending.ensures.0 none c.part.ensures c.part-2.ensures c.part-3.ensures refl refl
+    (c.in_ok-ending.ensures.1 none),
+)

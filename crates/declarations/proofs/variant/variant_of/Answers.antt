@@ -1,35 +1,45 @@
-use Rattle.declarations.proofs.FieldLemmas.{attributes_found, attributes_stand, visibility_found}
-use Rattle.declarations.proofs.FieldLemmas.{visibility_stands}
-use Rattle.declarations.proofs.VariantLemmas.{named_variant, variant_parts}
-use Rattle.declarations.proofs.PartLemmas.{variant}
+use Rattle.std.proofs.Common.{refl}
+use Rattle.std.proofs.lemmas.Result.{err_from_is_err_and}
+use Rattle.declarations.proofs.VariantReaderLemmas.{attributes_stick, discriminant_sticks, fails, name_sticks}
+use Rattle.declarations.proofs.VariantReaderLemmas.{variant_parts, visibility_sticks}
 use Rattle.declarations.proofs.variant.variant_of.Goals as goal
 
-pub returns-in_err-attributes : goal.returns-in_err-attributes
-returns-in_err-attributes c =
-    absurd (attributes_stand variant c.args.trees.now c.in_err-attributes.field-0.0.at c.requires
-    c.in_err-attributes.ensures.fault)
+pub returns-in_err-from_visibility : goal.returns-in_err-from_visibility
+returns-in_err-from_visibility c =
+    let p = err_from_is_err_and c.from_residual.result c.from_residual.ensures.1 in
+    fails c.args.trees.now c.from_residual.result p.0 c.in_err-from_visibility.field-0.0 p.1 p.2
+    (attributes_stick c.args.trees.now 
+    c.in_err-from_visibility.field-0.0.now c.in_err-from_visibility.ensures)
 
-pub returns-in_err-visibility : goal.returns-in_err-visibility
-returns-in_err-visibility c =
-    let one = attributes_found variant c.args.trees.now c.in_ok-attributes.attributes.now c.in_ok-attributes.rest.now
-    c.requires c.in_ok-attributes.ensures.only in
-    absurd (visibility_stands variant c.in_ok-attributes.rest.now c.in_err-visibility.field-0.0.at one
-    c.in_err-visibility.ensures.fault)
+pub returns-in_err-from_name : goal.returns-in_err-from_name
+returns-in_err-from_name c =
+    let p = err_from_is_err_and c.from_residual-in_err-from_name.result c.from_residual-in_err-from_name.ensures.1 in
+    fails c.args.trees.now c.from_residual-in_err-from_name.result p.0 c.in_err-from_name.field-0.0 p.1 p.2
+    (visibility_sticks c.args.trees.now c.in_ok-from_visibility.from_visibility.now c.in_ok-from_visibility.ensures
+    c.in_err-from_name.field-0.0.now c.in_err-from_name.ensures)
 
 pub returns-in_err-name : goal.returns-in_err-name
 returns-in_err-name c =
-    let one = attributes_found variant c.args.trees.now c.in_ok-attributes.attributes.now c.in_ok-attributes.rest.now
-    c.requires c.in_ok-attributes.ensures.only in
-    let two = named_variant c.in_ok-visibility.rest.now (visibility_found variant c.in_ok-attributes.rest.now
-    c.in_ok-visibility.visibility.now c.in_ok-visibility.rest.now one c.in_ok-visibility.ensures.only) in
-    absurd (c.in_err-name.ensures.fault two.ident _ two.whole)
+    let p = err_from_is_err_and c.from_residual-in_err-name.result c.from_residual-in_err-name.ensures.1 in
+    fails c.args.trees.now c.from_residual-in_err-name.result p.0 c.in_err-name.field-0.0 p.1 p.2
+    (name_sticks c.args.trees.now c.in_ok-from_visibility.from_visibility.now c.in_ok-from_visibility.ensures
+    c.in_ok-from_name.from_name.now c.in_ok-from_name.ensures
+    c.in_err-name.field-0.0.now c.in_err-name.ensures)
+
+pub returns-in_err-discriminant : goal.returns-in_err-discriminant
+returns-in_err-discriminant c =
+    let p = err_from_is_err_and c.from_residual-in_err-discriminant.result c.from_residual-in_err-discriminant.ensures.1 in
+    fails c.args.trees.now c.from_residual-in_err-discriminant.result p.0 c.in_err-discriminant.field-0.0 p.1 p.2
+    (discriminant_sticks c.args.trees.now c.in_ok-from_visibility.from_visibility.now c.in_ok-from_visibility.ensures
+    c.in_ok-from_name.from_name.now c.in_ok-from_name.ensures
+    c.in_ok-name.from_fields.now c.in_ok-name.name.now c.in_ok-name.ensures
+    c.fields_of.result.0 c.fields_of.result.1.now c.fields_of.ensures
+    c.in_err-discriminant.field-0.0.now c.in_err-discriminant.ensures)
 
 pub returns : goal.returns
 returns c =
-    let one = attributes_found variant c.args.trees.now c.in_ok-attributes.attributes.now c.in_ok-attributes.rest.now
-    c.requires c.in_ok-attributes.ensures.only in
-    let two = named_variant c.in_ok-visibility.rest.now (visibility_found variant c.in_ok-attributes.rest.now
-    c.in_ok-visibility.visibility.now c.in_ok-visibility.rest.now one c.in_ok-visibility.ensures.only) in
-    variant_parts c.args.trees.now c.in_ok-attributes.rest.now c.in_ok-visibility.rest.now c.in_ok-name.rest.now
-    c.fields_first.result.1.now _ c.in_ok-attributes.ensures.ok c.in_ok-visibility.ensures.ok two
-    c.in_ok-name.ensures.found c.fields_first.ensures c.after_first.ensures
+    variant_parts c.args.trees.now c.in_ok-from_visibility.from_visibility.now c.in_ok-from_visibility.ensures
+    c.in_ok-from_name.from_name.now c.in_ok-from_name.ensures
+    c.in_ok-name.from_fields.now c.in_ok-name.name.now c.in_ok-name.ensures
+    c.fields_of.result.0 c.fields_of.result.1.now c.fields_of.ensures
+    c.in_ok-discriminant.rest.now _ c.in_ok-discriminant.ensures c.part.ensures c.part-2.ensures refl refl
