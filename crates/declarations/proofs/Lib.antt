@@ -36,3 +36,13 @@ pub mod ParameterLemmas
 pub mod RuleWholeLemmas
 pub mod FunctionPartLemmas
 pub mod FunctionLemmas
+pub mod ExpectedLemmas
+pub mod MoveLemmas
+pub mod ExploreLemmas
+pub mod ExploreJoinLemmas
+pub mod ExploreLoopLemmas
+pub mod ExpectsLemmas
+pub mod ExpectedTextLemmas
+pub mod FaultLemmas
+pub mod ListExpectedLemmas
+pub mod SyntaxLemmas

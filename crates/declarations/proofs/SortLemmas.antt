@@ -67,7 +67,7 @@ sort_of (signs.Keyword keyword) = names
 sort_of _ = pairs
 
 -- the first value whose condition holds
-abbrev choice : {A : Type 0} → List (Bool × A) → A → A
+abbrev pub choice : {A : Type 0} → List (Bool × A) → A → A
 choice [] default = default
 choice (row ∷ rows) default = if row.0 then row.1 else choice rows default
 
@@ -93,7 +93,7 @@ abbrev MayBe : Sort → Option Class → Type 0
 MayBe sort None = Unit {0}
 MayBe sort (Some class) = sort_of class ≡ sort
 
-abbrev operator_rows : ℕ → List (Bool × Class)
+abbrev pub operator_rows : ℕ → List (Bool × Class)
 operator_rows c =
     (c == 124, signs.Bar) ∷ (c == 46, signs.Dot) ∷
     ((c == 47) || ((c == 37) || ((c == 94) || (c == 64))), signs.Infix) ∷ []
@@ -101,12 +101,12 @@ operator_rows c =
 operator_sort : (c : ℕ) → IsSort marks (operator_class c)
 operator_sort c = chosen (IsSort marks) (operator_rows c) signs.Mark (refl, (refl, (refl, tt))) refl
 
-abbrev late_mark_rows : ℕ → List (Bool × Class)
+abbrev pub late_mark_rows : ℕ → List (Bool × Class)
 late_mark_rows c =
     (c == 43, signs.Plus) ∷ (c == 45, signs.Minus) ∷ (c == 42, signs.Star) ∷ (c == 38, signs.And) ∷
     (c == 63, signs.Question) ∷ (c == 33, signs.Exclamation) ∷ (c == 35, signs.Hash) ∷ (c == 126, signs.Tilde) ∷ []
 
-abbrev mark_rows : ℕ → Bool → List (Bool × Class)
+abbrev pub mark_rows : ℕ → Bool → List (Bool × Class)
 mark_rows c joint =
     ((c == 60) && joint, signs.LessJoint) ∷ (c == 60, signs.Less) ∷ (c == 62, signs.Greater) ∷
     (c == 44, signs.Comma) ∷ (c == 58, signs.Colon) ∷ (c == 59, signs.Semicolon) ∷ (c == 61, signs.Equals) ∷ []
@@ -155,7 +155,7 @@ class_sort : (o : Option Class) (i : Name) → MayBe names o → IsSort names (c
 class_sort None i may = keyword_sort (keyword_of i) i
 class_sort (Some class) i may = may
 
-name_sort : (i : Name) → IsSort names (name_class i)
+pub name_sort : (i : Name) → IsSort names (name_class i)
 name_sort i =
     class_sort (or_else (path_class i) (operand_class i)) i
     (or_else_sort (path_class i) (operand_class i) (path_sort i) (operand_sort i))
@@ -201,7 +201,7 @@ pub unseen : (P : Class → Type 0) (inside : Forest) → P signs.Visibility →
     → P (unseen_class inside)
 unseen P inside visibility other = either P (is_visibility inside) signs.Visibility signs.Invisible visibility other
 
-group_sort : (g : Grouped) (d : Delimiter) → IsSort groups (group_class d g.stream)
+pub group_sort : (g : Grouped) (d : Delimiter) → IsSort groups (group_class d g.stream)
 group_sort g delimiters.Parenthesis =
     elim (is_restriction g.stream) as (λ b. IsSort groups (parentheses_class b)) [ true ↦ refl | false ↦ refl ]
 group_sort g delimiters.Bracket = refl

@@ -25,4 +25,9 @@ pub mod EntryCheck
 pub mod Parameter
 pub mod Function
 pub mod CompileError
+pub mod Expected
+pub mod Syntax
+pub mod Explore
+pub mod ListExpected
+pub mod ExpectedText
 pub mod rules

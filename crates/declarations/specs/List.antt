@@ -18,6 +18,8 @@ use Rattle.declarations.specs.declared.item.Fields.TheVariants as fields
 use Rattle.declarations.specs.declared.list.FieldList.{FieldList}
 use Rattle.declarations.specs.declared.list.VariantList.{VariantList}
 use Rattle.declarations.specs.declared.variant.Variant.{Variant}
+use Rattle.declarations.specs.rules.Names.{G}
+use Rattle.declarations.specs.rules.Parts.{field, tuple_field}
 
 -- the trees are `,` (44) and then the left trees, or both are empty
 abbrev pub IsPastComma : List TokenTree → List TokenTree → Type 0
@@ -65,6 +67,11 @@ IsFieldOf false = IsFieldAt IsTupleField HasTypeParts
 abbrev pub field_form : Bool → List Class → List Class → Type 0
 field_form true = IsField
 field_form false = IsTupleField
+
+-- the rule of a field
+abbrev pub field_rule : Bool → G
+field_rule true = field
+field_rule false = tuple_field
 
 -- a call of `next` gives the next field or an error, and nothing if no trees are left
 abbrev pub GivesField : FieldList → Option (Result Field Fault) → FieldList → Type 0

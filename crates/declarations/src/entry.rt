@@ -136,7 +136,7 @@ pub(crate) fn whole_entry(trees: &[TokenTree]) -> Result<Entry<'_>, Fault>
     }
 }
 
-fn is_segment(class: Class) -> bool
+pub(crate) fn is_segment(class: Class) -> bool
     ensures { result ≡ is_entry_segment class }
 {
     match class {
@@ -214,7 +214,7 @@ fn entry_path(trees: &[TokenTree]) -> Result<&[TokenTree], &[TokenTree]>
     segments(separator(trees)?)
 }
 
-fn is_literal(class: Class) -> bool
+pub(crate) fn is_literal(class: Class) -> bool
     ensures { result ≡ is_literal class }
 {
     match class {
@@ -267,7 +267,7 @@ fn past_expression(trees: &[TokenTree]) -> Result<&[TokenTree], &[TokenTree]>
 }
 
 /// Whether the sign can go on after an operand but can begin no value: `=`, `>` or `->`.
-fn continues(class: Class) -> bool
+pub(crate) fn continues(class: Class) -> bool
     ensures { result ≡ continues class }
 {
     match class {

@@ -171,7 +171,7 @@ fn may(trees: &[TokenTree], class: Class) -> &[TokenTree]
 }
 
 /// Whether the sign is `unsafe` or `safe`.
-fn is_safe(class: Class) -> bool
+pub(crate) fn is_safe(class: Class) -> bool
     ensures { result ≡ is_safe class }
 {
     match class {
@@ -222,7 +222,7 @@ fn past_qualifiers(trees: &[TokenTree]) -> &[TokenTree]
 // ---- the name and the parameters
 
 /// Whether the sign can name a function. A keyword cannot.
-fn is_name(class: Class) -> bool
+pub(crate) fn is_name(class: Class) -> bool
     ensures { result ≡ is_word class }
 {
     match class {

@@ -68,7 +68,7 @@ pub enum Shape {
 }
 
 /// Whether a pattern can begin with the sign, apart from angle brackets.
-fn is_pattern(class: Class) -> bool
+pub(crate) fn is_pattern(class: Class) -> bool
     ensures { result ≡ is_pattern class }
 {
     match class {
@@ -82,7 +82,7 @@ fn is_pattern(class: Class) -> bool
 }
 
 /// Whether the sign can be in a pattern after its first sign.
-fn continues(class: Class) -> bool
+pub(crate) fn continues(class: Class) -> bool
     ensures { result ≡ continues class }
 {
     match class {
@@ -91,7 +91,7 @@ fn continues(class: Class) -> bool
     }
 }
 
-fn opens(class: Class) -> bool
+pub(crate) fn opens(class: Class) -> bool
     ensures { result ≡ opens class }
 {
     match class {
