@@ -14,6 +14,7 @@ use Rattle.declarations.specs.EntryCheck.{HasNames, IsEntryError, IsRepeated, Is
 use Rattle.declarations.specs.EntryCheck.{has_name, more, more_known, next_known, none, place_of}
 use Rattle.pm_stream.specs.declared.stream.TokenTree.{TokenTree}
 use Rattle.declarations.specs.Entry.{IsEntryAt}
+use Rattle.declarations.specs.Expected.{Expects}
 use Rattle.declarations.specs.Fault.{first_extent}
 use Rattle.declarations.specs.List.{IsFirst, IsListFault}
 use Rattle.declarations.specs.declared.class.Class.{Class}
@@ -151,15 +152,24 @@ repeated_error known list left next seen entry place error c first is other limi
 pub no_entry_error : (known : Names) (list left : List TokenTree) (seen : List Bool) (fault : Fault)
     (error : EntryError)
     → Checked known list left seen → IsListFault (ByRule rule.entry) left fault → error.problem ≡ problems.NoEntry
-    → error.at ≡ length list - length left + fault.at → error.span ≡ fault.span → error.name ≡ None
+    → error.at ≡ length list - length left + fault.at → error.span ≡ fault.span → error.expected ≡ fault.expected
+    → Expects (ByRule rule.entries) left fault.at fault.expected → error.name ≡ None
     → error.known.now ≡ known
     → IsEntryError known list error
-no_entry_error known list left seen fault error c stands problem at span unnamed told = record {
+no_entry_error known list left seen fault error c stands problem at span expected signs unnamed told = record {
   places = c.places;
   left = left;
   names = c.names;
   wrong = subst (λ p. IsWrong p known list c.places left error) (sym problem)
-      (record { fault = fault; stands = stands; counted = at; span = span; unnamed = unnamed });
+      (record {
+        fault = fault;
+        stands = stands;
+        counted = at;
+        span = span;
+        expected = expected;
+        signs = signs;
+        unnamed = unnamed;
+      });
   told = told;
 }
 

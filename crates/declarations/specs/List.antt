@@ -5,6 +5,7 @@ use Rattle.pm_stream.specs.Trees.{forest}
 use Rattle.pm_stream.specs.declared.stream.Group.{Group as Grouped}
 use Rattle.pm_stream.specs.declared.stream.TokenTree.{TokenTree}
 use Rattle.pm_stream.specs.declared.stream.TokenTree.TheVariants.{Punct}
+use Rattle.declarations.specs.Expected.{Expects}
 use Rattle.declarations.specs.Fault.{extent_at}
 use Rattle.declarations.specs.Field.{IsFieldAt, HasFieldParts, HasTypeParts}
 use Rattle.declarations.specs.Forms.{IsField, IsTupleField, IsVariant}
@@ -18,8 +19,9 @@ use Rattle.declarations.specs.declared.item.Fields.TheVariants as fields
 use Rattle.declarations.specs.declared.list.FieldList.{FieldList}
 use Rattle.declarations.specs.declared.list.VariantList.{VariantList}
 use Rattle.declarations.specs.declared.variant.Variant.{Variant}
-use Rattle.declarations.specs.rules.Names.{G}
-use Rattle.declarations.specs.rules.Parts.{field, tuple_field}
+use Rattle.declarations.specs.rules.Names.{G, listed}
+use Rattle.declarations.specs.rules.Parts.{field, tuple_field, variants}
+use Rattle.declarations.specs.rules.Pieces.{ByRule}
 
 -- the trees are `,` (44) and then the left trees, or both are empty
 abbrev pub IsPastComma : List TokenTree → List TokenTree → Type 0
@@ -46,11 +48,14 @@ abbrev pub IsFirst : {A : Type 0} → (List TokenTree → A → List TokenTree �
     → List TokenTree → Type 0
 IsFirst at trees part left = (rest : List TokenTree) × at trees part rest × IsPastComma rest left
 
--- the list begins with this part; or it has this error at its first part, and no trees are left
+-- the list begins with this part; or it has this error at its first part, with the signs that could come next in the
+-- list, and no trees are left
 abbrev pub BeginsList : {A : Type 0} → (List TokenTree → A → List TokenTree → Type 0)
-    → (List Class → List Class → Type 0) → List TokenTree → Result A Fault → List TokenTree → Type 0
-BeginsList at form trees found left =
-    MatchResult found (λ part. IsFirst at trees part left) (λ fault. IsListFault form trees fault × (left ≡ []))
+    → (List Class → List Class → Type 0) → (List Class → List Class → Type 0) → List TokenTree → Result A Fault
+    → List TokenTree → Type 0
+BeginsList at form list trees found left =
+    MatchResult found (λ part. IsFirst at trees part left)
+    (λ fault. IsListFault form trees fault × Expects list trees fault.at fault.expected × (left ≡ []))
 
 -- the list begins with these parts, and then has the left trees
 abbrev pub Lists : {A : Type 0} → (List TokenTree → A → List TokenTree → Type 0) → List TokenTree → List A
@@ -73,11 +78,16 @@ abbrev pub field_rule : Bool → G
 field_rule true = field
 field_rule false = tuple_field
 
+-- the form of a list of fields
+abbrev pub fields_form : Bool → List Class → List Class → Type 0
+fields_form named = ByRule (listed (field_rule named))
+
 -- a call of `next` gives the next field or an error, and nothing if no trees are left
 abbrev pub GivesField : FieldList → Option (Result Field Fault) → FieldList → Type 0
 GivesField old given new =
     MatchOption given ((old.left.now ≡ []) × (new ≡ old))
-    (λ found. BeginsList (IsFieldOf old.named) (field_form old.named) old.left.now found new.left.now
+    (λ found. BeginsList (IsFieldOf old.named) (field_form old.named) (fields_form old.named) old.left.now found
+    new.left.now
     × (new.named ≡ old.named))
 
 -- these are the trees inside the group
@@ -95,4 +105,4 @@ ListsFields fields.Unit list = list.left.now ≡ []
 abbrev pub GivesVariant : VariantList → Option (Result Variant Fault) → VariantList → Type 0
 GivesVariant old given new =
     MatchOption given ((old.left.now ≡ []) × (new ≡ old))
-    (λ found. BeginsList IsVariantAt IsVariant old.left.now found new.left.now)
+    (λ found. BeginsList IsVariantAt IsVariant (ByRule variants) old.left.now found new.left.now)

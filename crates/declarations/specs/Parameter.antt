@@ -60,7 +60,8 @@ pub record IsParameterAt (trees : List TokenTree) (parameter : Parameter) (rest 
 abbrev pub GivesParameter : Parameters → Option (Result Parameter Fault) → Parameters → Type 0
 GivesParameter old given new =
     MatchOption given ((old.left.now ≡ []) × (new ≡ old))
-    (λ found. BeginsList IsParameterAt (ByRule rule.function_parameter) old.left.now found new.left.now)
+    (λ found. BeginsList IsParameterAt (ByRule rule.function_parameter) (ByRule rule.function_parameters) old.left.now
+    found new.left.now)
 
 -- ---- how a parameter is read
 

@@ -2,6 +2,9 @@
 ghost use Rattle.std.specs.Prelude.{[], IfErr, IfOk};
 ghost use Rattle.declarations.specs.Attribute.{inside};
 ghost use Rattle.declarations.specs.Entry.{IsEntryAt, IsEntryFault};
+ghost use Rattle.declarations.specs.Expected.{Expects};
+ghost use Rattle.declarations.specs.rules.Entries.{entry};
+ghost use Rattle.declarations.specs.rules.Pieces.{ByRule};
 
 use crate::attribute::Attribute;
 use crate::entry::{Entry, whole_entry};
@@ -17,6 +20,7 @@ impl<'a> Attribute<'a> {
     pub fn entry(&self) -> Result<Entry<'a>, Fault>
         ensures ok { IfOk result (λ entry. IsEntryAt (inside self.now) entry []) }
         ensures err { IfErr result (λ fault. IsEntryFault (inside self.now) fault) }
+        ensures expected { IfErr result (λ fault. Expects (ByRule entry) (inside self.now) fault.at fault.expected) }
     {
         whole_entry(self.group.stream_ref().trees())
     }

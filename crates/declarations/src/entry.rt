@@ -8,7 +8,9 @@ ghost use Rattle.pm_token.specs.Spelling.{spelled};
 ghost use Rattle.declarations.specs.Attribute.{is_word};
 ghost use Rattle.declarations.specs.Entry.{HasArgs, IsEntryAt, IsEntryFault, IsListAt, IsOnlyRest, ReadsEntry};
 ghost use Rattle.declarations.specs.Entry.{entry_extent, sole_name};
+ghost use Rattle.declarations.specs.Expected.{Expects};
 ghost use Rattle.declarations.specs.Fault.{extent_at, first_extent};
+ghost use Rattle.declarations.specs.ListExpected.{RuleSigns};
 ghost use Rattle.declarations.specs.Reader.{Finds, ReadsRule, Sticks, classes_in};
 ghost use Rattle.declarations.specs.Reading.{FaultAt};
 ghost use Rattle.declarations.specs.rules.Entries.{continues, entry, entry_list, entry_literal, entry_path};
@@ -21,11 +23,14 @@ ghost use Rattle.declarations.specs.declared.class.Class.TheVariants as signs;
 
 use crate::attribute::has_no_delimiters;
 use crate::class::Class;
+use crate::expected::Expected;
+use crate::explore::rule_signs;
 use crate::fault::Fault;
 use crate::item::split_group;
 use crate::place::{Item, Place, Rule, Spot, State};
 use crate::reader::{begins, is, part, past};
 use crate::signs::first_sign;
+use crate::syntax::ENTRY;
 use crate::walk::walk_past;
 use pm_span::Span;
 use pm_stream::{Group, TokenTree};
@@ -68,10 +73,11 @@ pub fn parse_entry(trees: &[TokenTree]) -> Result<(Entry<'_>, &[TokenTree]), Fau
     ensures fewer { IfOk result (λ found. length found.1.now < length trees.now) }
     ensures fault { IfErr result (λ fault. FaultAt (ByRule entry) trees.now fault.at) }
     ensures span { IfErr result (λ fault. fault.span ≡ extent_at trees.now fault.at) }
+    ensures expected { IfErr result (λ fault. Expects (ByRule entry) trees.now fault.at fault.expected) }
 {
     match entry_of(trees) {
         Ok((entry, rest)) => Ok((entry, rest)),
-        Err(left) => Err(Fault::ahead_of(trees.len() - left.len(), left)),
+        Err(left) => Err(Fault::ahead_of(trees.len() - left.len(), left, entry_signs(trees))),
     }
 }
 
@@ -119,17 +125,26 @@ fn first_span(trees: &[TokenTree]) -> Option<Span>
     }
 }
 
+/// The signs that could come next where the trees are no entry, or after the entry.
+#[cold]
+fn entry_signs(trees: &[TokenTree]) -> Expected
+    ensures { RuleSigns entry trees.now result }
+{
+    rule_signs(&ENTRY, trees)
+}
+
 /// The entry that all of the trees are.
 pub(crate) fn whole_entry(trees: &[TokenTree]) -> Result<Entry<'_>, Fault>
     ensures ok { IfOk result (λ entry. IsEntryAt trees.now entry []) }
     ensures err { IfErr result (λ fault. IsEntryFault trees.now fault) }
+    ensures expected { IfErr result (λ fault. Expects (ByRule entry) trees.now fault.at fault.expected) }
 {
     match parse_entry(trees) {
         Ok((entry, rest)) => {
             if rest.is_empty() {
                 Ok(entry)
             } else {
-                Err(Fault::ahead_of(trees.len() - rest.len(), rest))
+                Err(Fault::ahead_of(trees.len() - rest.len(), rest, entry_signs(trees)))
             }
         }
         Err(fault) => Err(fault),

@@ -6,6 +6,8 @@ ghost use Rattle.declarations.specs.EntryCheck.{number_of, place_of, quoted};
 
 use crate::entry::Entry;
 use crate::entry_list::first_entry;
+use crate::expected::Expected;
+use crate::expected_text::write_expected;
 use crate::fault::{Fault, are_same};
 use pm_span::Span;
 use pm_stream::TokenTree;
@@ -34,6 +36,8 @@ pub struct EntryError<'a> {
     pub at: usize,
     /// The span of the first wrong tree, or `None` if the list ends too early.
     pub span: Option<Span>,
+    /// The signs that could come next, if there is no entry. Otherwise it is empty.
+    pub expected: Expected,
     /// The name of the unknown or repeated entry. It is `None` if the entry is a literal or a path of several segments,
     /// or if there is no entry.
     pub name: Option<&'a Ident>,
@@ -72,11 +76,11 @@ pub fn check_entries<'a>(list: &'a [TokenTree], known: &'a [&'a str]) -> Result<
             Ok((entry, next)) => {
                 let place = place_of(&entry, known);
                 if place == known.len() {
-                    let fault = Fault::ahead_of(before, left);
+                    let fault = Fault::ahead_of(before, left, Expected::nothing());
                     return Err(wrong(EntryProblem::Unknown, fault, entry.name(), known));
                 }
                 if seen[place] {
-                    let fault = Fault::ahead_of(before, left);
+                    let fault = Fault::ahead_of(before, left, Expected::nothing());
                     return Err(wrong(EntryProblem::Repeated, fault, entry.name(), known));
                 }
                 seen[place] = true;
@@ -84,8 +88,12 @@ pub fn check_entries<'a>(list: &'a [TokenTree], known: &'a [&'a str]) -> Result<
             }
             Err(fault) => {
                 let at = before + fault.at;
-                let span = fault.span;
-                return Err(wrong(EntryProblem::NoEntry, Fault { at, span }, None, known));
+                let fault = Fault {
+                    at,
+                    span: fault.span,
+                    expected: fault.expected,
+                };
+                return Err(wrong(EntryProblem::NoEntry, fault, None, known));
             }
         }
     }
@@ -101,6 +109,7 @@ fn wrong<'a>(
     ensures problem { result.problem ≡ problem }
     ensures at { result.at ≡ fault.at }
     ensures span { result.span ≡ fault.span }
+    ensures expected { result.expected ≡ fault.expected }
     ensures name { result.name ≡ name.entry }
     ensures known { result.known.now ≡ known.now }
 {
@@ -108,6 +117,7 @@ fn wrong<'a>(
         problem,
         at: fault.at,
         span: fault.span,
+        expected: fault.expected,
         name,
         known,
     }
@@ -220,11 +230,12 @@ impl<'a> Display for EntryError<'a> {
     ghost use Rattle.std.specs.Prelude.{Some, option_copied};
     ghost use Rattle.declarations.specs.EntryCheck.{error_text};
 
-    ghost output = { λ error. Some (error_text error.problem (option_copied error.name) error.known.now) };
+    ghost output = { λ error.
+        Some (error_text error.problem error.expected (option_copied error.name) error.known.now) };
 
     fn fmt<W: fmt::Write>(&self, f: &mut fmt::Formatter<W>) -> fmt::Result {
         match self.problem {
-            EntryProblem::NoEntry => f.write_str("not expected here"),
+            EntryProblem::NoEntry => write_expected(self.expected, f),
             EntryProblem::Unknown => {
                 f.write_str("unknown entry")?;
                 write_name(self.name, f)?;

@@ -1,13 +1,18 @@
 //! The entries of an attribute's list, one at a time.
-ghost use Rattle.std.specs.Prelude.{◌≡◌, ◌<◌, IfOk, MatchResult, length};
+ghost use Rattle.std.specs.Prelude.{◌≡◌, ◌<◌, IfErr, IfOk, MatchResult, length};
 ghost use Rattle.declarations.specs.Entry.{IsEntryAt};
+ghost use Rattle.declarations.specs.Expected.{Expects};
 ghost use Rattle.declarations.specs.List.{AreInside, IsFirst, IsListFault};
-ghost use Rattle.declarations.specs.rules.Entries.{entry};
+ghost use Rattle.declarations.specs.ListExpected.{ListsSigns};
+ghost use Rattle.declarations.specs.rules.Entries.{entries, entry};
 ghost use Rattle.declarations.specs.rules.Pieces.{ByRule};
 
 use crate::entry::{Entry, parse_entry};
+use crate::expected::Expected;
+use crate::explore::list_signs;
 use crate::fault::Fault;
 use crate::list::{fault_after, past_comma};
+use crate::syntax::ENTRY;
 use pm_stream::{Group, TokenTree};
 
 /// The entries in a group of an attribute, in order. A `,` is between two entries, and may be after the last.
@@ -67,17 +72,30 @@ impl<'a> Iterator for Entries<'a> {
     }
 }
 
+/// The signs that could come next in a list of entries, at its error.
+#[cold]
+fn entries_signs(trees: &[TokenTree]) -> Expected
+    ensures { ListsSigns entry trees.now result }
+{
+    list_signs(&ENTRY, trees)
+}
+
 /// The first entry of a list, and the trees after its comma.
 pub(crate) fn first_entry(trees: &[TokenTree]) -> Result<(Entry<'_>, &[TokenTree]), Fault>
     ensures given { MatchResult result (λ found. IsFirst IsEntryAt trees.now found.0 found.1.now)
         (λ fault. IsListFault (ByRule entry) trees.now fault) }
+    ensures expected { IfErr result (λ fault. Expects (ByRule entries) trees.now fault.at fault.expected) }
     ensures fewer { IfOk result (λ found. length found.1.now < length trees.now) }
 {
     match parse_entry(trees) {
         Ok((entry, rest)) => match past_comma(rest) {
             Some(left) => Ok((entry, left)),
-            None => Err(fault_after(trees, rest)),
+            None => Err(fault_after(trees, rest, entries_signs(trees))),
         },
-        Err(fault) => Err(fault),
+        Err(fault) => Err(Fault {
+            at: fault.at,
+            span: fault.span,
+            expected: entries_signs(trees),
+        }),
     }
 }

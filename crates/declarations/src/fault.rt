@@ -1,11 +1,14 @@
 //! Errors in trees that the grammar does not accept.
-ghost use Rattle.std.specs.Prelude.{◌≡◌};
+ghost use Rattle.std.specs.Prelude.{◌≡◌, Some};
 ghost use Rattle.std.specs.Option.{option_eq};
-ghost use Rattle.declarations.specs.Fault.{first_extent};
+ghost use Rattle.declarations.specs.Fault.{first_extent, or_extent};
 ghost use Rattle.pm_span.specs.Extent.{extent_eq};
+ghost use Rattle.pm_stream.specs.DelimSpan.{closing_span};
 
+use crate::expected::Expected;
+use crate::expected_text::write_expected;
 use pm_span::Span;
-use pm_stream::TokenTree;
+use pm_stream::{Group, TokenTree};
 use std::error::Error;
 use std::fmt;
 
@@ -16,19 +19,23 @@ pub struct Fault {
     pub at: usize,
     /// The span of the first tree of that sign, or `None` if more trees are missing.
     pub span: Option<Span>,
+    /// The signs that could come next: those that can come after the trees before the error, so that more trees can
+    /// complete what is read. The end is among them if nothing more need come.
+    pub expected: Expected,
 }
 
 impl Fault {
     /// The error after `at` trees, where `left` are the trees that remain.
-    pub(crate) fn ahead_of(at: usize, left: &[TokenTree]) -> Fault
+    pub(crate) fn ahead_of(at: usize, left: &[TokenTree], expected: Expected) -> Fault
         ensures at { result.at ≡ at }
         ensures span { result.span ≡ first_extent left.now }
+        ensures expected { result.expected ≡ expected }
     {
         let span = match left.split_first() {
             Some((tree, _)) => Some(tree.span()),
             None => None,
         };
-        Fault { at, span }
+        Fault { at, span, expected }
     }
 
     /// Returns the field [`span`](Fault::span): the span of the first tree that does not fit.
@@ -36,6 +43,35 @@ impl Fault {
         ensures { result ≡ self.now.span }
     {
         self.span
+    }
+
+    /// Returns the error of trees that are in this group.
+    ///
+    /// If trees are missing, its span is that of the closing delimiter. Otherwise it is the same error. For the error
+    /// in `(a b` of `(a: A, b)` the span is that of `)`.
+    pub fn within(self, group: &Group) -> Fault
+        ensures at { result.at ≡ self.at }
+        ensures span { result.span ≡ or_extent self.span (Some (closing_span group.now.span)) }
+        ensures expected { result.expected ≡ self.expected }
+    {
+        self.or_at(Some(group.span_close()))
+    }
+
+    /// The error with this span, if it has none.
+    pub(crate) fn or_at(self, end: Option<Span>) -> Fault
+        ensures at { result.at ≡ self.at }
+        ensures span { result.span ≡ or_extent self.span end }
+        ensures expected { result.expected ≡ self.expected }
+    {
+        let span = match self.span {
+            Some(span) => Some(span),
+            None => end,
+        };
+        Fault {
+            at: self.at,
+            span,
+            expected: self.expected,
+        }
     }
 }
 
@@ -48,7 +84,8 @@ impl PartialEq for Fault {
 
     ghost laws = { Prim.search (comparing, rules) };
 
-    /// Whether both errors have the same number of trees before them, and the same span or none.
+    /// Whether both errors have the same number of trees before them, and the same span or none. What is expected does
+    /// not matter.
     fn eq(&self, other: &Fault) -> bool {
         self.at == other.at && are_same(self.span, other.span)
     }
@@ -76,12 +113,15 @@ impl fmt::Display for Fault {
     ghost use Rattle.std.specs.Prelude.{Some};
     ghost use Rattle.declarations.specs.Fault.{fault_text};
 
-    ghost output = { λ fault. Some (fault_text fault.span) };
+    ghost output = { λ fault. Some (fault_text fault.span fault.expected) };
 
     fn fmt<W: fmt::Write>(&self, f: &mut fmt::Formatter<W>) -> fmt::Result {
         match self.span {
-            Some(_) => f.write_str("not expected here"),
-            None => f.write_str("the declaration ends too early"),
+            Some(_) => write_expected(self.expected, f),
+            None => {
+                f.write_str("the declaration ends too early: ")?;
+                write_expected(self.expected, f)
+            }
         }
     }
 }

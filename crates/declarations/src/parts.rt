@@ -1,5 +1,6 @@
 //! Calls that split a part of a declaration off the start of trees.
 ghost use Rattle.std.specs.Prelude.{◌≡◌, IfErr, IfOk};
+ghost use Rattle.declarations.specs.Expected.{Expects};
 ghost use Rattle.declarations.specs.Fault.{extent_at};
 ghost use Rattle.declarations.specs.Forms.{AreAttributes, AreBounds, AreFields, AreGenerics, AreTupleFields, IsField};
 ghost use Rattle.declarations.specs.Forms.{IsItem, IsTupleField, IsType, IsVisibility, IsWhere};
@@ -22,6 +23,7 @@ fn split_alone<'a>(
     ensures only { IfOk result (λ found. IsOnly (IsFrom (start rule state)) trees.now found.0.now found.1.now) }
     ensures fault { IfErr result (λ fault. FaultAt (IsFrom (start rule state)) trees.now fault.at) }
     ensures span { IfErr result (λ fault. fault.span ≡ extent_at trees.now fault.at) }
+    ensures expected { IfErr result (λ fault. Expects (IsFrom (start rule state)) trees.now fault.at fault.expected) }
 {
     let start = Place {
         item: Item::Alone,
@@ -41,6 +43,7 @@ fn split_pair<'a>(
     ensures only { IfOk result (λ found. IsOnly (IsFrom start) trees.now found.0.now found.1.now) }
     ensures fault { IfErr result (λ fault. FaultAt (IsFrom start) trees.now fault.at) }
     ensures span { IfErr result (λ fault. fault.span ≡ extent_at trees.now fault.at) }
+    ensures expected { IfErr result (λ fault. Expects (IsFrom start) trees.now fault.at fault.expected) }
 {
     let split = split_from(trees, start)?;
     Ok((split.part, split.rest))
@@ -55,6 +58,7 @@ pub fn split_type(trees: &[TokenTree]) -> Result<(&[TokenTree], &[TokenTree]), F
     ensures only { IfOk result (λ found. IsOnly IsType trees.now found.0.now found.1.now) }
     ensures fault { IfErr result (λ fault. FaultAt IsType trees.now fault.at) }
     ensures span { IfErr result (λ fault. fault.span ≡ extent_at trees.now fault.at) }
+    ensures expected { IfErr result (λ fault. Expects IsType trees.now fault.at fault.expected) }
 {
     split_alone(trees, Rule::Alone, State::Range(TypeState::Wanted))
 }
@@ -67,6 +71,7 @@ pub fn split_bounds(trees: &[TokenTree]) -> Result<(&[TokenTree], &[TokenTree]),
     ensures only { IfOk result (λ found. IsOnly AreBounds trees.now found.0.now found.1.now) }
     ensures fault { IfErr result (λ fault. FaultAt AreBounds trees.now fault.at) }
     ensures span { IfErr result (λ fault. fault.span ≡ extent_at trees.now fault.at) }
+    ensures expected { IfErr result (λ fault. Expects AreBounds trees.now fault.at fault.expected) }
 {
     split_alone(trees, Rule::Alone, State::Range(TypeState::Bound))
 }
@@ -79,6 +84,7 @@ pub fn split_attributes(trees: &[TokenTree]) -> Result<(&[TokenTree], &[TokenTre
     ensures only { IfOk result (λ found. IsOnly AreAttributes trees.now found.0.now found.1.now) }
     ensures fault { IfErr result (λ fault. FaultAt AreAttributes trees.now fault.at) }
     ensures span { IfErr result (λ fault. fault.span ≡ extent_at trees.now fault.at) }
+    ensures expected { IfErr result (λ fault. Expects AreAttributes trees.now fault.at fault.expected) }
 {
     split_alone(
         trees,
@@ -96,6 +102,7 @@ pub fn split_visibility(trees: &[TokenTree]) -> Result<(&[TokenTree], &[TokenTre
     ensures only { IfOk result (λ found. IsOnly IsVisibility trees.now found.0.now found.1.now) }
     ensures fault { IfErr result (λ fault. FaultAt IsVisibility trees.now fault.at) }
     ensures span { IfErr result (λ fault. fault.span ≡ extent_at trees.now fault.at) }
+    ensures expected { IfErr result (λ fault. Expects IsVisibility trees.now fault.at fault.expected) }
 {
     split_alone(
         trees,
@@ -112,6 +119,7 @@ pub fn split_field(trees: &[TokenTree]) -> Result<(&[TokenTree], &[TokenTree]), 
     ensures only { IfOk result (λ found. IsOnly IsField trees.now found.0.now found.1.now) }
     ensures fault { IfErr result (λ fault. FaultAt IsField trees.now fault.at) }
     ensures span { IfErr result (λ fault. fault.span ≡ extent_at trees.now fault.at) }
+    ensures expected { IfErr result (λ fault. Expects IsField trees.now fault.at fault.expected) }
 {
     split_alone(trees, Rule::Alone, State::At(Spot::Before(Part::Field)))
 }
@@ -124,6 +132,7 @@ pub fn split_tuple_field(trees: &[TokenTree]) -> Result<(&[TokenTree], &[TokenTr
     ensures only { IfOk result (λ found. IsOnly IsTupleField trees.now found.0.now found.1.now) }
     ensures fault { IfErr result (λ fault. FaultAt IsTupleField trees.now fault.at) }
     ensures span { IfErr result (λ fault. fault.span ≡ extent_at trees.now fault.at) }
+    ensures expected { IfErr result (λ fault. Expects IsTupleField trees.now fault.at fault.expected) }
 {
     split_alone(
         trees,
@@ -141,6 +150,7 @@ pub fn split_fields(trees: &[TokenTree]) -> Result<(&[TokenTree], &[TokenTree]),
     ensures only { IfOk result (λ found. IsOnly AreFields trees.now found.0.now found.1.now) }
     ensures fault { IfErr result (λ fault. FaultAt AreFields trees.now fault.at) }
     ensures span { IfErr result (λ fault. fault.span ≡ extent_at trees.now fault.at) }
+    ensures expected { IfErr result (λ fault. Expects AreFields trees.now fault.at fault.expected) }
 {
     split_alone(trees, Rule::Fields, State::At(Spot::Before(Part::Field)))
 }
@@ -153,6 +163,7 @@ pub fn split_tuple_fields(trees: &[TokenTree]) -> Result<(&[TokenTree], &[TokenT
     ensures only { IfOk result (λ found. IsOnly AreTupleFields trees.now found.0.now found.1.now) }
     ensures fault { IfErr result (λ fault. FaultAt AreTupleFields trees.now fault.at) }
     ensures span { IfErr result (λ fault. fault.span ≡ extent_at trees.now fault.at) }
+    ensures expected { IfErr result (λ fault. Expects AreTupleFields trees.now fault.at fault.expected) }
 {
     split_alone(
         trees,
@@ -170,6 +181,7 @@ pub fn split_variant(trees: &[TokenTree]) -> Result<(&[TokenTree], &[TokenTree])
     ensures only { IfOk result (λ found. IsOnly IsVariant trees.now found.0.now found.1.now) }
     ensures fault { IfErr result (λ fault. FaultAt IsVariant trees.now fault.at) }
     ensures span { IfErr result (λ fault. fault.span ≡ extent_at trees.now fault.at) }
+    ensures expected { IfErr result (λ fault. Expects IsVariant trees.now fault.at fault.expected) }
 {
     split_alone(trees, Rule::Alone, State::At(Spot::Before(Part::Variant)))
 }
@@ -183,6 +195,7 @@ pub fn split_variants(trees: &[TokenTree]) -> Result<(&[TokenTree], &[TokenTree]
     ensures only { IfOk result (λ found. IsOnly AreVariants trees.now found.0.now found.1.now) }
     ensures fault { IfErr result (λ fault. FaultAt AreVariants trees.now fault.at) }
     ensures span { IfErr result (λ fault. fault.span ≡ extent_at trees.now fault.at) }
+    ensures expected { IfErr result (λ fault. Expects AreVariants trees.now fault.at fault.expected) }
 {
     let start = Place {
         item: Item::Variants,
@@ -202,6 +215,7 @@ pub fn split_expression(trees: &[TokenTree]) -> Result<(&[TokenTree], &[TokenTre
     ensures only { IfOk result (λ found. IsOnly IsExpression trees.now found.0.now found.1.now) }
     ensures fault { IfErr result (λ fault. FaultAt IsExpression trees.now fault.at) }
     ensures span { IfErr result (λ fault. fault.span ≡ extent_at trees.now fault.at) }
+    ensures expected { IfErr result (λ fault. Expects IsExpression trees.now fault.at fault.expected) }
 {
     split_alone(trees, Rule::Alone, State::At(Spot::Expression))
 }
@@ -215,6 +229,7 @@ pub fn split_generics(trees: &[TokenTree]) -> Result<(&[TokenTree], &[TokenTree]
     ensures only { IfOk result (λ found. IsOnly AreGenerics trees.now found.0.now found.1.now) }
     ensures fault { IfErr result (λ fault. FaultAt AreGenerics trees.now fault.at) }
     ensures span { IfErr result (λ fault. fault.span ≡ extent_at trees.now fault.at) }
+    ensures expected { IfErr result (λ fault. Expects AreGenerics trees.now fault.at fault.expected) }
 {
     split_alone(trees, Rule::Alone, State::At(Spot::Generics))
 }
@@ -227,6 +242,7 @@ pub fn split_where(trees: &[TokenTree]) -> Result<(&[TokenTree], &[TokenTree]), 
     ensures only { IfOk result (λ found. IsOnly IsWhere trees.now found.0.now found.1.now) }
     ensures fault { IfErr result (λ fault. FaultAt IsWhere trees.now fault.at) }
     ensures span { IfErr result (λ fault. fault.span ≡ extent_at trees.now fault.at) }
+    ensures expected { IfErr result (λ fault. Expects IsWhere trees.now fault.at fault.expected) }
 {
     split_alone(trees, Rule::Alone, State::At(Spot::Where))
 }
@@ -240,6 +256,7 @@ pub fn split_item(trees: &[TokenTree]) -> Result<(&[TokenTree], &[TokenTree]), F
     ensures only { IfOk result (λ found. IsOnly IsItem trees.now found.0.now found.1.now) }
     ensures fault { IfErr result (λ fault. FaultAt IsItem trees.now fault.at) }
     ensures span { IfErr result (λ fault. fault.span ≡ extent_at trees.now fault.at) }
+    ensures expected { IfErr result (λ fault. Expects IsItem trees.now fault.at fault.expected) }
 {
     split_alone(trees, Rule::Alone, State::At(Spot::Before(Part::TypeItem)))
 }
@@ -252,6 +269,7 @@ pub fn split_inner_attributes(trees: &[TokenTree]) -> Result<(&[TokenTree], &[To
     ensures only { IfOk result (λ found. IsOnly AreInnerAttributes trees.now found.0.now found.1.now) }
     ensures fault { IfErr result (λ fault. FaultAt AreInnerAttributes trees.now fault.at) }
     ensures span { IfErr result (λ fault. fault.span ≡ extent_at trees.now fault.at) }
+    ensures expected { IfErr result (λ fault. Expects AreInnerAttributes trees.now fault.at fault.expected) }
 {
     split_alone(trees, Rule::Alone, State::At(Spot::Inner))
 }

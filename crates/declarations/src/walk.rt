@@ -1,6 +1,7 @@
 //! The walk over the signs of trees by the tables of the grammar.
 ghost use Rattle.std.specs.Prelude.{◌≡◌, ◌≢◌, ◌+◌, ◌≤◌, ◌<◌, ◌^◌, IfErr, IfNone, IfOk, IfSome, MatchResult, OnOk, cond};
 ghost use Rattle.std.specs.Prelude.{false, length, true};
+ghost use Rattle.declarations.specs.Expected.{Expects};
 ghost use Rattle.declarations.specs.Fault.{extent_at};
 ghost use Rattle.declarations.specs.Forms.{IsFrom};
 ghost use Rattle.declarations.specs.Grammar.{names, step};
@@ -11,6 +12,7 @@ ghost use Rattle.declarations.specs.Whole.{IsWhole, ReadsAll};
 ghost use Rattle.declarations.specs.declared.class.Class.{Class as ClassValue};
 ghost use Rattle.declarations.specs.declared.place.Place.{Place as PlaceValue};
 
+use crate::expected::steps_from;
 use crate::fault::Fault;
 use crate::place::{Item, Place};
 use crate::signs::first_sign;
@@ -36,6 +38,7 @@ pub(crate) fn split_from<'a>(trees: &'a [TokenTree], start: Place) -> Result<Spl
         × Walked start trees.now found.rest.now last (first_name found.named.now) × (found.last ≡ last.item)) }
     ensures fault { IfErr result (λ fault. FaultAt (IsFrom start) trees.now fault.at) }
     ensures span { IfErr result (λ fault. fault.span ≡ extent_at trees.now fault.at) }
+    ensures expected { IfErr result (λ fault. Expects (IsFrom start) trees.now fault.at fault.expected) }
 {
     let stop = walk_from(trees, start);
     let at = trees.len() - stop.left.len();
@@ -48,7 +51,7 @@ pub(crate) fn split_from<'a>(trees: &'a [TokenTree], start: Place) -> Result<Spl
             named: stop.named,
         })
     } else {
-        Err(Fault::ahead_of(at, stop.left))
+        Err(Fault::ahead_of(at, stop.left, steps_from(stop.place)))
     }
 }
 
@@ -58,12 +61,14 @@ pub(crate) fn read_whole(trees: &[TokenTree], start: Place) -> Result<(), Fault>
     ensures ok { OnOk result (ReadsAll (IsFrom start) trees.now) }
     ensures fault { IfErr result (λ fault. FaultAt (IsWhole (IsFrom start)) trees.now fault.at) }
     ensures span { IfErr result (λ fault. fault.span ≡ extent_at trees.now fault.at) }
+    ensures expected { IfErr result (λ fault. Expects (IsFrom start) trees.now fault.at fault.expected) }
 {
     let stop = walk_from(trees, start);
     if stop.left.is_empty() && stop.place.may_end() {
         Ok(())
     } else {
-        Err(Fault::ahead_of(trees.len() - stop.left.len(), stop.left))
+        let count = trees.len() - stop.left.len();
+        Err(Fault::ahead_of(count, stop.left, steps_from(stop.place)))
     }
 }
 

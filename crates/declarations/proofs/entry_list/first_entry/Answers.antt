@@ -1,6 +1,8 @@
-use Rattle.std.proofs.Common.{inl, arith}
-use Rattle.declarations.specs.rules.Entries.{entry}
+use Rattle.std.proofs.Common.{inl, refl, subst, sym, arith}
+use Rattle.declarations.specs.Expected.{Expects}
+use Rattle.declarations.specs.rules.Entries.{entries, entry}
 use Rattle.declarations.specs.rules.Pieces.{ByRule}
+use Rattle.declarations.proofs.SyntaxLemmas.{entries_start, entry_start}
 use Rattle.declarations.proofs.ListLemmas.{lacks_comma, past_fewer, rest_within}
 use Rattle.declarations.proofs.entry_list.first_entry.Goals as goal
 
@@ -29,3 +31,15 @@ pub fault_after-requires : goal.fault_after-requires
 fault_after-requires c =
     let at = c.in-Ok.ensures.ok in
     rest_within (ByRule entry) c.args.trees.now at.part c.in-Ok.rest.now at.reads
+
+pub returns-in-Err-clause-expected : goal.returns-in-Err-clause-expected
+returns-in-Err-clause-expected c =
+    c.entries_signs-in-Err.ensures c.in-Err.fault.at entry_start entries_start refl (inl c.in-Err.ensures.fault)
+
+pub returns-in-None-clause-expected : goal.returns-in-None-clause-expected
+returns-in-None-clause-expected c =
+    let at = c.in-Ok.ensures.ok in
+    let lacks = lacks_comma (ByRule entry) c.args.trees.now at.part c.in-Ok.rest.now c.fault_after.result at.reads
+    c.in-None.ensures.none c.fault_after.ensures.at c.fault_after.ensures.span in
+    subst (Expects (ByRule entries) c.args.trees.now c.fault_after.result.at) (sym c.fault_after.ensures.expected)
+    (c.entries_signs.ensures c.fault_after.result.at entry_start entries_start refl lacks.place)
