@@ -1,5 +1,6 @@
 -- The names in messages.
-use Rattle.std.proofs.Common.{◌≡◌, ◌==◌, ◌-◌, refl, ap, ℕ, zero, suc, false, List, [], ◌∷◌, ◌++◌, Option, Some, None, arith}
+use Rattle.std.proofs.Common.{◌≡◌, ◌==◌, ◌-◌, refl, ap, ℕ, zero, suc, false, List, [], ◌∷◌, ◌++◌, Option, Some, None}
+use Rattle.std.proofs.Common.{arith}
 use Rattle.std.specs.Prelude.{MatchOption, codes}
 use Rattle.declarations.specs.ExpectedText.{more_listed}
 

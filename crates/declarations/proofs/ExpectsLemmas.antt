@@ -80,7 +80,8 @@ module _ (start place : Place) (front : List Class) (walks : walk step start fro
       go (Some next) e = refl
       go None e =
           let all : front ++ c ∷ f.more ≡ f.piece =
-          sym (append_assoc front (c ∷ []) f.more) ∙ (f.whole ∙ (ap (λ r. f.piece ++ r) f.stands.1 ∙ append-nil f.piece))
+          sym (append_assoc front (c ∷ []) f.more)
+          ∙ (f.whole ∙ (ap (λ r. f.piece ++ r) f.stands.1 ∙ append-nil f.piece))
           in
           absurd (stuck start place front c f.more f.stands.0.last walks e
           (ap (walk step start) all ∙ f.stands.0.walks))

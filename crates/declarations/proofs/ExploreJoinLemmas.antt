@@ -224,7 +224,8 @@ sees_neither a b trees first second seen e none d lone here s =
       signs = signs_as seen.next _ _ _ _ s
           (λ c. rw (f.signs.classes c, g.signs.classes c, one, other)
           (sym (ap is_some (either_enter a b c) ∙ some_or (move rules (flat a) c) (move rules (flat b) c))))
-          (rw (f.signs.end, g.signs.end, one, other, flat_ends rules a, flat_ends rules b) (sym (flat_ends rules (Either a b))));
+          (rw (f.signs.end, g.signs.end, one, other, flat_ends rules a, flat_ends rules b)
+          (sym (flat_ends rules (Either a b))));
     })
 
 -- what is seen by a rule is seen by the same rule

@@ -186,8 +186,8 @@ module _ (g : G) (element : IsStart rules follows (g ∷ [])) (trees : List Toke
 
 -- ---- the error of a list
 
-abbrev reads_first : (form : List Class → List Class → Type 0) (trees : List TokenTree) (at : ℕ) → LacksComma form trees at
-    → ReadsFirst form trees at
+abbrev reads_first : (form : List Class → List Class → Type 0) (trees : List TokenTree) (at : ℕ)
+    → LacksComma form trees at → ReadsFirst form trees at
 reads_first form trees at l = record { part = l.part; rest = l.rest; reads = l.reads; counted = l.counted }
 
 module _ (g : G) (element : IsStart rules follows (g ∷ [])) (list : IsStart rules follows (listed g ∷ []))

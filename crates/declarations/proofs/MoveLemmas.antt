@@ -1,6 +1,6 @@
 -- The machine over flat stacks: what it reads, and with what signs it can go on.
-use Rattle.std.proofs.Common.{◌≡◌, refl, sym, ◌∙◌, ap, subst, Bool, true, false, ◌&&◌, ◌||◌, List, [], ◌∷◌, ◌++◌, Option}
-use Rattle.std.proofs.Common.{Some, None, append_assoc, append-nil}
+use Rattle.std.proofs.Common.{◌≡◌, refl, sym, ◌∙◌, ap, subst, Bool, true, false, ◌&&◌, ◌||◌, List, [], ◌∷◌, ◌++◌}
+use Rattle.std.proofs.Common.{Option, Some, None, append_assoc, append-nil}
 use Rattle.std.specs.Option.{is_some}
 use Rattle.grammars.specs.Grammar.{Grammar, Nothing, Sign, To, Mark, Then, Either, Many, Listed, Event, further}
 use Rattle.grammars.specs.Machine.{is_nullable, Step, or_else, behind, only, step, ends, walk}
@@ -154,7 +154,8 @@ module _ {C N L : Type 0} (rules : N → Grammar C N L) where
   moves_append k [] back = refl
   moves_append k (c ∷ front) back =
       moves_cons k c (front ++ back)
-      ∙ (go (move rules k c) (λ j. moves_append j front back) ∙ ap (λ o. moves_after o back) (sym (moves_cons k c front)))
+      ∙ (go (move rules k c) (λ j. moves_append j front back)
+      ∙ ap (λ o. moves_after o back) (sym (moves_cons k c front)))
     where
       go : (o : Option (List (Grammar C N L)))
           → ((j : List (Grammar C N L)) → moves rules j (front ++ back) ≡ moves_after (moves rules j front) back)

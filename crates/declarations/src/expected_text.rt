@@ -2,8 +2,8 @@
 ghost use Rattle.std.specs.Prelude.{◌≡◌, ◌∷◌, ◌++◌, [], MatchOption};
 ghost use Rattle.std.specs.Fmt.{WritesOnOk};
 ghost use Rattle.declarations.specs.Expected.{holds};
-ghost use Rattle.declarations.specs.ExpectedText.{expected_text, has_term, listed, more_listed, names_of, pairs, without};
-ghost use Rattle.declarations.specs.ExpectedText.{without_term};
+ghost use Rattle.declarations.specs.ExpectedText.{expected_text, has_term, listed, more_listed, names_of, pairs};
+ghost use Rattle.declarations.specs.ExpectedText.{without, without_term};
 ghost use Rattle.declarations.specs.rules.Classes.{all_of};
 
 use crate::class::{Class, Keyword, Word, code};
@@ -457,51 +457,158 @@ const TERMS: [Term; 83] = [
         text: "the end",
     },
     Term {
-        classes: &[Class::Word(Word::Auto), Class::Word(Word::Default), Class::Word(Word::Safe), Class::Word(Word::Union), Class::Word(Word::Plain), Class::Keyword(Keyword::Async), Class::Keyword(Keyword::Const), Class::Keyword(Keyword::Dyn), Class::Keyword(Keyword::Enum), Class::Keyword(Keyword::Extern), Class::Keyword(Keyword::Fn), Class::Keyword(Keyword::For), Class::Keyword(Keyword::Impl), Class::Keyword(Keyword::Macro), Class::Keyword(Keyword::Mod), Class::Keyword(Keyword::Mut), Class::Keyword(Keyword::Pub), Class::Keyword(Keyword::Static), Class::Keyword(Keyword::Struct), Class::Keyword(Keyword::Trait), Class::Keyword(Keyword::Type), Class::Keyword(Keyword::Unsafe), Class::Keyword(Keyword::Use), Class::Keyword(Keyword::Where), Class::Keyword(Keyword::Other), Class::SelfValue, Class::SelfType, Class::Super, Class::Crate, Class::Underscore, Class::Truth, Class::Await, Class::Jump, Class::Literal, Class::Lifetime, Class::PathSeparator, Class::Arrow, Class::Bars, Class::Restriction, Class::Parentheses, Class::Brackets, Class::Braces, Class::Invisible, Class::Less, Class::LessJoint, Class::Greater, Class::Equals, Class::Minus, Class::Star, Class::And, Class::Exclamation, Class::Hash, Class::Bar, Class::Dot],
+        classes: &[
+            Class::Word(Word::Auto), Class::Word(Word::Default), Class::Word(Word::Safe), Class::Word(Word::Union),
+            Class::Word(Word::Plain), Class::Keyword(Keyword::Async), Class::Keyword(Keyword::Const),
+            Class::Keyword(Keyword::Dyn), Class::Keyword(Keyword::Enum), Class::Keyword(Keyword::Extern),
+            Class::Keyword(Keyword::Fn), Class::Keyword(Keyword::For), Class::Keyword(Keyword::Impl),
+            Class::Keyword(Keyword::Macro), Class::Keyword(Keyword::Mod), Class::Keyword(Keyword::Mut),
+            Class::Keyword(Keyword::Pub), Class::Keyword(Keyword::Static), Class::Keyword(Keyword::Struct),
+            Class::Keyword(Keyword::Trait), Class::Keyword(Keyword::Type), Class::Keyword(Keyword::Unsafe),
+            Class::Keyword(Keyword::Use), Class::Keyword(Keyword::Where), Class::Keyword(Keyword::Other),
+            Class::SelfValue, Class::SelfType, Class::Super, Class::Crate, Class::Underscore, Class::Truth,
+            Class::Await, Class::Jump, Class::Literal, Class::Lifetime, Class::PathSeparator, Class::Arrow, Class::Bars,
+            Class::Restriction, Class::Parentheses, Class::Brackets, Class::Braces, Class::Invisible, Class::Less,
+            Class::LessJoint, Class::Greater, Class::Equals, Class::Minus, Class::Star, Class::And, Class::Exclamation,
+            Class::Hash, Class::Bar, Class::Dot,
+        ],
         text: "an expression",
     },
     Term {
-        classes: &[Class::Word(Word::Auto), Class::Word(Word::Default), Class::Word(Word::Safe), Class::Word(Word::Union), Class::Word(Word::Plain), Class::Keyword(Keyword::Async), Class::Keyword(Keyword::Const), Class::Keyword(Keyword::Dyn), Class::Keyword(Keyword::Enum), Class::Keyword(Keyword::Extern), Class::Keyword(Keyword::Fn), Class::Keyword(Keyword::For), Class::Keyword(Keyword::Impl), Class::Keyword(Keyword::Macro), Class::Keyword(Keyword::Mod), Class::Keyword(Keyword::Mut), Class::Keyword(Keyword::Pub), Class::Keyword(Keyword::Static), Class::Keyword(Keyword::Struct), Class::Keyword(Keyword::Trait), Class::Keyword(Keyword::Type), Class::Keyword(Keyword::Unsafe), Class::Keyword(Keyword::Use), Class::Keyword(Keyword::Where), Class::Keyword(Keyword::Other), Class::SelfValue, Class::SelfType, Class::Super, Class::Crate, Class::Underscore, Class::Truth, Class::Await, Class::Jump, Class::Literal, Class::Lifetime, Class::PathSeparator, Class::Bars, Class::Restriction, Class::Parentheses, Class::Brackets, Class::Braces, Class::Invisible, Class::Less, Class::LessJoint, Class::Minus, Class::Star, Class::And, Class::Exclamation, Class::Hash, Class::Bar, Class::Dot],
+        classes: &[
+            Class::Word(Word::Auto), Class::Word(Word::Default), Class::Word(Word::Safe), Class::Word(Word::Union),
+            Class::Word(Word::Plain), Class::Keyword(Keyword::Async), Class::Keyword(Keyword::Const),
+            Class::Keyword(Keyword::Dyn), Class::Keyword(Keyword::Enum), Class::Keyword(Keyword::Extern),
+            Class::Keyword(Keyword::Fn), Class::Keyword(Keyword::For), Class::Keyword(Keyword::Impl),
+            Class::Keyword(Keyword::Macro), Class::Keyword(Keyword::Mod), Class::Keyword(Keyword::Mut),
+            Class::Keyword(Keyword::Pub), Class::Keyword(Keyword::Static), Class::Keyword(Keyword::Struct),
+            Class::Keyword(Keyword::Trait), Class::Keyword(Keyword::Type), Class::Keyword(Keyword::Unsafe),
+            Class::Keyword(Keyword::Use), Class::Keyword(Keyword::Where), Class::Keyword(Keyword::Other),
+            Class::SelfValue, Class::SelfType, Class::Super, Class::Crate, Class::Underscore, Class::Truth,
+            Class::Await, Class::Jump, Class::Literal, Class::Lifetime, Class::PathSeparator, Class::Bars,
+            Class::Restriction, Class::Parentheses, Class::Brackets, Class::Braces, Class::Invisible, Class::Less,
+            Class::LessJoint, Class::Minus, Class::Star, Class::And, Class::Exclamation, Class::Hash, Class::Bar,
+            Class::Dot,
+        ],
         text: "an expression",
     },
     Term {
-        classes: &[Class::Word(Word::Auto), Class::Word(Word::Default), Class::Word(Word::Safe), Class::Word(Word::Union), Class::Word(Word::Plain), Class::Keyword(Keyword::Async), Class::Keyword(Keyword::Dyn), Class::Keyword(Keyword::Extern), Class::Keyword(Keyword::Fn), Class::Keyword(Keyword::For), Class::Keyword(Keyword::Impl), Class::Keyword(Keyword::Mut), Class::Keyword(Keyword::Unsafe), Class::Keyword(Keyword::Use), Class::SelfValue, Class::SelfType, Class::Super, Class::Crate, Class::Underscore, Class::Truth, Class::Literal, Class::Lifetime, Class::PathSeparator, Class::Restriction, Class::Parentheses, Class::Brackets, Class::Braces, Class::Invisible, Class::Less, Class::LessJoint, Class::Minus, Class::Star, Class::And, Class::Question, Class::Exclamation, Class::Tilde],
+        classes: &[
+            Class::Word(Word::Auto), Class::Word(Word::Default), Class::Word(Word::Safe), Class::Word(Word::Union),
+            Class::Word(Word::Plain), Class::Keyword(Keyword::Async), Class::Keyword(Keyword::Dyn),
+            Class::Keyword(Keyword::Extern), Class::Keyword(Keyword::Fn), Class::Keyword(Keyword::For),
+            Class::Keyword(Keyword::Impl), Class::Keyword(Keyword::Mut), Class::Keyword(Keyword::Unsafe),
+            Class::Keyword(Keyword::Use), Class::SelfValue, Class::SelfType, Class::Super, Class::Crate,
+            Class::Underscore, Class::Truth, Class::Literal, Class::Lifetime, Class::PathSeparator, Class::Restriction,
+            Class::Parentheses, Class::Brackets, Class::Braces, Class::Invisible, Class::Less, Class::LessJoint,
+            Class::Minus, Class::Star, Class::And, Class::Question, Class::Exclamation, Class::Tilde,
+        ],
         text: "an argument",
     },
     Term {
-        classes: &[Class::Word(Word::Auto), Class::Word(Word::Default), Class::Word(Word::Safe), Class::Word(Word::Union), Class::Word(Word::Plain), Class::Keyword(Keyword::Async), Class::Keyword(Keyword::Dyn), Class::Keyword(Keyword::Extern), Class::Keyword(Keyword::Fn), Class::Keyword(Keyword::For), Class::Keyword(Keyword::Impl), Class::Keyword(Keyword::Mut), Class::Keyword(Keyword::Unsafe), Class::Keyword(Keyword::Use), Class::SelfValue, Class::SelfType, Class::Super, Class::Crate, Class::Underscore, Class::Lifetime, Class::PathSeparator, Class::Restriction, Class::Parentheses, Class::Brackets, Class::Invisible, Class::Less, Class::LessJoint, Class::Star, Class::And, Class::Question, Class::Exclamation, Class::Tilde],
+        classes: &[
+            Class::Word(Word::Auto), Class::Word(Word::Default), Class::Word(Word::Safe), Class::Word(Word::Union),
+            Class::Word(Word::Plain), Class::Keyword(Keyword::Async), Class::Keyword(Keyword::Dyn),
+            Class::Keyword(Keyword::Extern), Class::Keyword(Keyword::Fn), Class::Keyword(Keyword::For),
+            Class::Keyword(Keyword::Impl), Class::Keyword(Keyword::Mut), Class::Keyword(Keyword::Unsafe),
+            Class::Keyword(Keyword::Use), Class::SelfValue, Class::SelfType, Class::Super, Class::Crate,
+            Class::Underscore, Class::Lifetime, Class::PathSeparator, Class::Restriction, Class::Parentheses,
+            Class::Brackets, Class::Invisible, Class::Less, Class::LessJoint, Class::Star, Class::And, Class::Question,
+            Class::Exclamation, Class::Tilde,
+        ],
         text: "a type",
     },
     Term {
-        classes: &[Class::Word(Word::Auto), Class::Word(Word::Default), Class::Word(Word::Safe), Class::Word(Word::Union), Class::Word(Word::Plain), Class::Keyword(Keyword::Async), Class::Keyword(Keyword::Const), Class::Keyword(Keyword::Dyn), Class::Keyword(Keyword::Enum), Class::Keyword(Keyword::Extern), Class::Keyword(Keyword::Fn), Class::Keyword(Keyword::For), Class::Keyword(Keyword::Impl), Class::Keyword(Keyword::Macro), Class::Keyword(Keyword::Mod), Class::Keyword(Keyword::Mut), Class::Keyword(Keyword::Pub), Class::Keyword(Keyword::Static), Class::Keyword(Keyword::Struct), Class::Keyword(Keyword::Trait), Class::Keyword(Keyword::Type), Class::Keyword(Keyword::Unsafe), Class::Keyword(Keyword::Use), Class::Keyword(Keyword::Where), Class::Keyword(Keyword::Other), Class::SelfValue, Class::SelfType, Class::Super, Class::Crate, Class::As, Class::Truth, Class::Await, Class::Jump, Class::Literal, Class::PathSeparator, Class::Minus],
+        classes: &[
+            Class::Word(Word::Auto), Class::Word(Word::Default), Class::Word(Word::Safe), Class::Word(Word::Union),
+            Class::Word(Word::Plain), Class::Keyword(Keyword::Async), Class::Keyword(Keyword::Const),
+            Class::Keyword(Keyword::Dyn), Class::Keyword(Keyword::Enum), Class::Keyword(Keyword::Extern),
+            Class::Keyword(Keyword::Fn), Class::Keyword(Keyword::For), Class::Keyword(Keyword::Impl),
+            Class::Keyword(Keyword::Macro), Class::Keyword(Keyword::Mod), Class::Keyword(Keyword::Mut),
+            Class::Keyword(Keyword::Pub), Class::Keyword(Keyword::Static), Class::Keyword(Keyword::Struct),
+            Class::Keyword(Keyword::Trait), Class::Keyword(Keyword::Type), Class::Keyword(Keyword::Unsafe),
+            Class::Keyword(Keyword::Use), Class::Keyword(Keyword::Where), Class::Keyword(Keyword::Other),
+            Class::SelfValue, Class::SelfType, Class::Super, Class::Crate, Class::As, Class::Truth, Class::Await,
+            Class::Jump, Class::Literal, Class::PathSeparator, Class::Minus,
+        ],
         text: "an entry",
     },
     Term {
-        classes: &[Class::Word(Word::Auto), Class::Word(Word::Default), Class::Word(Word::Safe), Class::Word(Word::Union), Class::Word(Word::Plain), Class::Keyword(Keyword::Mut), Class::Keyword(Keyword::Other), Class::SelfType, Class::Super, Class::Crate, Class::Underscore, Class::Truth, Class::Literal, Class::PathSeparator, Class::Restriction, Class::Parentheses, Class::Brackets, Class::Invisible, Class::Less, Class::LessJoint, Class::Minus, Class::And],
+        classes: &[
+            Class::Word(Word::Auto), Class::Word(Word::Default), Class::Word(Word::Safe), Class::Word(Word::Union),
+            Class::Word(Word::Plain), Class::Keyword(Keyword::Mut), Class::Keyword(Keyword::Other), Class::SelfType,
+            Class::Super, Class::Crate, Class::Underscore, Class::Truth, Class::Literal, Class::PathSeparator,
+            Class::Restriction, Class::Parentheses, Class::Brackets, Class::Invisible, Class::Less, Class::LessJoint,
+            Class::Minus, Class::And,
+        ],
         text: "a pattern",
     },
     Term {
-        classes: &[Class::Keyword(Keyword::Async), Class::Keyword(Keyword::Const), Class::Keyword(Keyword::Dyn), Class::Keyword(Keyword::Enum), Class::Keyword(Keyword::Extern), Class::Keyword(Keyword::Fn), Class::Keyword(Keyword::For), Class::Keyword(Keyword::Impl), Class::Keyword(Keyword::Macro), Class::Keyword(Keyword::Mod), Class::Keyword(Keyword::Mut), Class::Keyword(Keyword::Pub), Class::Keyword(Keyword::Static), Class::Keyword(Keyword::Struct), Class::Keyword(Keyword::Trait), Class::Keyword(Keyword::Type), Class::Keyword(Keyword::Unsafe), Class::Keyword(Keyword::Use), Class::Keyword(Keyword::Where), Class::Keyword(Keyword::Other), Class::As, Class::Await, Class::Jump, Class::PathSeparator, Class::Arrow, Class::LessEquals, Class::Bars, Class::Restriction, Class::Parentheses, Class::Brackets, Class::Braces, Class::Invisible, Class::Less, Class::LessJoint, Class::Greater, Class::Colon, Class::Equals, Class::Plus, Class::Minus, Class::Star, Class::And, Class::Question, Class::Exclamation, Class::Bar, Class::Dot, Class::Infix],
+        classes: &[
+            Class::Keyword(Keyword::Async), Class::Keyword(Keyword::Const), Class::Keyword(Keyword::Dyn),
+            Class::Keyword(Keyword::Enum), Class::Keyword(Keyword::Extern), Class::Keyword(Keyword::Fn),
+            Class::Keyword(Keyword::For), Class::Keyword(Keyword::Impl), Class::Keyword(Keyword::Macro),
+            Class::Keyword(Keyword::Mod), Class::Keyword(Keyword::Mut), Class::Keyword(Keyword::Pub),
+            Class::Keyword(Keyword::Static), Class::Keyword(Keyword::Struct), Class::Keyword(Keyword::Trait),
+            Class::Keyword(Keyword::Type), Class::Keyword(Keyword::Unsafe), Class::Keyword(Keyword::Use),
+            Class::Keyword(Keyword::Where), Class::Keyword(Keyword::Other), Class::As, Class::Await, Class::Jump,
+            Class::PathSeparator, Class::Arrow, Class::LessEquals, Class::Bars, Class::Restriction, Class::Parentheses,
+            Class::Brackets, Class::Braces, Class::Invisible, Class::Less, Class::LessJoint, Class::Greater,
+            Class::Colon, Class::Equals, Class::Plus, Class::Minus, Class::Star, Class::And, Class::Question,
+            Class::Exclamation, Class::Bar, Class::Dot, Class::Infix,
+        ],
         text: "an operator",
     },
     Term {
-        classes: &[Class::Word(Word::Auto), Class::Word(Word::Default), Class::Word(Word::Safe), Class::Word(Word::Union), Class::Word(Word::Plain), Class::Keyword(Keyword::Async), Class::Keyword(Keyword::Const), Class::Keyword(Keyword::Dyn), Class::Keyword(Keyword::Enum), Class::Keyword(Keyword::Extern), Class::Keyword(Keyword::Fn), Class::Keyword(Keyword::For), Class::Keyword(Keyword::Impl), Class::Keyword(Keyword::Macro), Class::Keyword(Keyword::Mod), Class::Keyword(Keyword::Mut), Class::Keyword(Keyword::Pub), Class::Keyword(Keyword::Static), Class::Keyword(Keyword::Struct), Class::Keyword(Keyword::Trait), Class::Keyword(Keyword::Type), Class::Keyword(Keyword::Unsafe), Class::Keyword(Keyword::Use), Class::Keyword(Keyword::Where), Class::Keyword(Keyword::Other), Class::SelfValue, Class::SelfType, Class::Super, Class::Crate, Class::As, Class::Await, Class::Jump],
+        classes: &[
+            Class::Word(Word::Auto), Class::Word(Word::Default), Class::Word(Word::Safe), Class::Word(Word::Union),
+            Class::Word(Word::Plain), Class::Keyword(Keyword::Async), Class::Keyword(Keyword::Const),
+            Class::Keyword(Keyword::Dyn), Class::Keyword(Keyword::Enum), Class::Keyword(Keyword::Extern),
+            Class::Keyword(Keyword::Fn), Class::Keyword(Keyword::For), Class::Keyword(Keyword::Impl),
+            Class::Keyword(Keyword::Macro), Class::Keyword(Keyword::Mod), Class::Keyword(Keyword::Mut),
+            Class::Keyword(Keyword::Pub), Class::Keyword(Keyword::Static), Class::Keyword(Keyword::Struct),
+            Class::Keyword(Keyword::Trait), Class::Keyword(Keyword::Type), Class::Keyword(Keyword::Unsafe),
+            Class::Keyword(Keyword::Use), Class::Keyword(Keyword::Where), Class::Keyword(Keyword::Other),
+            Class::SelfValue, Class::SelfType, Class::Super, Class::Crate, Class::As, Class::Await, Class::Jump,
+        ],
         text: "an identifier",
     },
     Term {
-        classes: &[Class::Word(Word::Auto), Class::Word(Word::Default), Class::Word(Word::Safe), Class::Word(Word::Union), Class::Word(Word::Plain), Class::Keyword(Keyword::Async), Class::Keyword(Keyword::Const), Class::Keyword(Keyword::Enum), Class::Keyword(Keyword::Extern), Class::Keyword(Keyword::Fn), Class::Keyword(Keyword::Impl), Class::Keyword(Keyword::Macro), Class::Keyword(Keyword::Mod), Class::Keyword(Keyword::Pub), Class::Keyword(Keyword::Static), Class::Keyword(Keyword::Struct), Class::Keyword(Keyword::Trait), Class::Keyword(Keyword::Type), Class::Keyword(Keyword::Unsafe), Class::Keyword(Keyword::Use), Class::SelfValue, Class::Super, Class::Crate, Class::PathSeparator, Class::Visibility, Class::Invisible, Class::Hash],
+        classes: &[
+            Class::Word(Word::Auto), Class::Word(Word::Default), Class::Word(Word::Safe), Class::Word(Word::Union),
+            Class::Word(Word::Plain), Class::Keyword(Keyword::Async), Class::Keyword(Keyword::Const),
+            Class::Keyword(Keyword::Enum), Class::Keyword(Keyword::Extern), Class::Keyword(Keyword::Fn),
+            Class::Keyword(Keyword::Impl), Class::Keyword(Keyword::Macro), Class::Keyword(Keyword::Mod),
+            Class::Keyword(Keyword::Pub), Class::Keyword(Keyword::Static), Class::Keyword(Keyword::Struct),
+            Class::Keyword(Keyword::Trait), Class::Keyword(Keyword::Type), Class::Keyword(Keyword::Unsafe),
+            Class::Keyword(Keyword::Use), Class::SelfValue, Class::Super, Class::Crate, Class::PathSeparator,
+            Class::Visibility, Class::Invisible, Class::Hash,
+        ],
         text: "an item",
     },
     Term {
-        classes: &[Class::Word(Word::Auto), Class::Word(Word::Default), Class::Word(Word::Safe), Class::Word(Word::Union), Class::Keyword(Keyword::Async), Class::Keyword(Keyword::Const), Class::Keyword(Keyword::Enum), Class::Keyword(Keyword::Extern), Class::Keyword(Keyword::Fn), Class::Keyword(Keyword::Impl), Class::Keyword(Keyword::Macro), Class::Keyword(Keyword::Mod), Class::Keyword(Keyword::Static), Class::Keyword(Keyword::Struct), Class::Keyword(Keyword::Trait), Class::Keyword(Keyword::Type), Class::Keyword(Keyword::Unsafe), Class::Keyword(Keyword::Use)],
+        classes: &[
+            Class::Word(Word::Auto), Class::Word(Word::Default), Class::Word(Word::Safe), Class::Word(Word::Union),
+            Class::Keyword(Keyword::Async), Class::Keyword(Keyword::Const), Class::Keyword(Keyword::Enum),
+            Class::Keyword(Keyword::Extern), Class::Keyword(Keyword::Fn), Class::Keyword(Keyword::Impl),
+            Class::Keyword(Keyword::Macro), Class::Keyword(Keyword::Mod), Class::Keyword(Keyword::Static),
+            Class::Keyword(Keyword::Struct), Class::Keyword(Keyword::Trait), Class::Keyword(Keyword::Type),
+            Class::Keyword(Keyword::Unsafe), Class::Keyword(Keyword::Use),
+        ],
         text: "an item",
     },
     Term {
-        classes: &[Class::Word(Word::Auto), Class::Word(Word::Default), Class::Word(Word::Safe), Class::Word(Word::Union), Class::Word(Word::Plain), Class::SelfValue, Class::Super, Class::Crate],
+        classes: &[
+            Class::Word(Word::Auto), Class::Word(Word::Default), Class::Word(Word::Safe), Class::Word(Word::Union),
+            Class::Word(Word::Plain), Class::SelfValue, Class::Super, Class::Crate,
+        ],
         text: "a segment of a path",
     },
     Term {
-        classes: &[Class::Word(Word::Auto), Class::Word(Word::Default), Class::Word(Word::Safe), Class::Word(Word::Union), Class::Word(Word::Plain)],
+        classes: &[
+            Class::Word(Word::Auto), Class::Word(Word::Default), Class::Word(Word::Safe), Class::Word(Word::Union),
+            Class::Word(Word::Plain),
+        ],
         text: "a name",
     },
     Term {
@@ -533,7 +640,10 @@ const TERMS: [Term; 83] = [
         text: "braces",
     },
     Term {
-        classes: &[Class::PathSeparator, Class::Arrow, Class::Restriction, Class::Parentheses, Class::Less, Class::LessJoint, Class::Plus, Class::Exclamation],
+        classes: &[
+            Class::PathSeparator, Class::Arrow, Class::Restriction, Class::Parentheses, Class::Less, Class::LessJoint,
+            Class::Plus, Class::Exclamation,
+        ],
         text: "more of the type",
     },
     Term {

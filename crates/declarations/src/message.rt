@@ -19,7 +19,8 @@ impl Fault {
     /// missing. Fails if it runs out of memory.
     pub fn to_compile_error(&self, alloc: Global) -> Result<TokenStream, AllocError>
         ensures { IfOk result (λ stream.
-            stream ≡ forest (compile_error (chars (fault_text self.now.span self.now.expected)) (told_at self.now.span)))
+            stream ≡ forest
+                (compile_error (chars (fault_text self.now.span self.now.expected)) (told_at self.now.span)))
         }
     {
         let span = match self.span {

@@ -16,5 +16,5 @@ returns-clause-span c =
 pub returns-clause-expected : goal.returns-clause-expected
 returns-clause-expected c =
     subst (Expects (ByRule (listed predicate)) c.args.trees.now c.ahead_of.result.at) (sym c.ahead_of.ensures.expected)
-    (sees_expects (listed predicate) predicates_start c.args.trees.now c.explore-seen.result c.ahead_of.result.at c.explore-seen.ensures
-    (omega arith))
+    (sees_expects (listed predicate) predicates_start c.args.trees.now c.explore-seen.result c.ahead_of.result.at
+    c.explore-seen.ensures (omega arith))

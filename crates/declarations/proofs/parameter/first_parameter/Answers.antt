@@ -34,12 +34,14 @@ fault_after-requires c =
 
 pub returns-in-Err-clause-expected : goal.returns-in-Err-clause-expected
 returns-in-Err-clause-expected c =
-    c.parameters_signs-in-Err.ensures c.in-Err.fault.at parameter_start parameters_start refl (inl c.in-Err.ensures.fault)
+    let fault = inl c.in-Err.ensures.fault in
+    c.parameters_signs-in-Err.ensures c.in-Err.fault.at parameter_start parameters_start refl fault
 
 pub returns-in-None-clause-expected : goal.returns-in-None-clause-expected
 returns-in-None-clause-expected c =
     let at = c.in-Ok.ensures.ok in
-    let lacks = lacks_comma (ByRule function_parameter) c.args.trees.now at.part c.in-Ok.rest.now c.fault_after.result at.reads
+    let fault = c.fault_after.result in
+    let lacks = lacks_comma (ByRule function_parameter) c.args.trees.now at.part c.in-Ok.rest.now fault at.reads
     c.in-None.ensures.none c.fault_after.ensures.at c.fault_after.ensures.span in
-    subst (Expects (ByRule function_parameters) c.args.trees.now c.fault_after.result.at) (sym c.fault_after.ensures.expected)
-    (c.parameters_signs.ensures c.fault_after.result.at parameter_start parameters_start refl lacks.place)
+    subst (Expects (ByRule function_parameters) c.args.trees.now fault.at) (sym c.fault_after.ensures.expected)
+    (c.parameters_signs.ensures fault.at parameter_start parameters_start refl lacks.place)

@@ -21,5 +21,6 @@ returns-clause-err c =
 pub returns-clause-expected : goal.returns-clause-expected
 returns-clause-expected c =
     let held = held_trees c.trees.result.now _ _ c.trees.ensures.value c.stream_ref.ensures.value in
-    subst (λ trees. IfErr c.whole_entry.result (λ fault. Expects (ByRule entry) trees fault.at fault.expected)) (sym held)
+    subst (λ trees. IfErr c.whole_entry.result (λ fault. Expects (ByRule entry) trees fault.at fault.expected))
+    (sym held)
     c.whole_entry.ensures.expected
