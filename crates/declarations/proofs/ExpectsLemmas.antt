@@ -105,9 +105,9 @@ table_expects start place trees left at set w s counted =
       whole = w.whole;
       counted = omega arith;
       classes = λ c. (
-          λ h. step_front start place (classes_of w.front) w.walks c (sym (s.classes c) ∙ h),
-          λ f. s.classes c ∙ front_step start place (classes_of w.front) w.walks c f,
-        );
+        λ h. step_front start place (classes_of w.front) w.walks c (sym (s.classes c) ∙ h),
+        λ f. s.classes c ∙ front_step start place (classes_of w.front) w.walks c f,
+      );
       end = (
         λ h. end_form start place (classes_of w.front) w.walks (sym s.end ∙ h),
         λ f. s.end ∙ form_end start place (classes_of w.front) w.walks f,

@@ -219,8 +219,10 @@ sees_neither a b trees first second seen e none d lone here s =
       moved = refl;
       stops = λ c more same.
           either_enter a b c
-          ∙ rw (lacks_first a trees first.left.now first.next f none c more same,
-          lacks_first b trees second.left.now second.next g lone c more same) refl;
+          ∙ rw (
+            lacks_first a trees first.left.now first.next f none c more same,
+            lacks_first b trees second.left.now second.next g lone c more same,
+          ) refl;
       signs = signs_as seen.next _ _ _ _ s
           (λ c. rw (f.signs.classes c, g.signs.classes c, one, other)
           (sym (ap is_some (either_enter a b c) ∙ some_or (move rules (flat a) c) (move rules (flat b) c))))

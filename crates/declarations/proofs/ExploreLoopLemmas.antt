@@ -146,8 +146,11 @@ repeats_end a trees left next one seen r e same here s =
       moved = r.moved;
       stops = λ c more is.
           move_append rules r.stack (Many a ∷ []) c
-          ∙ rw (r.stops c more is, r.ended,
-          many_lacks a c (lacks_first a left one.left.now one.next f same c more is)) refl;
+          ∙ rw (
+            r.stops c more is,
+            r.ended,
+            many_lacks a c (lacks_first a left one.left.now one.next f same c more is),
+          ) refl;
       signs = signs_as seen.next _ _ _ _ s
           (λ c. rw (r.signs.classes c, f.signs.classes c, untouched a left one.left.now one.next f same)
           (sym (goes_append rules r.stack (Many a ∷ []) c ∙ rw (r.ended, many_goes a c) refl)))

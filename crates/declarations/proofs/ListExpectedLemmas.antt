@@ -73,13 +73,38 @@ operator_comma c =
 
 mark_comma : (c : ℕ) (joint : Bool) → Only c (mark_class c joint)
 mark_comma c joint =
-    chosen_if (Only c) (mark_rows c joint) (choice (late_mark_rows c) (operator_class c))
-    (other c _ classes.LessJoint refl, (other c _ classes.Less refl, (other c _ classes.Greater refl, (λ h i. h,
-    (other c _ classes.Colon refl, (other c _ classes.Semicolon refl, (other c _ classes.Equals refl, tt)))))))
-    (chosen_if (Only c) (late_mark_rows c) (operator_class c)
-    (other c _ classes.Plus refl, (other c _ classes.Minus refl, (other c _ classes.Star refl,
-    (other c _ classes.And refl, (other c _ classes.Question refl, (other c _ classes.Exclamation refl,
-    (other c _ classes.Hash refl, (other c _ classes.Tilde refl, tt)))))))) (operator_comma c))
+    chosen_if (Only c) (mark_rows c joint) (choice (late_mark_rows c) (operator_class c)) (
+      other c _ classes.LessJoint refl,
+      (
+        other c _ classes.Less refl,
+        (
+          other c _ classes.Greater refl,
+          (
+            λ h i. h,
+            (other c _ classes.Colon refl, (other c _ classes.Semicolon refl, (other c _ classes.Equals refl, tt))),
+          ),
+        ),
+      ),
+    )
+    (chosen_if (Only c) (late_mark_rows c) (operator_class c) (
+      other c _ classes.Plus refl,
+      (
+        other c _ classes.Minus refl,
+        (
+          other c _ classes.Star refl,
+          (
+            other c _ classes.And refl,
+            (
+              other c _ classes.Question refl,
+              (
+                other c _ classes.Exclamation refl,
+                (other c _ classes.Hash refl, (other c _ classes.Tilde refl, tt)),
+              ),
+            ),
+          ),
+        ),
+      ),
+    ) (operator_comma c))
 
 comma_tree : (trees : List TokenTree) (sign : Sign) → FirstTree trees sign → sign.class ≡ classes.Comma
     → (left : List TokenTree) × IsPastComma trees left

@@ -171,122 +171,228 @@ pairs (term ∷ more) = (term.classes.now, term.text.now) ∷ pairs more
 -- all terms, in the order in which they are looked for
 abbrev pub terms : Terms
 terms =
-    (signs.Comma ∷ [], codes "`,`") ∷ ([], codes "the end") ∷ ((signs.Word words.Auto) ∷ (signs.Word words.Default)
-    ∷ (signs.Word words.Safe) ∷ (signs.Word words.Union) ∷ (signs.Word words.Plain) ∷ (signs.Keyword keywords.Async)
-    ∷ (signs.Keyword keywords.Const) ∷ (signs.Keyword keywords.Dyn) ∷ (signs.Keyword keywords.Enum) ∷ (signs.Keyword
-    keywords.Extern) ∷ (signs.Keyword keywords.Fn) ∷ (signs.Keyword keywords.For) ∷ (signs.Keyword keywords.Impl) ∷
-    (signs.Keyword keywords.Macro) ∷ (signs.Keyword keywords.Mod) ∷ (signs.Keyword keywords.Mut) ∷ (signs.Keyword
-    keywords.Pub) ∷ (signs.Keyword keywords.Static) ∷ (signs.Keyword keywords.Struct) ∷ (signs.Keyword
-    keywords.Trait) ∷ (signs.Keyword keywords.Type) ∷ (signs.Keyword keywords.Unsafe) ∷ (signs.Keyword keywords.Use)
-    ∷ (signs.Keyword keywords.Where) ∷ (signs.Keyword keywords.Other) ∷ signs.SelfValue ∷ signs.SelfType ∷
-    signs.Super ∷ signs.Crate ∷ signs.Underscore ∷ signs.Truth ∷ signs.Await ∷ signs.Jump ∷ signs.Literal ∷
-    signs.Lifetime ∷ signs.PathSeparator ∷ signs.Arrow ∷ signs.Bars ∷ signs.Restriction ∷ signs.Parentheses ∷
-    signs.Brackets ∷ signs.Braces ∷ signs.Invisible ∷ signs.Less ∷ signs.LessJoint ∷ signs.Greater ∷ signs.Equals ∷
-    signs.Minus ∷ signs.Star ∷ signs.And ∷ signs.Exclamation ∷ signs.Hash ∷ signs.Bar ∷ signs.Dot ∷ [],
-    codes "an expression") ∷ ((signs.Word words.Auto) ∷ (signs.Word words.Default) ∷ (signs.Word words.Safe) ∷
-    (signs.Word words.Union) ∷ (signs.Word words.Plain) ∷ (signs.Keyword keywords.Async) ∷ (signs.Keyword
-    keywords.Const) ∷ (signs.Keyword keywords.Dyn) ∷ (signs.Keyword keywords.Enum) ∷ (signs.Keyword keywords.Extern)
-    ∷ (signs.Keyword keywords.Fn) ∷ (signs.Keyword keywords.For) ∷ (signs.Keyword keywords.Impl) ∷ (signs.Keyword
-    keywords.Macro) ∷ (signs.Keyword keywords.Mod) ∷ (signs.Keyword keywords.Mut) ∷ (signs.Keyword keywords.Pub) ∷
-    (signs.Keyword keywords.Static) ∷ (signs.Keyword keywords.Struct) ∷ (signs.Keyword keywords.Trait) ∷
-    (signs.Keyword keywords.Type) ∷ (signs.Keyword keywords.Unsafe) ∷ (signs.Keyword keywords.Use) ∷ (signs.Keyword
-    keywords.Where) ∷ (signs.Keyword keywords.Other) ∷ signs.SelfValue ∷ signs.SelfType ∷ signs.Super ∷ signs.Crate
-    ∷ signs.Underscore ∷ signs.Truth ∷ signs.Await ∷ signs.Jump ∷ signs.Literal ∷ signs.Lifetime ∷
-    signs.PathSeparator ∷ signs.Bars ∷ signs.Restriction ∷ signs.Parentheses ∷ signs.Brackets ∷ signs.Braces ∷
-    signs.Invisible ∷ signs.Less ∷ signs.LessJoint ∷ signs.Minus ∷ signs.Star ∷ signs.And ∷ signs.Exclamation ∷
-    signs.Hash ∷ signs.Bar ∷ signs.Dot ∷ [], codes "an expression") ∷ ((signs.Word words.Auto) ∷ (signs.Word
-    words.Default) ∷ (signs.Word words.Safe) ∷ (signs.Word words.Union) ∷ (signs.Word words.Plain) ∷ (signs.Keyword
-    keywords.Async) ∷ (signs.Keyword keywords.Dyn) ∷ (signs.Keyword keywords.Extern) ∷ (signs.Keyword keywords.Fn) ∷
-    (signs.Keyword keywords.For) ∷ (signs.Keyword keywords.Impl) ∷ (signs.Keyword keywords.Mut) ∷ (signs.Keyword
-    keywords.Unsafe) ∷ (signs.Keyword keywords.Use) ∷ signs.SelfValue ∷ signs.SelfType ∷ signs.Super ∷ signs.Crate ∷
-    signs.Underscore ∷ signs.Truth ∷ signs.Literal ∷ signs.Lifetime ∷ signs.PathSeparator ∷ signs.Restriction ∷
-    signs.Parentheses ∷ signs.Brackets ∷ signs.Braces ∷ signs.Invisible ∷ signs.Less ∷ signs.LessJoint ∷ signs.Minus
-    ∷ signs.Star ∷ signs.And ∷ signs.Question ∷ signs.Exclamation ∷ signs.Tilde ∷ [], codes "an argument") ∷
-    ((signs.Word words.Auto) ∷ (signs.Word words.Default) ∷ (signs.Word words.Safe) ∷ (signs.Word words.Union) ∷
-    (signs.Word words.Plain) ∷ (signs.Keyword keywords.Async) ∷ (signs.Keyword keywords.Dyn) ∷ (signs.Keyword
-    keywords.Extern) ∷ (signs.Keyword keywords.Fn) ∷ (signs.Keyword keywords.For) ∷ (signs.Keyword keywords.Impl) ∷
-    (signs.Keyword keywords.Mut) ∷ (signs.Keyword keywords.Unsafe) ∷ (signs.Keyword keywords.Use) ∷ signs.SelfValue
-    ∷ signs.SelfType ∷ signs.Super ∷ signs.Crate ∷ signs.Underscore ∷ signs.Lifetime ∷ signs.PathSeparator ∷
-    signs.Restriction ∷ signs.Parentheses ∷ signs.Brackets ∷ signs.Invisible ∷ signs.Less ∷ signs.LessJoint ∷
-    signs.Star ∷ signs.And ∷ signs.Question ∷ signs.Exclamation ∷ signs.Tilde ∷ [], codes "a type") ∷ ((signs.Word
-    words.Auto) ∷ (signs.Word words.Default) ∷ (signs.Word words.Safe) ∷ (signs.Word words.Union) ∷ (signs.Word
-    words.Plain) ∷ (signs.Keyword keywords.Async) ∷ (signs.Keyword keywords.Const) ∷ (signs.Keyword keywords.Dyn) ∷
-    (signs.Keyword keywords.Enum) ∷ (signs.Keyword keywords.Extern) ∷ (signs.Keyword keywords.Fn) ∷ (signs.Keyword
-    keywords.For) ∷ (signs.Keyword keywords.Impl) ∷ (signs.Keyword keywords.Macro) ∷ (signs.Keyword keywords.Mod) ∷
-    (signs.Keyword keywords.Mut) ∷ (signs.Keyword keywords.Pub) ∷ (signs.Keyword keywords.Static) ∷ (signs.Keyword
-    keywords.Struct) ∷ (signs.Keyword keywords.Trait) ∷ (signs.Keyword keywords.Type) ∷ (signs.Keyword
-    keywords.Unsafe) ∷ (signs.Keyword keywords.Use) ∷ (signs.Keyword keywords.Where) ∷ (signs.Keyword
-    keywords.Other) ∷ signs.SelfValue ∷ signs.SelfType ∷ signs.Super ∷ signs.Crate ∷ signs.As ∷ signs.Truth ∷
-    signs.Await ∷ signs.Jump ∷ signs.Literal ∷ signs.PathSeparator ∷ signs.Minus ∷ [], codes "an entry") ∷
-    ((signs.Word words.Auto) ∷ (signs.Word words.Default) ∷ (signs.Word words.Safe) ∷ (signs.Word words.Union) ∷
-    (signs.Word words.Plain) ∷ (signs.Keyword keywords.Mut) ∷ (signs.Keyword keywords.Other) ∷ signs.SelfType ∷
-    signs.Super ∷ signs.Crate ∷ signs.Underscore ∷ signs.Truth ∷ signs.Literal ∷ signs.PathSeparator ∷
-    signs.Restriction ∷ signs.Parentheses ∷ signs.Brackets ∷ signs.Invisible ∷ signs.Less ∷ signs.LessJoint ∷
-    signs.Minus ∷ signs.And ∷ [], codes "a pattern") ∷ ((signs.Keyword keywords.Async) ∷ (signs.Keyword
-    keywords.Const) ∷ (signs.Keyword keywords.Dyn) ∷ (signs.Keyword keywords.Enum) ∷ (signs.Keyword keywords.Extern)
-    ∷ (signs.Keyword keywords.Fn) ∷ (signs.Keyword keywords.For) ∷ (signs.Keyword keywords.Impl) ∷ (signs.Keyword
-    keywords.Macro) ∷ (signs.Keyword keywords.Mod) ∷ (signs.Keyword keywords.Mut) ∷ (signs.Keyword keywords.Pub) ∷
-    (signs.Keyword keywords.Static) ∷ (signs.Keyword keywords.Struct) ∷ (signs.Keyword keywords.Trait) ∷
-    (signs.Keyword keywords.Type) ∷ (signs.Keyword keywords.Unsafe) ∷ (signs.Keyword keywords.Use) ∷ (signs.Keyword
-    keywords.Where) ∷ (signs.Keyword keywords.Other) ∷ signs.As ∷ signs.Await ∷ signs.Jump ∷ signs.PathSeparator ∷
-    signs.Arrow ∷ signs.LessEquals ∷ signs.Bars ∷ signs.Restriction ∷ signs.Parentheses ∷ signs.Brackets ∷
-    signs.Braces ∷ signs.Invisible ∷ signs.Less ∷ signs.LessJoint ∷ signs.Greater ∷ signs.Colon ∷ signs.Equals ∷
-    signs.Plus ∷ signs.Minus ∷ signs.Star ∷ signs.And ∷ signs.Question ∷ signs.Exclamation ∷ signs.Bar ∷ signs.Dot ∷
-    signs.Infix ∷ [], codes "an operator") ∷ ((signs.Word words.Auto) ∷ (signs.Word words.Default) ∷ (signs.Word
-    words.Safe) ∷ (signs.Word words.Union) ∷ (signs.Word words.Plain) ∷ (signs.Keyword keywords.Async) ∷
-    (signs.Keyword keywords.Const) ∷ (signs.Keyword keywords.Dyn) ∷ (signs.Keyword keywords.Enum) ∷ (signs.Keyword
-    keywords.Extern) ∷ (signs.Keyword keywords.Fn) ∷ (signs.Keyword keywords.For) ∷ (signs.Keyword keywords.Impl) ∷
-    (signs.Keyword keywords.Macro) ∷ (signs.Keyword keywords.Mod) ∷ (signs.Keyword keywords.Mut) ∷ (signs.Keyword
-    keywords.Pub) ∷ (signs.Keyword keywords.Static) ∷ (signs.Keyword keywords.Struct) ∷ (signs.Keyword
-    keywords.Trait) ∷ (signs.Keyword keywords.Type) ∷ (signs.Keyword keywords.Unsafe) ∷ (signs.Keyword keywords.Use)
-    ∷ (signs.Keyword keywords.Where) ∷ (signs.Keyword keywords.Other) ∷ signs.SelfValue ∷ signs.SelfType ∷
-    signs.Super ∷ signs.Crate ∷ signs.As ∷ signs.Await ∷ signs.Jump ∷ [], codes "an identifier") ∷ ((signs.Word
-    words.Auto) ∷ (signs.Word words.Default) ∷ (signs.Word words.Safe) ∷ (signs.Word words.Union) ∷ (signs.Word
-    words.Plain) ∷ (signs.Keyword keywords.Async) ∷ (signs.Keyword keywords.Const) ∷ (signs.Keyword keywords.Enum) ∷
-    (signs.Keyword keywords.Extern) ∷ (signs.Keyword keywords.Fn) ∷ (signs.Keyword keywords.Impl) ∷ (signs.Keyword
-    keywords.Macro) ∷ (signs.Keyword keywords.Mod) ∷ (signs.Keyword keywords.Pub) ∷ (signs.Keyword keywords.Static)
-    ∷ (signs.Keyword keywords.Struct) ∷ (signs.Keyword keywords.Trait) ∷ (signs.Keyword keywords.Type) ∷
-    (signs.Keyword keywords.Unsafe) ∷ (signs.Keyword keywords.Use) ∷ signs.SelfValue ∷ signs.Super ∷ signs.Crate ∷
-    signs.PathSeparator ∷ signs.Visibility ∷ signs.Invisible ∷ signs.Hash ∷ [], codes "an item") ∷ ((signs.Word
-    words.Auto) ∷ (signs.Word words.Default) ∷ (signs.Word words.Safe) ∷ (signs.Word words.Union) ∷ (signs.Keyword
-    keywords.Async) ∷ (signs.Keyword keywords.Const) ∷ (signs.Keyword keywords.Enum) ∷ (signs.Keyword
-    keywords.Extern) ∷ (signs.Keyword keywords.Fn) ∷ (signs.Keyword keywords.Impl) ∷ (signs.Keyword keywords.Macro)
-    ∷ (signs.Keyword keywords.Mod) ∷ (signs.Keyword keywords.Static) ∷ (signs.Keyword keywords.Struct) ∷
-    (signs.Keyword keywords.Trait) ∷ (signs.Keyword keywords.Type) ∷ (signs.Keyword keywords.Unsafe) ∷
-    (signs.Keyword keywords.Use) ∷ [], codes "an item") ∷ ((signs.Word words.Auto) ∷ (signs.Word words.Default) ∷
-    (signs.Word words.Safe) ∷ (signs.Word words.Union) ∷ (signs.Word words.Plain) ∷ signs.SelfValue ∷ signs.Super ∷
-    signs.Crate ∷ [], codes "a segment of a path") ∷ ((signs.Word words.Auto) ∷ (signs.Word words.Default) ∷
-    (signs.Word words.Safe) ∷ (signs.Word words.Union) ∷ (signs.Word words.Plain) ∷ [], codes "a name") ∷
+    (signs.Comma ∷ [], codes "`,`") ∷ ([], codes "the end") ∷ (
+      (signs.Word words.Auto) ∷ (signs.Word words.Default)
+          ∷ (signs.Word words.Safe) ∷ (signs.Word words.Union) ∷ (signs.Word words.Plain) ∷
+          (signs.Keyword keywords.Async)
+          ∷ (signs.Keyword keywords.Const) ∷ (signs.Keyword keywords.Dyn) ∷ (signs.Keyword keywords.Enum) ∷
+          (signs.Keyword
+          keywords.Extern) ∷ (signs.Keyword keywords.Fn) ∷ (signs.Keyword keywords.For) ∷
+          (signs.Keyword keywords.Impl) ∷
+          (signs.Keyword keywords.Macro) ∷ (signs.Keyword keywords.Mod) ∷ (signs.Keyword keywords.Mut) ∷ (signs.Keyword
+          keywords.Pub) ∷ (signs.Keyword keywords.Static) ∷ (signs.Keyword keywords.Struct) ∷ (signs.Keyword
+          keywords.Trait) ∷ (signs.Keyword keywords.Type) ∷ (signs.Keyword keywords.Unsafe) ∷
+          (signs.Keyword keywords.Use)
+          ∷ (signs.Keyword keywords.Where) ∷ (signs.Keyword keywords.Other) ∷ signs.SelfValue ∷ signs.SelfType ∷
+          signs.Super ∷ signs.Crate ∷ signs.Underscore ∷ signs.Truth ∷ signs.Await ∷ signs.Jump ∷ signs.Literal ∷
+          signs.Lifetime ∷ signs.PathSeparator ∷ signs.Arrow ∷ signs.Bars ∷ signs.Restriction ∷ signs.Parentheses ∷
+          signs.Brackets ∷ signs.Braces ∷ signs.Invisible ∷ signs.Less ∷ signs.LessJoint ∷ signs.Greater
+          ∷ signs.Equals ∷
+          signs.Minus ∷ signs.Star ∷ signs.And ∷ signs.Exclamation ∷ signs.Hash ∷ signs.Bar ∷ signs.Dot ∷ [],
+      codes "an expression",
+    ) ∷ (
+      (signs.Word words.Auto) ∷ (signs.Word words.Default) ∷ (signs.Word words.Safe) ∷
+          (signs.Word words.Union) ∷ (signs.Word words.Plain) ∷ (signs.Keyword keywords.Async) ∷ (signs.Keyword
+          keywords.Const) ∷ (signs.Keyword keywords.Dyn) ∷ (signs.Keyword keywords.Enum) ∷
+          (signs.Keyword keywords.Extern)
+          ∷ (signs.Keyword keywords.Fn) ∷ (signs.Keyword keywords.For) ∷ (signs.Keyword keywords.Impl) ∷ (signs.Keyword
+          keywords.Macro) ∷ (signs.Keyword keywords.Mod) ∷ (signs.Keyword keywords.Mut) ∷ (signs.Keyword keywords.Pub) ∷
+          (signs.Keyword keywords.Static) ∷ (signs.Keyword keywords.Struct) ∷ (signs.Keyword keywords.Trait) ∷
+          (signs.Keyword keywords.Type) ∷ (signs.Keyword keywords.Unsafe) ∷ (signs.Keyword keywords.Use) ∷
+          (signs.Keyword
+          keywords.Where) ∷ (signs.Keyword keywords.Other) ∷ signs.SelfValue ∷ signs.SelfType ∷ signs.Super
+          ∷ signs.Crate
+          ∷ signs.Underscore ∷ signs.Truth ∷ signs.Await ∷ signs.Jump ∷ signs.Literal ∷ signs.Lifetime ∷
+          signs.PathSeparator ∷ signs.Bars ∷ signs.Restriction ∷ signs.Parentheses ∷ signs.Brackets ∷ signs.Braces ∷
+          signs.Invisible ∷ signs.Less ∷ signs.LessJoint ∷ signs.Minus ∷ signs.Star ∷ signs.And ∷ signs.Exclamation ∷
+          signs.Hash ∷ signs.Bar ∷ signs.Dot ∷ [],
+      codes "an expression",
+    ) ∷ (
+      (signs.Word words.Auto) ∷ (signs.Word
+          words.Default) ∷ (signs.Word words.Safe) ∷ (signs.Word words.Union) ∷ (signs.Word words.Plain) ∷
+          (signs.Keyword
+          keywords.Async) ∷ (signs.Keyword keywords.Dyn) ∷ (signs.Keyword keywords.Extern) ∷
+          (signs.Keyword keywords.Fn) ∷
+          (signs.Keyword keywords.For) ∷ (signs.Keyword keywords.Impl) ∷ (signs.Keyword keywords.Mut) ∷ (signs.Keyword
+          keywords.Unsafe) ∷ (signs.Keyword keywords.Use) ∷ signs.SelfValue ∷ signs.SelfType ∷ signs.Super
+          ∷ signs.Crate ∷
+          signs.Underscore ∷ signs.Truth ∷ signs.Literal ∷ signs.Lifetime ∷ signs.PathSeparator ∷ signs.Restriction ∷
+          signs.Parentheses ∷ signs.Brackets ∷ signs.Braces ∷ signs.Invisible ∷ signs.Less ∷ signs.LessJoint
+          ∷ signs.Minus
+          ∷ signs.Star ∷ signs.And ∷ signs.Question ∷ signs.Exclamation ∷ signs.Tilde ∷ [],
+      codes "an argument",
+    ) ∷ (
+      (signs.Word words.Auto) ∷ (signs.Word words.Default) ∷ (signs.Word words.Safe) ∷ (signs.Word words.Union) ∷
+          (signs.Word words.Plain) ∷ (signs.Keyword keywords.Async) ∷ (signs.Keyword keywords.Dyn) ∷ (signs.Keyword
+          keywords.Extern) ∷ (signs.Keyword keywords.Fn) ∷ (signs.Keyword keywords.For) ∷
+          (signs.Keyword keywords.Impl) ∷
+          (signs.Keyword keywords.Mut) ∷ (signs.Keyword keywords.Unsafe) ∷ (signs.Keyword keywords.Use)
+          ∷ signs.SelfValue
+          ∷ signs.SelfType ∷ signs.Super ∷ signs.Crate ∷ signs.Underscore ∷ signs.Lifetime ∷ signs.PathSeparator ∷
+          signs.Restriction ∷ signs.Parentheses ∷ signs.Brackets ∷ signs.Invisible ∷ signs.Less ∷ signs.LessJoint ∷
+          signs.Star ∷ signs.And ∷ signs.Question ∷ signs.Exclamation ∷ signs.Tilde ∷ [],
+      codes "a type",
+    ) ∷ (
+      (signs.Word
+          words.Auto) ∷ (signs.Word words.Default) ∷ (signs.Word words.Safe) ∷ (signs.Word words.Union) ∷ (signs.Word
+          words.Plain) ∷ (signs.Keyword keywords.Async) ∷ (signs.Keyword keywords.Const) ∷
+          (signs.Keyword keywords.Dyn) ∷
+          (signs.Keyword keywords.Enum) ∷ (signs.Keyword keywords.Extern) ∷ (signs.Keyword keywords.Fn) ∷ (signs.Keyword
+          keywords.For) ∷ (signs.Keyword keywords.Impl) ∷ (signs.Keyword keywords.Macro) ∷
+          (signs.Keyword keywords.Mod) ∷
+          (signs.Keyword keywords.Mut) ∷ (signs.Keyword keywords.Pub) ∷ (signs.Keyword keywords.Static) ∷ (signs.Keyword
+          keywords.Struct) ∷ (signs.Keyword keywords.Trait) ∷ (signs.Keyword keywords.Type) ∷ (signs.Keyword
+          keywords.Unsafe) ∷ (signs.Keyword keywords.Use) ∷ (signs.Keyword keywords.Where) ∷ (signs.Keyword
+          keywords.Other) ∷ signs.SelfValue ∷ signs.SelfType ∷ signs.Super ∷ signs.Crate ∷ signs.As ∷ signs.Truth ∷
+          signs.Await ∷ signs.Jump ∷ signs.Literal ∷ signs.PathSeparator ∷ signs.Minus ∷ [],
+      codes "an entry",
+    ) ∷ (
+      (signs.Word words.Auto) ∷ (signs.Word words.Default) ∷ (signs.Word words.Safe) ∷ (signs.Word words.Union) ∷
+          (signs.Word words.Plain) ∷ (signs.Keyword keywords.Mut) ∷ (signs.Keyword keywords.Other) ∷ signs.SelfType ∷
+          signs.Super ∷ signs.Crate ∷ signs.Underscore ∷ signs.Truth ∷ signs.Literal ∷ signs.PathSeparator ∷
+          signs.Restriction ∷ signs.Parentheses ∷ signs.Brackets ∷ signs.Invisible ∷ signs.Less ∷ signs.LessJoint ∷
+          signs.Minus ∷ signs.And ∷ [],
+      codes "a pattern",
+    ) ∷ (
+      (signs.Keyword keywords.Async) ∷ (signs.Keyword
+          keywords.Const) ∷ (signs.Keyword keywords.Dyn) ∷ (signs.Keyword keywords.Enum) ∷
+          (signs.Keyword keywords.Extern)
+          ∷ (signs.Keyword keywords.Fn) ∷ (signs.Keyword keywords.For) ∷ (signs.Keyword keywords.Impl) ∷ (signs.Keyword
+          keywords.Macro) ∷ (signs.Keyword keywords.Mod) ∷ (signs.Keyword keywords.Mut) ∷ (signs.Keyword keywords.Pub) ∷
+          (signs.Keyword keywords.Static) ∷ (signs.Keyword keywords.Struct) ∷ (signs.Keyword keywords.Trait) ∷
+          (signs.Keyword keywords.Type) ∷ (signs.Keyword keywords.Unsafe) ∷ (signs.Keyword keywords.Use) ∷
+          (signs.Keyword
+          keywords.Where) ∷ (signs.Keyword keywords.Other) ∷ signs.As ∷ signs.Await ∷ signs.Jump ∷ signs.PathSeparator ∷
+          signs.Arrow ∷ signs.LessEquals ∷ signs.Bars ∷ signs.Restriction ∷ signs.Parentheses ∷ signs.Brackets ∷
+          signs.Braces ∷ signs.Invisible ∷ signs.Less ∷ signs.LessJoint ∷ signs.Greater ∷ signs.Colon ∷ signs.Equals ∷
+          signs.Plus ∷ signs.Minus ∷ signs.Star ∷ signs.And ∷ signs.Question ∷ signs.Exclamation ∷ signs.Bar
+          ∷ signs.Dot ∷
+          signs.Infix ∷ [],
+      codes "an operator",
+    ) ∷ (
+      (signs.Word words.Auto) ∷ (signs.Word words.Default) ∷ (signs.Word
+          words.Safe) ∷ (signs.Word words.Union) ∷ (signs.Word words.Plain) ∷ (signs.Keyword keywords.Async) ∷
+          (signs.Keyword keywords.Const) ∷ (signs.Keyword keywords.Dyn) ∷ (signs.Keyword keywords.Enum) ∷ (signs.Keyword
+          keywords.Extern) ∷ (signs.Keyword keywords.Fn) ∷ (signs.Keyword keywords.For) ∷
+          (signs.Keyword keywords.Impl) ∷
+          (signs.Keyword keywords.Macro) ∷ (signs.Keyword keywords.Mod) ∷ (signs.Keyword keywords.Mut) ∷ (signs.Keyword
+          keywords.Pub) ∷ (signs.Keyword keywords.Static) ∷ (signs.Keyword keywords.Struct) ∷ (signs.Keyword
+          keywords.Trait) ∷ (signs.Keyword keywords.Type) ∷ (signs.Keyword keywords.Unsafe) ∷
+          (signs.Keyword keywords.Use)
+          ∷ (signs.Keyword keywords.Where) ∷ (signs.Keyword keywords.Other) ∷ signs.SelfValue ∷ signs.SelfType ∷
+          signs.Super ∷ signs.Crate ∷ signs.As ∷ signs.Await ∷ signs.Jump ∷ [],
+      codes "an identifier",
+    ) ∷ (
+      (signs.Word
+          words.Auto) ∷ (signs.Word words.Default) ∷ (signs.Word words.Safe) ∷ (signs.Word words.Union) ∷ (signs.Word
+          words.Plain) ∷ (signs.Keyword keywords.Async) ∷ (signs.Keyword keywords.Const) ∷
+          (signs.Keyword keywords.Enum) ∷
+          (signs.Keyword keywords.Extern) ∷ (signs.Keyword keywords.Fn) ∷ (signs.Keyword keywords.Impl) ∷ (signs.Keyword
+          keywords.Macro) ∷ (signs.Keyword keywords.Mod) ∷ (signs.Keyword keywords.Pub) ∷
+          (signs.Keyword keywords.Static)
+          ∷ (signs.Keyword keywords.Struct) ∷ (signs.Keyword keywords.Trait) ∷ (signs.Keyword keywords.Type) ∷
+          (signs.Keyword keywords.Unsafe) ∷ (signs.Keyword keywords.Use) ∷ signs.SelfValue ∷ signs.Super ∷ signs.Crate ∷
+          signs.PathSeparator ∷ signs.Visibility ∷ signs.Invisible ∷ signs.Hash ∷ [],
+      codes "an item",
+    ) ∷ (
+      (signs.Word
+          words.Auto) ∷ (signs.Word words.Default) ∷ (signs.Word words.Safe) ∷ (signs.Word words.Union) ∷ (signs.Keyword
+          keywords.Async) ∷ (signs.Keyword keywords.Const) ∷ (signs.Keyword keywords.Enum) ∷ (signs.Keyword
+          keywords.Extern) ∷ (signs.Keyword keywords.Fn) ∷ (signs.Keyword keywords.Impl) ∷
+          (signs.Keyword keywords.Macro)
+          ∷ (signs.Keyword keywords.Mod) ∷ (signs.Keyword keywords.Static) ∷ (signs.Keyword keywords.Struct) ∷
+          (signs.Keyword keywords.Trait) ∷ (signs.Keyword keywords.Type) ∷ (signs.Keyword keywords.Unsafe) ∷
+          (signs.Keyword keywords.Use) ∷ [],
+      codes "an item",
+    ) ∷ (
+      (signs.Word words.Auto) ∷ (signs.Word words.Default) ∷
+          (signs.Word words.Safe) ∷ (signs.Word words.Union) ∷ (signs.Word words.Plain) ∷ signs.SelfValue
+          ∷ signs.Super ∷
+          signs.Crate ∷ [],
+      codes "a segment of a path",
+    ) ∷ (
+      (signs.Word words.Auto) ∷ (signs.Word words.Default) ∷
+          (signs.Word words.Safe) ∷ (signs.Word words.Union) ∷ (signs.Word words.Plain) ∷ [],
+      codes "a name",
+    ) ∷
     ((signs.Keyword keywords.Pub) ∷ signs.Visibility ∷ [], codes "a visibility") ∷ (signs.Colon ∷ [], codes "`:`") ∷
     (signs.Equals ∷ [], codes "`=`") ∷ (signs.Semicolon ∷ [], codes "`;`") ∷ (signs.Greater ∷ [], codes "`>`") ∷
-    ((signs.Keyword keywords.Where) ∷ [], codes "`where`") ∷ (signs.Braces ∷ [], codes "braces") ∷
-    (signs.PathSeparator ∷ signs.Arrow ∷ signs.Restriction ∷ signs.Parentheses ∷ signs.Less ∷ signs.LessJoint ∷
-    signs.Plus ∷ signs.Exclamation ∷ [], codes "more of the type") ∷ (signs.Restriction ∷ signs.Parentheses ∷ [],
-    codes "parentheses") ∷ (signs.Brackets ∷ [], codes "brackets") ∷ (signs.Less ∷ signs.LessJoint ∷ [],
-    codes "`<`") ∷ (signs.Arrow ∷ [], codes "`->`") ∷ (signs.Hash ∷ [], codes "an attribute") ∷ (signs.HashBang ∷
-    [], codes "an inner attribute") ∷ (signs.Literal ∷ [], codes "a literal") ∷ (signs.Lifetime ∷ [],
-    codes "a lifetime") ∷ ((signs.Keyword keywords.Async) ∷ [], codes "`async`") ∷ ((signs.Keyword keywords.Const) ∷
-    [], codes "`const`") ∷ ((signs.Keyword keywords.Dyn) ∷ [], codes "`dyn`") ∷ ((signs.Keyword keywords.Enum) ∷ [],
-    codes "`enum`") ∷ ((signs.Keyword keywords.Extern) ∷ [], codes "`extern`") ∷ ((signs.Keyword keywords.Fn) ∷ [],
-    codes "`fn`") ∷ ((signs.Keyword keywords.For) ∷ [], codes "`for`") ∷ ((signs.Keyword keywords.Impl) ∷ [],
-    codes "`impl`") ∷ ((signs.Keyword keywords.Macro) ∷ [], codes "`macro`") ∷ ((signs.Keyword keywords.Mod) ∷ [],
-    codes "`mod`") ∷ ((signs.Keyword keywords.Mut) ∷ [], codes "`mut`") ∷ ((signs.Keyword keywords.Pub) ∷ [],
-    codes "`pub`") ∷ ((signs.Keyword keywords.Static) ∷ [], codes "`static`") ∷ ((signs.Keyword keywords.Struct) ∷
-    [], codes "`struct`") ∷ ((signs.Keyword keywords.Trait) ∷ [], codes "`trait`") ∷ ((signs.Keyword keywords.Type)
-    ∷ [], codes "`type`") ∷ ((signs.Keyword keywords.Unsafe) ∷ [], codes "`unsafe`") ∷ ((signs.Keyword keywords.Use)
-    ∷ [], codes "`use`") ∷ ((signs.Word words.Auto) ∷ [], codes "`auto`") ∷ ((signs.Word words.Default) ∷ [],
-    codes "`default`") ∷ ((signs.Word words.Safe) ∷ [], codes "`safe`") ∷ ((signs.Word words.Union) ∷ [],
-    codes "`union`") ∷ ((signs.Word words.Plain) ∷ [], codes "another word") ∷ ((signs.Keyword keywords.Other) ∷ [],
-    codes "another keyword") ∷ (signs.SelfValue ∷ [], codes "`self`") ∷ (signs.SelfType ∷ [], codes "`Self`") ∷
+    ((signs.Keyword keywords.Where) ∷ [], codes "`where`") ∷ (signs.Braces ∷ [], codes "braces") ∷ (
+      signs.PathSeparator ∷ signs.Arrow ∷ signs.Restriction ∷ signs.Parentheses ∷ signs.Less ∷ signs.LessJoint ∷
+          signs.Plus ∷ signs.Exclamation ∷ [],
+      codes "more of the type",
+    ) ∷ (
+      signs.Restriction ∷ signs.Parentheses ∷ [],
+      codes "parentheses",
+    ) ∷ (signs.Brackets ∷ [], codes "brackets") ∷ (
+      signs.Less ∷ signs.LessJoint ∷ [],
+      codes "`<`",
+    ) ∷ (signs.Arrow ∷ [], codes "`->`") ∷ (signs.Hash ∷ [], codes "an attribute") ∷ (
+      signs.HashBang ∷
+          [],
+      codes "an inner attribute",
+    ) ∷ (signs.Literal ∷ [], codes "a literal") ∷ (
+      signs.Lifetime ∷ [],
+      codes "a lifetime",
+    ) ∷ ((signs.Keyword keywords.Async) ∷ [], codes "`async`") ∷ (
+      (signs.Keyword keywords.Const) ∷
+          [],
+      codes "`const`",
+    ) ∷ ((signs.Keyword keywords.Dyn) ∷ [], codes "`dyn`") ∷ (
+      (signs.Keyword keywords.Enum) ∷ [],
+      codes "`enum`",
+    ) ∷ ((signs.Keyword keywords.Extern) ∷ [], codes "`extern`") ∷ (
+      (signs.Keyword keywords.Fn) ∷ [],
+      codes "`fn`",
+    ) ∷ ((signs.Keyword keywords.For) ∷ [], codes "`for`") ∷ (
+      (signs.Keyword keywords.Impl) ∷ [],
+      codes "`impl`",
+    ) ∷ ((signs.Keyword keywords.Macro) ∷ [], codes "`macro`") ∷ (
+      (signs.Keyword keywords.Mod) ∷ [],
+      codes "`mod`",
+    ) ∷ ((signs.Keyword keywords.Mut) ∷ [], codes "`mut`") ∷ (
+      (signs.Keyword keywords.Pub) ∷ [],
+      codes "`pub`",
+    ) ∷ ((signs.Keyword keywords.Static) ∷ [], codes "`static`") ∷ (
+      (signs.Keyword keywords.Struct) ∷
+          [],
+      codes "`struct`",
+    ) ∷ ((signs.Keyword keywords.Trait) ∷ [], codes "`trait`") ∷ (
+      (signs.Keyword keywords.Type)
+          ∷ [],
+      codes "`type`",
+    ) ∷ ((signs.Keyword keywords.Unsafe) ∷ [], codes "`unsafe`") ∷ (
+      (signs.Keyword keywords.Use)
+          ∷ [],
+      codes "`use`",
+    ) ∷ ((signs.Word words.Auto) ∷ [], codes "`auto`") ∷ (
+      (signs.Word words.Default) ∷ [],
+      codes "`default`",
+    ) ∷ ((signs.Word words.Safe) ∷ [], codes "`safe`") ∷ (
+      (signs.Word words.Union) ∷ [],
+      codes "`union`",
+    ) ∷ ((signs.Word words.Plain) ∷ [], codes "another word") ∷ (
+      (signs.Keyword keywords.Other) ∷ [],
+      codes "another keyword",
+    ) ∷ (signs.SelfValue ∷ [], codes "`self`") ∷ (signs.SelfType ∷ [], codes "`Self`") ∷
     (signs.Super ∷ [], codes "`super`") ∷ (signs.Crate ∷ [], codes "`crate`") ∷ (signs.Underscore ∷ [], codes "`_`")
     ∷ (signs.As ∷ [], codes "`as`") ∷ (signs.Truth ∷ [], codes "`true`") ∷ (signs.Await ∷ [], codes "`await`") ∷
-    (signs.Jump ∷ [], codes "`return`") ∷ (signs.PathSeparator ∷ [], codes "`::`") ∷ (signs.LessEquals ∷ [],
-    codes "`<=`") ∷ (signs.Bars ∷ [], codes "`||`") ∷ (signs.Restriction ∷ [], codes "a restriction") ∷
+    (signs.Jump ∷ [], codes "`return`") ∷ (signs.PathSeparator ∷ [], codes "`::`") ∷ (
+      signs.LessEquals ∷ [],
+      codes "`<=`",
+    ) ∷ (signs.Bars ∷ [], codes "`||`") ∷ (signs.Restriction ∷ [], codes "a restriction") ∷
     (signs.Parentheses ∷ [], codes "other parentheses") ∷ (signs.Visibility ∷ [], codes "a visibility") ∷
-    (signs.Invisible ∷ [], codes "a group without delimiters") ∷ (signs.Less ∷ [], codes "`<`") ∷ (signs.LessJoint ∷
-    [], codes "`<`") ∷ (signs.Plus ∷ [], codes "`+`") ∷ (signs.Minus ∷ [], codes "`-`") ∷ (signs.Star ∷ [],
-    codes "`*`") ∷ (signs.And ∷ [], codes "`&`") ∷ (signs.Question ∷ [], codes "`?`") ∷ (signs.Exclamation ∷ [],
-    codes "`!`") ∷ (signs.Tilde ∷ [], codes "`~`") ∷ (signs.Bar ∷ [], codes "`|`") ∷ (signs.Dot ∷ [], codes "`.`") ∷
+    (signs.Invisible ∷ [], codes "a group without delimiters") ∷ (signs.Less ∷ [], codes "`<`") ∷ (
+      signs.LessJoint ∷
+          [],
+      codes "`<`",
+    ) ∷ (signs.Plus ∷ [], codes "`+`") ∷ (signs.Minus ∷ [], codes "`-`") ∷ (
+      signs.Star ∷ [],
+      codes "`*`",
+    ) ∷ (signs.And ∷ [], codes "`&`") ∷ (signs.Question ∷ [], codes "`?`") ∷ (
+      signs.Exclamation ∷ [],
+      codes "`!`",
+    ) ∷ (signs.Tilde ∷ [], codes "`~`") ∷ (signs.Bar ∷ [], codes "`|`") ∷ (signs.Dot ∷ [], codes "`.`") ∷
     (signs.Infix ∷ [], codes "an operator") ∷ (signs.Mark ∷ [], codes "another mark") ∷ []
 
 -- the set without the bit

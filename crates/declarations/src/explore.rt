@@ -268,7 +268,13 @@ fn past_comma(trees: &[TokenTree]) -> Option<&[TokenTree]>
     ensures none { IfNone result (heads (one signs.Comma) (classes_in trees.now) ≡ false) }
 {
     match first_sign(trees) {
-        Some((class, rest)) => { if is(Class::Comma, class) { Some(rest) } else { None } }
+        Some((class, rest)) => {
+            if is(Class::Comma, class) {
+                Some(rest)
+            } else {
+                None
+            }
+        }
         None => None,
     }
 }

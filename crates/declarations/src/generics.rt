@@ -86,7 +86,10 @@ pub fn within_generics(generics: &[TokenTree]) -> Result<&[TokenTree], Fault>
 fn opening() -> Expected
     ensures { HasSigns result (λ class. is signs.LessJoint class || (is signs.Less class || false)) true }
 {
-    Expected::nothing().with(Class::Less).with(Class::LessJoint).with_end()
+    Expected::nothing()
+        .with(Class::Less)
+        .with(Class::LessJoint)
+        .with_end()
 }
 
 /// `where` or the end.
@@ -94,7 +97,9 @@ fn opening() -> Expected
 fn clause_start() -> Expected
     ensures { HasSigns result (λ class. is (signs.Keyword keywords.Where) class || false) true }
 {
-    Expected::nothing().with(Class::Keyword(Keyword::Where)).with_end()
+    Expected::nothing()
+        .with(Class::Keyword(Keyword::Where))
+        .with_end()
 }
 
 /// Returns the trees after the `where` of an item's where clause.

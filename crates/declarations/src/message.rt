@@ -20,8 +20,7 @@ impl Fault {
     pub fn to_compile_error(&self, alloc: Global) -> Result<TokenStream, AllocError>
         ensures { IfOk result (λ stream.
             stream ≡ forest
-                (compile_error (chars (fault_text self.now.span self.now.expected)) (told_at self.now.span)))
-        }
+            (compile_error (chars (fault_text self.now.span self.now.expected)) (told_at self.now.span))) }
     {
         let span = match self.span {
             Some(span) => span,

@@ -159,9 +159,8 @@ pub(crate) fn passes(test: Test, class: Class) -> bool
         Test::Round => is_round(class),
         Test::Pattern => is_pattern(class),
         Test::PatternAfterAnd => is_pattern(class) && !is(Class::Keyword(Keyword::Mut), class),
-        Test::PatternFirst =>
-            is_pattern(class)
-                && !(is(Class::Keyword(Keyword::Mut), class) || is(Class::And, class)),
+        Test::PatternFirst => is_pattern(class)
+            && !(is(Class::Keyword(Keyword::Mut), class) || is(Class::And, class)),
         Test::InPattern => continues(class),
     }
 }
@@ -211,259 +210,380 @@ pub(crate) fn admits(guard: Guard, class: Class) -> bool
 
 // ---- the rules of functions
 
-/// One rule after another.
-macro_rules! seq {
-    ($only:expr) => { $only };
-    ($first:expr, $($more:expr),+) => { Syntax::Then(&$first, &seq!($($more),+)) };
-}
-
-/// One of several rules.
-macro_rules! alt {
-    ($only:expr) => { $only };
-    ($first:expr, $($more:expr),+) => { Syntax::Either(&$first, &alt!($($more),+)) };
-}
-
-/// A rule or nothing.
-macro_rules! perhaps {
-    ($rule:expr) => { Syntax::Either(&$rule, &Syntax::Nothing) };
-}
-
-/// A sign of this class.
-macro_rules! one {
-    ($class:ident) => { Syntax::Sign(Test::Is(Class::$class)) };
-}
-
-/// A keyword.
-macro_rules! key {
-    ($keyword:ident) => { Syntax::Sign(Test::Is(Class::Keyword(Keyword::$keyword))) };
-}
-
-/// A label.
-macro_rules! mark {
-    ($label:ident) => { Syntax::Mark(Label::$label) };
-}
-
 /// The path of an entry.
-const ENTRY_PATH: Syntax<'static> = seq!(
-    perhaps!(one!(PathSeparator)),
-    Syntax::Sign(Test::Segment),
-    Syntax::Many(&seq!(one!(PathSeparator), Syntax::Sign(Test::Segment)))
+const ENTRY_PATH: Syntax<'static> = Syntax::Then(
+    &Syntax::Either(
+        &Syntax::Sign(Test::Is(Class::PathSeparator)),
+        &Syntax::Nothing,
+    ),
+    &Syntax::Then(
+        &Syntax::Sign(Test::Segment),
+        &Syntax::Many(&Syntax::Then(
+            &Syntax::Sign(Test::Is(Class::PathSeparator)),
+            &Syntax::Sign(Test::Segment),
+        )),
+    ),
 );
 
 /// What follows the path of an entry: a list, a value or nothing.
-const ENTRY_REST: Syntax<'static> = perhaps!(alt!(
-    seq!(mark!(Body), Syntax::Sign(Test::List)),
-    seq!(mark!(Rest), one!(Equals), mark!(Value), Syntax::Guarded(Guard::Value))
-));
+const ENTRY_REST: Syntax<'static> = Syntax::Either(
+    &Syntax::Either(
+        &Syntax::Then(&Syntax::Mark(Label::Body), &Syntax::Sign(Test::List)),
+        &Syntax::Then(
+            &Syntax::Mark(Label::Rest),
+            &Syntax::Then(
+                &Syntax::Sign(Test::Is(Class::Equals)),
+                &Syntax::Then(&Syntax::Mark(Label::Value), &Syntax::Guarded(Guard::Value)),
+            ),
+        ),
+    ),
+    &Syntax::Nothing,
+);
 
 /// A literal as an entry.
-const LITERAL_ENTRY: Syntax<'static> = seq!(
-    mark!(Value),
-    alt!(
-        seq!(one!(Minus), one!(Literal)),
-        Syntax::Sign(Test::Literal)
-    )
+const LITERAL_ENTRY: Syntax<'static> = Syntax::Then(
+    &Syntax::Mark(Label::Value),
+    &Syntax::Either(
+        &Syntax::Then(
+            &Syntax::Sign(Test::Is(Class::Minus)),
+            &Syntax::Sign(Test::Is(Class::Literal)),
+        ),
+        &Syntax::Sign(Test::Literal),
+    ),
 );
 
 /// An entry of an attribute's list.
-pub(crate) const ENTRY: Syntax<'static> = alt!(
-    LITERAL_ENTRY,
-    seq!(mark!(Named), ENTRY_PATH, ENTRY_REST)
+pub(crate) const ENTRY: Syntax<'static> = Syntax::Either(
+    &LITERAL_ENTRY,
+    &Syntax::Then(
+        &Syntax::Mark(Label::Named),
+        &Syntax::Then(&ENTRY_PATH, &ENTRY_REST),
+    ),
 );
 
 /// The qualifiers before `fn`.
-const QUALIFIERS: Syntax<'static> = seq!(
-    perhaps!(Syntax::Sign(Test::Is(Class::Word(Word::Default)))),
-    perhaps!(key!(Const)),
-    perhaps!(key!(Async)),
-    perhaps!(Syntax::Sign(Test::Safe)),
-    perhaps!(seq!(key!(Extern), perhaps!(one!(Literal))))
+const QUALIFIERS: Syntax<'static> = Syntax::Then(
+    &Syntax::Either(
+        &Syntax::Sign(Test::Is(Class::Word(Word::Default))),
+        &Syntax::Nothing,
+    ),
+    &Syntax::Then(
+        &Syntax::Either(
+            &Syntax::Sign(Test::Is(Class::Keyword(Keyword::Const))),
+            &Syntax::Nothing,
+        ),
+        &Syntax::Then(
+            &Syntax::Either(
+                &Syntax::Sign(Test::Is(Class::Keyword(Keyword::Async))),
+                &Syntax::Nothing,
+            ),
+            &Syntax::Then(
+                &Syntax::Either(&Syntax::Sign(Test::Safe), &Syntax::Nothing),
+                &Syntax::Either(
+                    &Syntax::Then(
+                        &Syntax::Sign(Test::Is(Class::Keyword(Keyword::Extern))),
+                        &Syntax::Either(&Syntax::Sign(Test::Is(Class::Literal)), &Syntax::Nothing),
+                    ),
+                    &Syntax::Nothing,
+                ),
+            ),
+        ),
+    ),
 );
 
 /// A body in braces, or `;`.
-const BODY_END: Syntax<'static> = alt!(
-    seq!(mark!(Body), one!(Braces)),
-    seq!(mark!(Rest), one!(Semicolon))
+const BODY_END: Syntax<'static> = Syntax::Either(
+    &Syntax::Then(
+        &Syntax::Mark(Label::Body),
+        &Syntax::Sign(Test::Is(Class::Braces)),
+    ),
+    &Syntax::Then(
+        &Syntax::Mark(Label::Rest),
+        &Syntax::Sign(Test::Is(Class::Semicolon)),
+    ),
 );
 
 /// What follows the name of a function and its generic parameters.
-const FUNCTION_REST: Syntax<'static> = seq!(
-    mark!(Fields),
-    Syntax::Sign(Test::Round),
-    seq!(
-        perhaps!(seq!(
-            mark!(Rest),
-            one!(Arrow),
-            mark!(Returns),
-            Syntax::Table(Table::Type)
-        )),
-        Syntax::Table(Table::Where),
-        BODY_END
-    )
+const FUNCTION_REST: Syntax<'static> = Syntax::Then(
+    &Syntax::Mark(Label::Fields),
+    &Syntax::Then(
+        &Syntax::Sign(Test::Round),
+        &Syntax::Then(
+            &Syntax::Either(
+                &Syntax::Then(
+                    &Syntax::Mark(Label::Rest),
+                    &Syntax::Then(
+                        &Syntax::Sign(Test::Is(Class::Arrow)),
+                        &Syntax::Then(&Syntax::Mark(Label::Returns), &Syntax::Table(Table::Type)),
+                    ),
+                ),
+                &Syntax::Nothing,
+            ),
+            &Syntax::Then(&Syntax::Table(Table::Where), &BODY_END),
+        ),
+    ),
 );
 
 /// A function.
-pub(crate) const FUNCTION: Syntax<'static> = seq!(
-    Syntax::Table(Table::Attributes),
-    Syntax::Table(Table::Visibility),
-    mark!(Front),
-    QUALIFIERS,
-    key!(Fn),
-    seq!(mark!(Named), Syntax::Sign(Test::Word)),
-    Syntax::Table(Table::Generics),
-    FUNCTION_REST
+pub(crate) const FUNCTION: Syntax<'static> = Syntax::Then(
+    &Syntax::Table(Table::Attributes),
+    &Syntax::Then(
+        &Syntax::Table(Table::Visibility),
+        &Syntax::Then(
+            &Syntax::Mark(Label::Front),
+            &Syntax::Then(
+                &QUALIFIERS,
+                &Syntax::Then(
+                    &Syntax::Sign(Test::Is(Class::Keyword(Keyword::Fn))),
+                    &Syntax::Then(
+                        &Syntax::Then(&Syntax::Mark(Label::Named), &Syntax::Sign(Test::Word)),
+                        &Syntax::Then(&Syntax::Table(Table::Generics), &FUNCTION_REST),
+                    ),
+                ),
+            ),
+        ),
+    ),
 );
 
 /// Angle brackets of a path in a pattern, and perhaps fields in braces.
-const PATTERN_ANGLE: Syntax<'static> = seq!(
-    Syntax::Guarded(Guard::Angle),
-    perhaps!(one!(Braces))
+const PATTERN_ANGLE: Syntax<'static> = Syntax::Then(
+    &Syntax::Guarded(Guard::Angle),
+    &Syntax::Either(&Syntax::Sign(Test::Is(Class::Braces)), &Syntax::Nothing),
 );
 
 /// The rest of a pattern after its first sign.
-const PATTERN_REST: Syntax<'static> = seq!(
-    Syntax::Many(&Syntax::Sign(Test::InPattern)),
-    perhaps!(PATTERN_ANGLE)
+const PATTERN_REST: Syntax<'static> = Syntax::Then(
+    &Syntax::Many(&Syntax::Sign(Test::InPattern)),
+    &Syntax::Either(&PATTERN_ANGLE, &Syntax::Nothing),
 );
 
 /// A pattern.
-pub(crate) const PATTERN: Syntax<'static> = alt!(
-    seq!(Syntax::Sign(Test::Pattern), PATTERN_REST),
-    PATTERN_ANGLE
+pub(crate) const PATTERN: Syntax<'static> = Syntax::Either(
+    &Syntax::Then(&Syntax::Sign(Test::Pattern), &PATTERN_REST),
+    &PATTERN_ANGLE,
 );
 
 /// `...`
-const DOTS: Syntax<'static> = seq!(one!(Dot), one!(Dot), one!(Dot));
+const DOTS: Syntax<'static> = Syntax::Then(
+    &Syntax::Sign(Test::Is(Class::Dot)),
+    &Syntax::Then(
+        &Syntax::Sign(Test::Is(Class::Dot)),
+        &Syntax::Sign(Test::Is(Class::Dot)),
+    ),
+);
 
 /// `:` and a type or `...`
-const TYPED: Syntax<'static> = seq!(
-    mark!(Rest),
-    one!(Colon),
-    mark!(OfType),
-    alt!(DOTS, Syntax::Table(Table::Type))
+const TYPED: Syntax<'static> = Syntax::Then(
+    &Syntax::Mark(Label::Rest),
+    &Syntax::Then(
+        &Syntax::Sign(Test::Is(Class::Colon)),
+        &Syntax::Then(
+            &Syntax::Mark(Label::OfType),
+            &Syntax::Either(&DOTS, &Syntax::Table(Table::Type)),
+        ),
+    ),
 );
 
 /// What follows `self` or `mut self`.
-const SELF_TYPE: Syntax<'static> = perhaps!(seq!(
-    mark!(Rest),
-    one!(Colon),
-    mark!(OfType),
-    Syntax::Table(Table::Type)
-));
+const SELF_TYPE: Syntax<'static> = Syntax::Either(
+    &Syntax::Then(
+        &Syntax::Mark(Label::Rest),
+        &Syntax::Then(
+            &Syntax::Sign(Test::Is(Class::Colon)),
+            &Syntax::Then(&Syntax::Mark(Label::OfType), &Syntax::Table(Table::Type)),
+        ),
+    ),
+    &Syntax::Nothing,
+);
 
 /// `self` or `mut self`
-const MAY_MUTATE: Syntax<'static> = alt!(
-    seq!(key!(Mut), one!(SelfValue)),
-    one!(SelfValue)
+const MAY_MUTATE: Syntax<'static> = Syntax::Either(
+    &Syntax::Then(
+        &Syntax::Sign(Test::Is(Class::Keyword(Keyword::Mut))),
+        &Syntax::Sign(Test::Is(Class::SelfValue)),
+    ),
+    &Syntax::Sign(Test::Is(Class::SelfValue)),
 );
 
 /// A pattern and its type.
-const TYPED_PATTERN: Syntax<'static> = seq!(PATTERN, TYPED);
+const TYPED_PATTERN: Syntax<'static> = Syntax::Then(&PATTERN, &TYPED);
 
 /// A receiver, or a pattern and its type.
-const NAMED_PARAMETER: Syntax<'static> = alt!(
-    seq!(one!(SelfValue), SELF_TYPE),
-    seq!(
-        key!(Mut),
-        alt!(seq!(one!(SelfValue), SELF_TYPE), TYPED_PATTERN)
-    ),
-    seq!(
-        one!(And),
-        alt!(
-            seq!(one!(Lifetime), MAY_MUTATE),
-            seq!(key!(Mut), alt!(one!(SelfValue), TYPED_PATTERN)),
-            one!(SelfValue),
-            seq!(
-                alt!(
-                    seq!(Syntax::Sign(Test::PatternAfterAnd), PATTERN_REST),
-                    PATTERN_ANGLE
-                ),
-                TYPED
-            )
-        )
-    ),
-    seq!(
-        alt!(
-            seq!(Syntax::Sign(Test::PatternFirst), PATTERN_REST),
-            PATTERN_ANGLE
+const NAMED_PARAMETER: Syntax<'static> = Syntax::Either(
+    &Syntax::Then(&Syntax::Sign(Test::Is(Class::SelfValue)), &SELF_TYPE),
+    &Syntax::Either(
+        &Syntax::Then(
+            &Syntax::Sign(Test::Is(Class::Keyword(Keyword::Mut))),
+            &Syntax::Either(
+                &Syntax::Then(&Syntax::Sign(Test::Is(Class::SelfValue)), &SELF_TYPE),
+                &TYPED_PATTERN,
+            ),
         ),
-        TYPED
-    )
+        &Syntax::Either(
+            &Syntax::Then(
+                &Syntax::Sign(Test::Is(Class::And)),
+                &Syntax::Either(
+                    &Syntax::Then(&Syntax::Sign(Test::Is(Class::Lifetime)), &MAY_MUTATE),
+                    &Syntax::Either(
+                        &Syntax::Then(
+                            &Syntax::Sign(Test::Is(Class::Keyword(Keyword::Mut))),
+                            &Syntax::Either(
+                                &Syntax::Sign(Test::Is(Class::SelfValue)),
+                                &TYPED_PATTERN,
+                            ),
+                        ),
+                        &Syntax::Either(
+                            &Syntax::Sign(Test::Is(Class::SelfValue)),
+                            &Syntax::Then(
+                                &Syntax::Either(
+                                    &Syntax::Then(
+                                        &Syntax::Sign(Test::PatternAfterAnd),
+                                        &PATTERN_REST,
+                                    ),
+                                    &PATTERN_ANGLE,
+                                ),
+                                &TYPED,
+                            ),
+                        ),
+                    ),
+                ),
+            ),
+            &Syntax::Then(
+                &Syntax::Either(
+                    &Syntax::Then(&Syntax::Sign(Test::PatternFirst), &PATTERN_REST),
+                    &PATTERN_ANGLE,
+                ),
+                &TYPED,
+            ),
+        ),
+    ),
 );
 
 /// A parameter of a function.
-pub(crate) const PARAMETER: Syntax<'static> = seq!(
-    mark!(Parameter),
-    seq!(
-        Syntax::Table(Table::Attributes),
-        seq!(mark!(Named), alt!(DOTS, NAMED_PARAMETER))
-    )
+pub(crate) const PARAMETER: Syntax<'static> = Syntax::Then(
+    &Syntax::Mark(Label::Parameter),
+    &Syntax::Then(
+        &Syntax::Table(Table::Attributes),
+        &Syntax::Then(
+            &Syntax::Mark(Label::Named),
+            &Syntax::Either(&DOTS, &NAMED_PARAMETER),
+        ),
+    ),
 );
 
 /// `:` and bounds, or nothing.
-const WITH_BOUNDS: Syntax<'static> = perhaps!(seq!(
-    mark!(Rest),
-    one!(Colon),
-    mark!(Bounds),
-    Syntax::Table(Table::Bounds)
-));
+const WITH_BOUNDS: Syntax<'static> = Syntax::Either(
+    &Syntax::Then(
+        &Syntax::Mark(Label::Rest),
+        &Syntax::Then(
+            &Syntax::Sign(Test::Is(Class::Colon)),
+            &Syntax::Then(&Syntax::Mark(Label::Bounds), &Syntax::Table(Table::Bounds)),
+        ),
+    ),
+    &Syntax::Nothing,
+);
 
 /// `=` and a type.
-const DEFAULT_TYPE: Syntax<'static> = seq!(
-    mark!(Rest),
-    one!(Equals),
-    mark!(Default),
-    Syntax::Table(Table::Type)
+const DEFAULT_TYPE: Syntax<'static> = Syntax::Then(
+    &Syntax::Mark(Label::Rest),
+    &Syntax::Then(
+        &Syntax::Sign(Test::Is(Class::Equals)),
+        &Syntax::Then(&Syntax::Mark(Label::Default), &Syntax::Table(Table::Type)),
+    ),
 );
 
 /// `=` and the default of a constant, or nothing.
-const WITH_CONSTANT: Syntax<'static> = perhaps!(seq!(
-    mark!(Rest),
-    one!(Equals),
-    mark!(Default),
-    alt!(
-        seq!(one!(Minus), one!(Literal)),
-        one!(Literal),
-        one!(Braces),
-        one!(Truth),
-        Syntax::Table(Table::Type)
-    )
-));
+const WITH_CONSTANT: Syntax<'static> = Syntax::Either(
+    &Syntax::Then(
+        &Syntax::Mark(Label::Rest),
+        &Syntax::Then(
+            &Syntax::Sign(Test::Is(Class::Equals)),
+            &Syntax::Then(
+                &Syntax::Mark(Label::Default),
+                &Syntax::Either(
+                    &Syntax::Then(
+                        &Syntax::Sign(Test::Is(Class::Minus)),
+                        &Syntax::Sign(Test::Is(Class::Literal)),
+                    ),
+                    &Syntax::Either(
+                        &Syntax::Sign(Test::Is(Class::Literal)),
+                        &Syntax::Either(
+                            &Syntax::Sign(Test::Is(Class::Braces)),
+                            &Syntax::Either(
+                                &Syntax::Sign(Test::Is(Class::Truth)),
+                                &Syntax::Table(Table::Type),
+                            ),
+                        ),
+                    ),
+                ),
+            ),
+        ),
+    ),
+    &Syntax::Nothing,
+);
 
 /// A generic parameter.
-pub(crate) const GENERIC: Syntax<'static> = seq!(
-    mark!(Parameter),
-    Syntax::Table(Table::Attributes),
-    alt!(
-        seq!(mark!(Named), one!(Lifetime), WITH_BOUNDS),
-        seq!(
-            mark!(Named),
-            Syntax::Sign(Test::Word),
-            WITH_BOUNDS,
-            perhaps!(DEFAULT_TYPE)
+pub(crate) const GENERIC: Syntax<'static> = Syntax::Then(
+    &Syntax::Mark(Label::Parameter),
+    &Syntax::Then(
+        &Syntax::Table(Table::Attributes),
+        &Syntax::Either(
+            &Syntax::Then(
+                &Syntax::Mark(Label::Named),
+                &Syntax::Then(&Syntax::Sign(Test::Is(Class::Lifetime)), &WITH_BOUNDS),
+            ),
+            &Syntax::Either(
+                &Syntax::Then(
+                    &Syntax::Mark(Label::Named),
+                    &Syntax::Then(
+                        &Syntax::Sign(Test::Word),
+                        &Syntax::Then(
+                            &WITH_BOUNDS,
+                            &Syntax::Either(&DEFAULT_TYPE, &Syntax::Nothing),
+                        ),
+                    ),
+                ),
+                &Syntax::Then(
+                    &Syntax::Mark(Label::Rest),
+                    &Syntax::Then(
+                        &Syntax::Sign(Test::Is(Class::Keyword(Keyword::Const))),
+                        &Syntax::Then(
+                            &Syntax::Mark(Label::Named),
+                            &Syntax::Then(
+                                &Syntax::Sign(Test::Word),
+                                &Syntax::Then(
+                                    &Syntax::Mark(Label::Rest),
+                                    &Syntax::Then(
+                                        &Syntax::Sign(Test::Is(Class::Colon)),
+                                        &Syntax::Then(
+                                            &Syntax::Mark(Label::Bounds),
+                                            &Syntax::Then(
+                                                &Syntax::Table(Table::Type),
+                                                &WITH_CONSTANT,
+                                            ),
+                                        ),
+                                    ),
+                                ),
+                            ),
+                        ),
+                    ),
+                ),
+            ),
         ),
-        seq!(
-            mark!(Rest),
-            key!(Const),
-            seq!(
-                mark!(Named),
-                Syntax::Sign(Test::Word),
-                mark!(Rest),
-                one!(Colon),
-                mark!(Bounds),
-                Syntax::Table(Table::Type),
-                WITH_CONSTANT
-            )
-        )
-    )
+    ),
 );
 
 /// A predicate of a where clause.
-pub(crate) const PREDICATE: Syntax<'static> = seq!(
-    mark!(Bounded),
-    Syntax::Table(Table::Type),
-    mark!(Rest),
-    one!(Colon),
-    mark!(Bounds),
-    Syntax::Table(Table::Bounds)
+pub(crate) const PREDICATE: Syntax<'static> = Syntax::Then(
+    &Syntax::Mark(Label::Bounded),
+    &Syntax::Then(
+        &Syntax::Table(Table::Type),
+        &Syntax::Then(
+            &Syntax::Mark(Label::Rest),
+            &Syntax::Then(
+                &Syntax::Sign(Test::Is(Class::Colon)),
+                &Syntax::Then(&Syntax::Mark(Label::Bounds), &Syntax::Table(Table::Bounds)),
+            ),
+        ),
+    ),
 );
