@@ -147,7 +147,7 @@ impl Expected {
     }
 
     /// Everything that is in one of the sets.
-    pub(crate) fn union(self, other: Expected) -> Expected
+    pub(crate) fn both(self, other: Expected) -> Expected
         ensures { HasSigns result (λ class. holds self class || holds other class)
             (holds_end self || holds_end other) }
     {

@@ -173,7 +173,7 @@ fn joined<'a>(first: Seen<'a>, second: Seen<'a>) -> Seen<'a>
     } else {
         Seen {
             left: second.left,
-            next: first.next.without_end().union(second.next),
+            next: first.next.without_end().both(second.next),
         }
     }
 }
@@ -203,7 +203,7 @@ fn chosen<'a>(first: Seen<'a>, second: Seen<'a>) -> Seen<'a>
     } else {
         Seen {
             left: second.left,
-            next: first.next.union(second.next),
+            next: first.next.both(second.next),
         }
     }
 }
@@ -251,7 +251,7 @@ fn explore_many<'a>(item: &Syntax<'_>, trees: &'a [TokenTree]) -> Seen<'a>
         if one.left.len() == seen.left.len() {
             return Seen {
                 left: seen.left,
-                next: seen.next.union(one.next),
+                next: seen.next.both(one.next),
             };
         }
         if one.next.has_end() {

@@ -106,8 +106,13 @@
 //! - <a id="declarations.Signs.BeginsWith"></a>**BeginsWith**: the trees begin with a sign of this class, and
 //!   the rest comes after it
 //! - <a id="declarations.rules.Pieces.ByRule"></a>**ByRule**: the form whose pieces are those of the rule
+//! - <a id="declarations.Expected.Expects"></a>**Expects**: the set has exactly the classes that can come after
+//!   the first `at` trees so that the form can be completed. It has the end if these trees are the whole of a
+//!   part
 //! - <a id="declarations.Reading.FaultAt"></a>**FaultAt**: nothing of this form can be read. The error is after
 //!   `at` trees: the longest prefix that other trees could complete
+//! - <a id="declarations.File.FileExpects"></a>**FileExpects**: the set has the signs that could come at the
+//!   error: in the inner attributes, or in the item that cannot be read
 //! - <a id="declarations.File.FileFaultAt"></a>**FileFaultAt**: the trees are no file. The error is in the
 //!   inner attributes, or in the first item that cannot be read
 //! - <a id="declarations.Field.HasFieldParts"></a>**HasFieldParts**: the trees are a named field with these
@@ -217,20 +222,28 @@
 //!   function: attributes, and then a receiver, a pattern and its type, or `...`
 //! - <a id="declarations.rules.Parts.generics"></a>**generics**: generic parameters in angle brackets, or
 //!   nothing
+//! - <a id="declarations.Expected.holds"></a>**holds**: whether the class is in the set
+//! - <a id="declarations.Expected.holds_end"></a>**holds_end**: whether the end is in the set
 //! - <a id="declarations.rules.Parts.inner_attributes"></a>**inner_attributes**: any number of inner attributes
 //! - <a id="declarations.Attribute.inside"></a>**inside**: the trees in the attribute's brackets
 //! - <a id="declarations.Item.is_keyword"></a>**is_keyword**: whether an identifier is a keyword, and so cannot
 //!   be a name
 //! - <a id="declarations.Attribute.is_word"></a>**is_word**: whether the trees are one identifier with this
 //!   text
+//! - <a id="declarations.rules.Names.listed"></a>**listed**: any number of this, with `,` between two and
+//!   perhaps after the last
 //! - <a id="declarations.Grammar.names"></a>**names**: whether a sign of this class is the name of the item, in
 //!   this state
+//! - <a id="declarations.Fault.or_extent"></a>**or_extent**: the span, or the other one if there is none
 //! - <a id="declarations.Param.param_trees"></a>**param_trees**: the parts of a generic parameter that the
 //!   library returns, as lists of trees
+//! - <a id="declarations.rules.Parts.parameters"></a>**parameters**: generic parameters, with `,` between two
+//!   and perhaps after the last
 //! - <a id="declarations.Attribute.parts_of"></a>**parts_of**: the parts of an attribute: its marks and its
 //!   brackets
 //! - <a id="declarations.Attribute.path_of"></a>**path_of**: the path that the trees begin with
 //! - <a id="declarations.rules.Parameters.pattern"></a>**pattern**: a pattern
+//! - <a id="declarations.rules.Parts.predicate"></a>**predicate**: a predicate: a type, `:` and bounds
 //! - <a id="declarations.Param.predicate_trees"></a>**predicate_trees**: the parts of a predicate that the
 //!   library returns, as lists of trees
 //! - <a id="declarations.rules.Rules.rules"></a>**rules**: the grammar of each named rule

@@ -77,6 +77,8 @@ pub struct AnyItem<'a> {
 ///   found.0.kind name × [MatchOption] found.0.name (name ≡ [None]) (λ ident. name ≡ [Some] ident.now))</code>
 /// - `ensures fault`: <code>[IfErr] result (λ fault. [FaultAt] [IsAnyItem] trees.now fault.at)</code>
 /// - `ensures span`: <code>[IfErr] result (λ fault. fault.span ≡ [extent_at] trees.now fault.at)</code>
+/// - `ensures expected`: <code>[IfErr] result (λ fault. [Expects] [IsAnyItem] trees.now fault.at
+///   fault.expected)</code>
 ///
 /// [IfOk]: crate::contracts#std.IfOk
 /// [Reads]: crate::contracts#declarations.Reading.Reads
@@ -92,6 +94,7 @@ pub struct AnyItem<'a> {
 /// [IfErr]: crate::contracts#std.IfErr
 /// [FaultAt]: crate::contracts#declarations.Reading.FaultAt
 /// [extent_at]: crate::contracts#declarations.Fault.extent_at
+/// [Expects]: crate::contracts#declarations.Expected.Expects
 pub fn split_any_item<'a>(trees: &'a [TokenTree]) -> Result<(AnyItem<'a>, &'a [TokenTree]), Fault>
     // The kind and the name are those that the walk over the item's signs finds.
 {

@@ -17,12 +17,17 @@ impl<'a> Attribute<'a> {
     ///
     /// - `ensures ok`: <code>[IfOk] result (λ entry. [IsEntryAt] ([inside] self.now) entry \[\])</code>
     /// - `ensures err`: <code>[IfErr] result (λ fault. [IsEntryFault] ([inside] self.now) fault)</code>
+    /// - `ensures expected`: <code>[IfErr] result (λ fault. [Expects] ([ByRule] [entry]) ([inside] self.now)
+    ///   fault.at fault.expected)</code>
     ///
     /// [IfOk]: crate::contracts#std.IfOk
     /// [IsEntryAt]: crate::contracts#declarations.Entry.IsEntryAt
     /// [inside]: crate::contracts#declarations.Attribute.inside
     /// [IfErr]: crate::contracts#std.IfErr
     /// [IsEntryFault]: crate::contracts#declarations.Entry.IsEntryFault
+    /// [Expects]: crate::contracts#declarations.Expected.Expects
+    /// [ByRule]: crate::contracts#declarations.rules.Pieces.ByRule
+    /// [entry]: crate::contracts#declarations.rules.Entries.entry
     pub fn entry(&self) -> Result<Entry<'a>, Fault>
     {
         whole_entry(self.group.stream_ref().trees())

@@ -3,11 +3,14 @@
 
 use crate::declarations::attribute::has_no_delimiters;
 use crate::declarations::class::Class;
+use crate::declarations::expected::Expected;
+use crate::declarations::explore::rule_signs;
 use crate::declarations::fault::Fault;
 use crate::declarations::item::split_group;
 use crate::declarations::place::{Item, Place, Rule, Spot, State};
 use crate::declarations::reader::{begins, is, part, past};
 use crate::declarations::signs::first_sign;
+use crate::declarations::syntax::ENTRY;
 use crate::declarations::walk::walk_past;
 use crate::pm_span::Span;
 use crate::pm_stream::{Group, TokenTree};
@@ -52,6 +55,8 @@ pub struct Entry<'a> {
 /// - `ensures fewer`: <code>[IfOk] result (λ found. [length] found.1.now &lt; [length] trees.now)</code>
 /// - `ensures fault`: <code>[IfErr] result (λ fault. [FaultAt] ([ByRule] [entry]) trees.now fault.at)</code>
 /// - `ensures span`: <code>[IfErr] result (λ fault. fault.span ≡ [extent_at] trees.now fault.at)</code>
+/// - `ensures expected`: <code>[IfErr] result (λ fault. [Expects] ([ByRule] [entry]) trees.now fault.at
+///   fault.expected)</code>
 ///
 /// [IfOk]: crate::contracts#std.IfOk
 /// [IsEntryAt]: crate::contracts#declarations.Entry.IsEntryAt
@@ -62,11 +67,12 @@ pub struct Entry<'a> {
 /// [FaultAt]: crate::contracts#declarations.Reading.FaultAt
 /// [ByRule]: crate::contracts#declarations.rules.Pieces.ByRule
 /// [extent_at]: crate::contracts#declarations.Fault.extent_at
+/// [Expects]: crate::contracts#declarations.Expected.Expects
 pub fn parse_entry(trees: &[TokenTree]) -> Result<(Entry<'_>, &[TokenTree]), Fault>
 {
     match entry_of(trees) {
         Ok((entry, rest)) => Ok((entry, rest)),
-        Err(left) => Err(Fault::ahead_of(trees.len() - left.len(), left)),
+        Err(left) => Err(Fault::ahead_of(trees.len() - left.len(), left, entry_signs(trees))),
     }
 }
 
@@ -130,6 +136,13 @@ fn first_span(trees: &[TokenTree]) -> Option<Span>
     }
 }
 
+/// The signs that could come next where the trees are no entry, or after the entry.
+#[cold]
+fn entry_signs(trees: &[TokenTree]) -> Expected
+{
+    rule_signs(&ENTRY, trees)
+}
+
 /// The entry that all of the trees are.
 pub(crate) fn whole_entry(trees: &[TokenTree]) -> Result<Entry<'_>, Fault>
 {
@@ -138,14 +151,14 @@ pub(crate) fn whole_entry(trees: &[TokenTree]) -> Result<Entry<'_>, Fault>
             if rest.is_empty() {
                 Ok(entry)
             } else {
-                Err(Fault::ahead_of(trees.len() - rest.len(), rest))
+                Err(Fault::ahead_of(trees.len() - rest.len(), rest, entry_signs(trees)))
             }
         }
         Err(fault) => Err(fault),
     }
 }
 
-fn is_segment(class: Class) -> bool
+pub(crate) fn is_segment(class: Class) -> bool
 {
     match class {
         Class::Word(_) | Class::Keyword(_) => true,
@@ -211,7 +224,7 @@ fn entry_path(trees: &[TokenTree]) -> Result<&[TokenTree], &[TokenTree]>
     segments(separator(trees)?)
 }
 
-fn is_literal(class: Class) -> bool
+pub(crate) fn is_literal(class: Class) -> bool
 {
     match class {
         Class::Literal | Class::Truth => true,
@@ -257,7 +270,7 @@ fn past_expression(trees: &[TokenTree]) -> Result<&[TokenTree], &[TokenTree]>
 }
 
 /// Whether the sign can go on after an operand but can begin no value: `=`, `>` or `->`.
-fn continues(class: Class) -> bool
+pub(crate) fn continues(class: Class) -> bool
 {
     match class {
         Class::Equals | Class::Greater | Class::Arrow => true,

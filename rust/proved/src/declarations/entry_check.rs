@@ -3,6 +3,8 @@
 
 use crate::declarations::entry::Entry;
 use crate::declarations::entry_list::first_entry;
+use crate::declarations::expected::Expected;
+use crate::declarations::expected_text::write_expected;
 use crate::declarations::fault::{Fault, are_same};
 use crate::pm_span::Span;
 use crate::pm_stream::TokenTree;
@@ -30,6 +32,8 @@ pub struct EntryError<'a> {
     pub at: usize,
     /// The span of the first wrong tree, or `None` if the list ends too early.
     pub span: Option<Span>,
+    /// The signs that could come next, if there is no entry. Otherwise it is empty.
+    pub expected: Expected,
     /// The name of the unknown or repeated entry. It is `None` if the entry is a literal or a path of several segments,
     /// or if there is no entry.
     pub name: Option<&'a Ident>,
@@ -81,11 +85,11 @@ pub fn check_entries<'a>(list: &'a [TokenTree], known: &'a [&'a str]) -> Result<
             Ok((entry, next)) => {
                 let place = place_of(&entry, known);
                 if place == known.len() {
-                    let fault = Fault::ahead_of(before, left);
+                    let fault = Fault::ahead_of(before, left, Expected::nothing());
                     return Err(wrong(EntryProblem::Unknown, fault, entry.name(), known));
                 }
                 if seen[place] {
-                    let fault = Fault::ahead_of(before, left);
+                    let fault = Fault::ahead_of(before, left, Expected::nothing());
                     return Err(wrong(EntryProblem::Repeated, fault, entry.name(), known));
                 }
                 seen[place] = true;
@@ -93,8 +97,12 @@ pub fn check_entries<'a>(list: &'a [TokenTree], known: &'a [&'a str]) -> Result<
             }
             Err(fault) => {
                 let at = before + fault.at;
-                let span = fault.span;
-                return Err(wrong(EntryProblem::NoEntry, Fault { at, span }, None, known));
+                let fault = Fault {
+                    at,
+                    span: fault.span,
+                    expected: fault.expected,
+                };
+                return Err(wrong(EntryProblem::NoEntry, fault, None, known));
             }
         }
     }
@@ -112,6 +120,7 @@ fn wrong<'a>(
         problem,
         at: fault.at,
         span: fault.span,
+        expected: fault.expected,
         name,
         known,
     }
@@ -204,7 +213,7 @@ fn write_quoted<W: fmt::Write>(word: &str, f: &mut fmt::Formatter<W>) -> fmt::Re
 impl<'a> Display for EntryError<'a> {
     fn fmt<W: fmt::Write>(&self, f: &mut fmt::Formatter<W>) -> fmt::Result {
         match self.problem {
-            EntryProblem::NoEntry => f.write_str("not expected here"),
+            EntryProblem::NoEntry => write_expected(self.expected, f),
             EntryProblem::Unknown => {
                 f.write_str("unknown entry")?;
                 write_name(self.name, f)?;

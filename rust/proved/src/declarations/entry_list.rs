@@ -2,8 +2,11 @@
 //! The entries of an attribute's list, one at a time.
 
 use crate::declarations::entry::{Entry, parse_entry};
+use crate::declarations::expected::Expected;
+use crate::declarations::explore::list_signs;
 use crate::declarations::fault::Fault;
 use crate::declarations::list::{fault_after, past_comma};
+use crate::declarations::syntax::ENTRY;
 use crate::pm_stream::{Group, TokenTree};
 
 /// The entries in a group of an attribute, in order. A `,` is between two entries, and may be after the last.
@@ -62,14 +65,25 @@ impl<'a> Iterator for Entries<'a> {
     }
 }
 
+/// The signs that could come next in a list of entries, at its error.
+#[cold]
+fn entries_signs(trees: &[TokenTree]) -> Expected
+{
+    list_signs(&ENTRY, trees)
+}
+
 /// The first entry of a list, and the trees after its comma.
 pub(crate) fn first_entry(trees: &[TokenTree]) -> Result<(Entry<'_>, &[TokenTree]), Fault>
 {
     match parse_entry(trees) {
         Ok((entry, rest)) => match past_comma(rest) {
             Some(left) => Ok((entry, left)),
-            None => Err(fault_after(trees, rest)),
+            None => Err(fault_after(trees, rest, entries_signs(trees))),
         },
-        Err(fault) => Err(fault),
+        Err(fault) => Err(Fault {
+            at: fault.at,
+            span: fault.span,
+            expected: entries_signs(trees),
+        }),
     }
 }

@@ -42,6 +42,7 @@ pub struct Items<'a> {
 /// - `ensures ok`: <code>[IfOk] result (λ file. [IsFile] trees.now file.inner.now file.items.left.now)</code>
 /// - `ensures fault`: <code>[IfErr] result (λ fault. [FileFaultAt] trees.now fault.at)</code>
 /// - `ensures span`: <code>[IfErr] result (λ fault. fault.span ≡ [extent_at] trees.now fault.at)</code>
+/// - `ensures expected`: <code>[IfErr] result (λ fault. [FileExpects] trees.now fault.at fault.expected)</code>
 /// - `ensures none`: <code>[IfErr] result (λ fault. (inner : [List] Tree) → (items : [List] Tree) → [IsFile]
 ///   trees.now inner items → ⊥)</code>
 ///
@@ -50,6 +51,7 @@ pub struct Items<'a> {
 /// [IfErr]: crate::contracts#std.IfErr
 /// [FileFaultAt]: crate::contracts#declarations.File.FileFaultAt
 /// [extent_at]: crate::contracts#declarations.Fault.extent_at
+/// [FileExpects]: crate::contracts#declarations.File.FileExpects
 /// [List]: crate::contracts#std.List
 pub fn parse_file(trees: &[TokenTree]) -> Result<File<'_>, Fault>
 {
@@ -63,6 +65,7 @@ pub fn parse_file(trees: &[TokenTree]) -> Result<File<'_>, Fault>
                 return Err(Fault {
                     at,
                     span: fault.span,
+                    expected: fault.expected,
                 });
             }
         }
@@ -88,6 +91,8 @@ pub fn parse_file(trees: &[TokenTree]) -> Result<File<'_>, Fault>
 /// - `ensures fault`: <code>[IfErr] result (λ fault. [FaultAt] ([IsWhole] [IsAnyItem]) trees.now
 ///   fault.at)</code>
 /// - `ensures span`: <code>[IfErr] result (λ fault. fault.span ≡ [extent_at] trees.now fault.at)</code>
+/// - `ensures expected`: <code>[IfErr] result (λ fault. [Expects] [IsAnyItem] trees.now fault.at
+///   fault.expected)</code>
 ///
 /// [IfOk]: crate::contracts#std.IfOk
 /// [ReadsAll]: crate::contracts#declarations.Whole.ReadsAll
@@ -102,6 +107,7 @@ pub fn parse_file(trees: &[TokenTree]) -> Result<File<'_>, Fault>
 /// [FaultAt]: crate::contracts#declarations.Reading.FaultAt
 /// [IsWhole]: crate::contracts#declarations.Whole.IsWhole
 /// [extent_at]: crate::contracts#declarations.Fault.extent_at
+/// [Expects]: crate::contracts#declarations.Expected.Expects
 pub fn parse_item(trees: &[TokenTree]) -> Result<AnyItem<'_>, Fault>
     // The kind and the name are those that the walk over the item's signs finds.
 {

@@ -2,12 +2,15 @@
 //! The parts of a function.
 
 use crate::declarations::class::{Class, Keyword, Word};
+use crate::declarations::expected::Expected;
+use crate::declarations::explore::rule_signs;
 use crate::declarations::fault::Fault;
 use crate::declarations::item::{split_group, split_name, split_parentheses};
 use crate::declarations::parameter::{past_attributes, past_type};
 use crate::declarations::place::{Item, Part, Place, Rule, Spot, State};
 use crate::declarations::reader::{is, part, past};
 use crate::declarations::signs::{first_sign, name_class};
+use crate::declarations::syntax::FUNCTION;
 use crate::declarations::walk::walk_past;
 use crate::pm_stream::{Group, TokenTree};
 use crate::pm_token::{Delimiter, Ident};
@@ -58,6 +61,8 @@ pub struct Function<'a> {
 /// - `ensures fault`: <code>[IfErr] result (λ fault. [FaultAt] ([IsWhole] ([ByRule] [function_item])) trees.now
 ///   fault.at)</code>
 /// - `ensures span`: <code>[IfErr] result (λ fault. fault.span ≡ [extent_at] trees.now fault.at)</code>
+/// - `ensures expected`: <code>[IfErr] result (λ fault. [Expects] ([ByRule] [function_item]) trees.now fault.at
+///   fault.expected)</code>
 ///
 /// [IfOk]: crate::contracts#std.IfOk
 /// [IsFunction]: crate::contracts#declarations.Function.IsFunction
@@ -67,6 +72,7 @@ pub struct Function<'a> {
 /// [ByRule]: crate::contracts#declarations.rules.Pieces.ByRule
 /// [function_item]: crate::contracts#declarations.rules.Functions.function_item
 /// [extent_at]: crate::contracts#declarations.Fault.extent_at
+/// [Expects]: crate::contracts#declarations.Expected.Expects
 pub fn parse_function(trees: &[TokenTree]) -> Result<Function<'_>, Fault>
 {
     match function_of(trees) {
@@ -74,11 +80,18 @@ pub fn parse_function(trees: &[TokenTree]) -> Result<Function<'_>, Fault>
             if rest.is_empty() {
                 Ok(function)
             } else {
-                Err(Fault::ahead_of(trees.len() - rest.len(), rest))
+                Err(Fault::ahead_of(trees.len() - rest.len(), rest, function_signs(trees)))
             }
         }
-        Err(left) => Err(Fault::ahead_of(trees.len() - left.len(), left)),
+        Err(left) => Err(Fault::ahead_of(trees.len() - left.len(), left, function_signs(trees))),
     }
+}
+
+/// The signs that could come next where the trees are no function, or after the function.
+#[cold]
+fn function_signs(trees: &[TokenTree]) -> Expected
+{
+    rule_signs(&FUNCTION, trees)
 }
 
 /// Reads the function at the start of the trees. Returns it and the trees after it, or the trees from the error on.
@@ -156,7 +169,7 @@ fn may(trees: &[TokenTree], class: Class) -> &[TokenTree]
 }
 
 /// Whether the sign is `unsafe` or `safe`.
-fn is_safe(class: Class) -> bool
+pub(crate) fn is_safe(class: Class) -> bool
 {
     match class {
         Class::Keyword(Keyword::Unsafe) | Class::Word(Word::Safe) => true,
@@ -200,7 +213,7 @@ fn past_qualifiers(trees: &[TokenTree]) -> &[TokenTree]
 // ---- the name and the parameters
 
 /// Whether the sign can name a function. A keyword cannot.
-fn is_name(class: Class) -> bool
+pub(crate) fn is_name(class: Class) -> bool
 {
     match class {
         Class::Word(_) => true,

@@ -1,8 +1,12 @@
 // Made from crates/declarations/src/generics.rt by rust/erase: change that file, not this one.
 //! Generic parameters and the predicates of where clauses, one at a time.
 
+use crate::declarations::class::{Class, Keyword};
+use crate::declarations::expected::Expected;
+use crate::declarations::explore::explore;
 use crate::declarations::fault::Fault;
 use crate::declarations::param_parts::{param_of, predicate_of};
+use crate::declarations::syntax::{GENERIC, PREDICATE, Syntax};
 use crate::pm_stream::TokenTree;
 
 /// The kind of a generic parameter.
@@ -63,12 +67,35 @@ pub fn within_generics(generics: &[TokenTree]) -> Result<&[TokenTree], Fault>
         return Ok(generics);
     };
     if !is_mark_of('<', open) {
-        return Err(Fault::ahead_of(0, generics));
+        return Err(Fault::ahead_of(0, generics, opening()));
     }
     match rest.split_last() {
         Some((close, inside)) if is_mark_of('>', close) => Ok(inside),
-        _ => Err(Fault::ahead_of(generics.len(), generics.split_at(generics.len()).1)),
+        _ => Err(Fault::ahead_of(
+            generics.len(),
+            generics.split_at(generics.len()).1,
+            Expected::nothing().with(Class::Greater),
+        )),
     }
+}
+
+/// `<` or the end.
+#[cold]
+fn opening() -> Expected
+{
+    Expected::nothing()
+        .with(Class::Less)
+        .with(Class::LessJoint)
+        .with_end()
+}
+
+/// `where` or the end.
+#[cold]
+fn clause_start() -> Expected
+{
+    Expected::nothing()
+        .with(Class::Keyword(Keyword::Where))
+        .with_end()
 }
 
 /// Returns the trees after the `where` of an item's where clause.
@@ -93,8 +120,24 @@ pub fn after_where(where_clause: &[TokenTree]) -> Result<&[TokenTree], Fault>
     match where_clause.split_first() {
         None => Ok(where_clause),
         Some((TokenTree::Ident(word), rest)) if word.eq_str("where") => Ok(rest),
-        Some(_) => Err(Fault::ahead_of(0, where_clause)),
+        Some(_) => Err(Fault::ahead_of(0, where_clause, clause_start())),
     }
+}
+
+/// The error of a list of generic parameters.
+#[cold]
+fn params_fault(trees: &[TokenTree]) -> Fault
+{
+    let seen = explore(&Syntax::List(&GENERIC), trees);
+    Fault::ahead_of(trees.len() - seen.left.len(), seen.left, seen.next)
+}
+
+/// The error of a list of predicates.
+#[cold]
+fn predicates_fault(trees: &[TokenTree]) -> Fault
+{
+    let seen = explore(&Syntax::List(&PREDICATE), trees);
+    Fault::ahead_of(trees.len() - seen.left.len(), seen.left, seen.next)
 }
 
 /// Returns the parts of the generic parameter at the start of the trees, and the trees after its `,`.
@@ -119,6 +162,8 @@ pub fn after_where(where_clause: &[TokenTree]) -> Result<&[TokenTree], Fault>
 ///   [IsParamAt] trees.now param rest → ⊥)</code>
 /// - `ensures within`: <code>[IfErr] result (λ fault. fault.at ≤ [length] trees.now)</code>
 /// - `ensures span`: <code>[IfErr] result (λ fault. fault.span ≡ [extent_at] trees.now fault.at)</code>
+/// - `ensures expected`: <code>[IfErr] result (λ fault. [Expects] ([ByRule] [parameters]) trees.now fault.at
+///   fault.expected)</code>
 ///
 /// [IfOk]: crate::contracts#std.IfOk
 /// [IsParamAt]: crate::contracts#declarations.Param.IsParamAt
@@ -129,11 +174,14 @@ pub fn after_where(where_clause: &[TokenTree]) -> Result<&[TokenTree], Fault>
 /// [ParamTrees]: crate::contracts#declarations.Param.ParamTrees
 /// [List]: crate::contracts#std.List
 /// [extent_at]: crate::contracts#declarations.Fault.extent_at
+/// [Expects]: crate::contracts#declarations.Expected.Expects
+/// [ByRule]: crate::contracts#declarations.rules.Pieces.ByRule
+/// [parameters]: crate::contracts#declarations.rules.Parts.parameters
 pub fn parse_param(trees: &[TokenTree]) -> Result<(Param<'_>, &[TokenTree]), Fault>
 {
     match param_of(trees) {
         Ok(found) => Ok(found),
-        Err(left) => Err(Fault::ahead_of(trees.len() - left.len(), left)),
+        Err(_) => Err(params_fault(trees)),
     }
 }
 
@@ -154,6 +202,8 @@ pub fn parse_param(trees: &[TokenTree]) -> Result<(Param<'_>, &[TokenTree]), Fau
 ///   [IsPredicateAt] trees.now predicate rest → ⊥)</code>
 /// - `ensures within`: <code>[IfErr] result (λ fault. fault.at ≤ [length] trees.now)</code>
 /// - `ensures span`: <code>[IfErr] result (λ fault. fault.span ≡ [extent_at] trees.now fault.at)</code>
+/// - `ensures expected`: <code>[IfErr] result (λ fault. [Expects] ([ByRule] ([listed] [predicate])) trees.now
+///   fault.at fault.expected)</code>
 ///
 /// [IfOk]: crate::contracts#std.IfOk
 /// [IsPredicateAt]: crate::contracts#declarations.Param.IsPredicateAt
@@ -164,11 +214,15 @@ pub fn parse_param(trees: &[TokenTree]) -> Result<(Param<'_>, &[TokenTree]), Fau
 /// [PredicateTrees]: crate::contracts#declarations.Param.PredicateTrees
 /// [List]: crate::contracts#std.List
 /// [extent_at]: crate::contracts#declarations.Fault.extent_at
+/// [Expects]: crate::contracts#declarations.Expected.Expects
+/// [ByRule]: crate::contracts#declarations.rules.Pieces.ByRule
+/// [listed]: crate::contracts#declarations.rules.Names.listed
+/// [predicate]: crate::contracts#declarations.rules.Parts.predicate
 pub fn parse_predicate(trees: &[TokenTree]) -> Result<(Predicate<'_>, &[TokenTree]), Fault>
 {
     match predicate_of(trees) {
         Ok(found) => Ok(found),
-        Err(left) => Err(Fault::ahead_of(trees.len() - left.len(), left)),
+        Err(_) => Err(predicates_fault(trees)),
     }
 }
 

@@ -2,6 +2,7 @@
 //! Structs, enums and unions, as a derive macro gets them.
 
 use crate::declarations::class::{Class, Keyword};
+use crate::declarations::expected::Expected;
 use crate::declarations::fault::Fault;
 use crate::declarations::parts::{split_attributes, split_generics, split_visibility, split_where};
 use crate::declarations::place::{Item, Part, Place, Rule, Spot, State};
@@ -72,6 +73,8 @@ pub enum Fields<'a> {
 /// - `ensures ok`: <code>[IfOk] result (λ item. [IsTypeItem] trees.now item)</code>
 /// - `ensures fault`: <code>[IfErr] result (λ fault. [FaultAt] ([IsWhole] [IsItem]) trees.now fault.at)</code>
 /// - `ensures span`: <code>[IfErr] result (λ fault. fault.span ≡ [extent_at] trees.now fault.at)</code>
+/// - `ensures expected`: <code>[IfErr] result (λ fault. [Expects] [IsItem] trees.now fault.at
+///   fault.expected)</code>
 ///
 /// [IfOk]: crate::contracts#std.IfOk
 /// [IsTypeItem]: crate::contracts#declarations.Item.IsTypeItem
@@ -80,6 +83,7 @@ pub enum Fields<'a> {
 /// [IsWhole]: crate::contracts#declarations.Whole.IsWhole
 /// [IsItem]: crate::contracts#declarations.Forms.IsItem
 /// [extent_at]: crate::contracts#declarations.Fault.extent_at
+/// [Expects]: crate::contracts#declarations.Expected.Expects
 pub fn parse_type_item(trees: &[TokenTree]) -> Result<TypeItem<'_>, Fault>
 {
     let start = Place {
@@ -185,7 +189,7 @@ fn braces_of(trees: &[TokenTree]) -> Result<(&[TokenTree], &Group, &[TokenTree])
     let (where_clause, rest) = split_where(trees)?;
     match split_group(rest) {
         Some((group, after)) => Ok((where_clause, group, after)),
-        None => Err(Fault::ahead_of(0, rest)),
+        None => Err(Fault::ahead_of(0, rest, Expected::nothing())),
     }
 }
 
@@ -194,7 +198,7 @@ pub(crate) fn split_name(trees: &[TokenTree]) -> Result<(&Ident, &[TokenTree]), 
 {
     match trees.split_first() {
         Some((TokenTree::Ident(name), rest)) => Ok((name, rest)),
-        _ => Err(Fault::ahead_of(0, trees)),
+        _ => Err(Fault::ahead_of(0, trees, Expected::nothing())),
     }
 }
 

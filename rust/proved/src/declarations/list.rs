@@ -1,9 +1,12 @@
 // Made from crates/declarations/src/list.rt by rust/erase: change that file, not this one.
 //! Lists of fields and of variants, one element at a time.
 
+use crate::declarations::expected::Expected;
+use crate::declarations::explore::list_signs;
 use crate::declarations::fault::Fault;
 use crate::declarations::field::{Field, parse_field, parse_tuple_field};
 use crate::declarations::item::Fields;
+use crate::declarations::syntax::{Syntax, Table};
 use crate::declarations::variant::{Variant, parse_variant};
 use crate::pm_stream::{Group, TokenTree};
 
@@ -139,15 +142,37 @@ impl<'a> Iterator for VariantList<'a> {
     }
 }
 
+/// The signs that could come next in a list of fields, at its error.
+#[cold]
+fn fields_signs(named: bool, trees: &[TokenTree]) -> Expected
+{
+    if named {
+        list_signs(&Syntax::Table(Table::Field), trees)
+    } else {
+        list_signs(&Syntax::Table(Table::TupleField), trees)
+    }
+}
+
+/// The signs that could come next in a list of variants, at its error.
+#[cold]
+fn variants_signs(trees: &[TokenTree]) -> Expected
+{
+    list_signs(&Syntax::Table(Table::Variant), trees)
+}
+
 /// The first field of a list, and the trees after its comma.
 fn first_field(named: bool, trees: &[TokenTree]) -> Result<(Field<'_>, &[TokenTree]), Fault>
 {
     match field_at(named, trees) {
         Ok((field, rest)) => match past_comma(rest) {
             Some(left) => Ok((field, left)),
-            None => Err(fault_after(trees, rest)),
+            None => Err(fault_after(trees, rest, fields_signs(named, trees))),
         },
-        Err(fault) => Err(fault),
+        Err(fault) => Err(Fault {
+            at: fault.at,
+            span: fault.span,
+            expected: fields_signs(named, trees),
+        }),
     }
 }
 
@@ -167,16 +192,20 @@ fn first_variant(trees: &[TokenTree]) -> Result<(Variant<'_>, &[TokenTree]), Fau
     match parse_variant(trees) {
         Ok((variant, rest)) => match past_comma(rest) {
             Some(left) => Ok((variant, left)),
-            None => Err(fault_after(trees, rest)),
+            None => Err(fault_after(trees, rest, variants_signs(trees))),
         },
-        Err(fault) => Err(fault),
+        Err(fault) => Err(Fault {
+            at: fault.at,
+            span: fault.span,
+            expected: variants_signs(trees),
+        }),
     }
 }
 
 /// The error before `rest`, which are the last of the trees.
-pub(crate) fn fault_after(trees: &[TokenTree], rest: &[TokenTree]) -> Fault
+pub(crate) fn fault_after(trees: &[TokenTree], rest: &[TokenTree], expected: Expected) -> Fault
 {
-    Fault::ahead_of(trees.len() - rest.len(), rest)
+    Fault::ahead_of(trees.len() - rest.len(), rest, expected)
 }
 
 /// The trees after the comma that they begin with, or no trees if there are none.

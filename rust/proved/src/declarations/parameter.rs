@@ -2,11 +2,14 @@
 //! The parameters of functions, one at a time.
 
 use crate::declarations::class::{Class, Keyword};
+use crate::declarations::expected::Expected;
+use crate::declarations::explore::{list_signs, rule_signs};
 use crate::declarations::fault::Fault;
 use crate::declarations::list::{fault_after, past_comma};
 use crate::declarations::place::{Item, Part, Place, Rule, Spot, State};
 use crate::declarations::reader::{begins, is, part, past};
 use crate::declarations::signs::first_sign;
+use crate::declarations::syntax::{PARAMETER, PATTERN};
 use crate::declarations::types::TypeState;
 use crate::declarations::walk::walk_past;
 use crate::pm_stream::{Group, TokenTree};
@@ -47,7 +50,7 @@ pub enum Shape {
 }
 
 /// Whether a pattern can begin with the sign, apart from angle brackets.
-fn is_pattern(class: Class) -> bool
+pub(crate) fn is_pattern(class: Class) -> bool
 {
     match class {
         Class::Word(_) | Class::Keyword(Keyword::Mut | Keyword::Other) => true,
@@ -60,7 +63,7 @@ fn is_pattern(class: Class) -> bool
 }
 
 /// Whether the sign can be in a pattern after its first sign.
-fn continues(class: Class) -> bool
+pub(crate) fn continues(class: Class) -> bool
 {
     match class {
         Class::Braces | Class::Exclamation | Class::Dot | Class::Equals | Class::Infix => true,
@@ -68,7 +71,7 @@ fn continues(class: Class) -> bool
     }
 }
 
-fn opens(class: Class) -> bool
+pub(crate) fn opens(class: Class) -> bool
 {
     match class {
         Class::Less | Class::LessJoint => true,
@@ -419,6 +422,27 @@ fn parameter_of(trees: &[TokenTree]) -> Result<(Parameter<'_>, &[TokenTree]), &[
     }
 }
 
+/// The signs that could come next where the trees begin with no parameter.
+#[cold]
+fn parameter_signs(trees: &[TokenTree]) -> Expected
+{
+    rule_signs(&PARAMETER, trees)
+}
+
+/// The signs that could come next where the trees begin with no pattern.
+#[cold]
+fn pattern_signs_at(trees: &[TokenTree]) -> Expected
+{
+    rule_signs(&PATTERN, trees)
+}
+
+/// The signs that could come next in a list of parameters, at its error.
+#[cold]
+fn parameters_signs(trees: &[TokenTree]) -> Expected
+{
+    list_signs(&PARAMETER, trees)
+}
+
 /// Returns the parameter of a function at the start of the trees, and the trees after it.
 ///
 /// Pass the trees in the parentheses of a function, or the rest that an earlier call returned. A parameter has
@@ -438,6 +462,8 @@ fn parameter_of(trees: &[TokenTree]) -> Result<(Parameter<'_>, &[TokenTree]), &[
 /// - `ensures fault`: <code>[IfErr] result (λ fault. [FaultAt] ([ByRule] [function_parameter]) trees.now
 ///   fault.at)</code>
 /// - `ensures span`: <code>[IfErr] result (λ fault. fault.span ≡ [extent_at] trees.now fault.at)</code>
+/// - `ensures expected`: <code>[IfErr] result (λ fault. [Expects] ([ByRule] [function_parameter]) trees.now
+///   fault.at fault.expected)</code>
 ///
 /// [IfOk]: crate::contracts#std.IfOk
 /// [IsParameterAt]: crate::contracts#declarations.Parameter.IsParameterAt
@@ -448,11 +474,12 @@ fn parameter_of(trees: &[TokenTree]) -> Result<(Parameter<'_>, &[TokenTree]), &[
 /// [FaultAt]: crate::contracts#declarations.Reading.FaultAt
 /// [ByRule]: crate::contracts#declarations.rules.Pieces.ByRule
 /// [extent_at]: crate::contracts#declarations.Fault.extent_at
+/// [Expects]: crate::contracts#declarations.Expected.Expects
 pub fn parse_parameter(trees: &[TokenTree]) -> Result<(Parameter<'_>, &[TokenTree]), Fault>
 {
     match parameter_of(trees) {
         Ok((parameter, rest)) => Ok((parameter, rest)),
-        Err(left) => Err(Fault::ahead_of(trees.len() - left.len(), left)),
+        Err(left) => Err(Fault::ahead_of(trees.len() - left.len(), left, parameter_signs(trees))),
     }
 }
 
@@ -471,6 +498,8 @@ pub fn parse_parameter(trees: &[TokenTree]) -> Result<(Parameter<'_>, &[TokenTre
 ///   found.1.now)</code>
 /// - `ensures fault`: <code>[IfErr] result (λ fault. [FaultAt] ([ByRule] [pattern]) trees.now fault.at)</code>
 /// - `ensures span`: <code>[IfErr] result (λ fault. fault.span ≡ [extent_at] trees.now fault.at)</code>
+/// - `ensures expected`: <code>[IfErr] result (λ fault. [Expects] ([ByRule] [pattern]) trees.now fault.at
+///   fault.expected)</code>
 ///
 /// [IfOk]: crate::contracts#std.IfOk
 /// [Reads]: crate::contracts#declarations.Reading.Reads
@@ -480,11 +509,12 @@ pub fn parse_parameter(trees: &[TokenTree]) -> Result<(Parameter<'_>, &[TokenTre
 /// [IfErr]: crate::contracts#std.IfErr
 /// [FaultAt]: crate::contracts#declarations.Reading.FaultAt
 /// [extent_at]: crate::contracts#declarations.Fault.extent_at
+/// [Expects]: crate::contracts#declarations.Expected.Expects
 pub fn split_pattern(trees: &[TokenTree]) -> Result<(&[TokenTree], &[TokenTree]), Fault>
 {
     match past_pattern(trees) {
         Ok(rest) => Ok((part(trees, rest), rest)),
-        Err(left) => Err(Fault::ahead_of(trees.len() - left.len(), left)),
+        Err(left) => Err(Fault::ahead_of(trees.len() - left.len(), left, pattern_signs_at(trees))),
     }
 }
 
@@ -550,8 +580,12 @@ fn first_parameter(trees: &[TokenTree]) -> Result<(Parameter<'_>, &[TokenTree]),
     match parse_parameter(trees) {
         Ok((parameter, rest)) => match past_comma(rest) {
             Some(left) => Ok((parameter, left)),
-            None => Err(fault_after(trees, rest)),
+            None => Err(fault_after(trees, rest, parameters_signs(trees))),
         },
-        Err(fault) => Err(fault),
+        Err(fault) => Err(Fault {
+            at: fault.at,
+            span: fault.span,
+            expected: parameters_signs(trees),
+        }),
     }
 }

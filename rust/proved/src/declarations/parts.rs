@@ -43,6 +43,8 @@ fn split_pair<'a>(
 /// - `ensures only`: <code>[IfOk] result (λ found. [IsOnly] [IsType] trees.now found.0.now found.1.now)</code>
 /// - `ensures fault`: <code>[IfErr] result (λ fault. [FaultAt] [IsType] trees.now fault.at)</code>
 /// - `ensures span`: <code>[IfErr] result (λ fault. fault.span ≡ [extent_at] trees.now fault.at)</code>
+/// - `ensures expected`: <code>[IfErr] result (λ fault. [Expects] [IsType] trees.now fault.at
+///   fault.expected)</code>
 ///
 /// [IfOk]: crate::contracts#std.IfOk
 /// [Reads]: crate::contracts#declarations.Reading.Reads
@@ -51,6 +53,7 @@ fn split_pair<'a>(
 /// [IfErr]: crate::contracts#std.IfErr
 /// [FaultAt]: crate::contracts#declarations.Reading.FaultAt
 /// [extent_at]: crate::contracts#declarations.Fault.extent_at
+/// [Expects]: crate::contracts#declarations.Expected.Expects
 pub fn split_type(trees: &[TokenTree]) -> Result<(&[TokenTree], &[TokenTree]), Fault>
 {
     split_alone(trees, Rule::Alone, State::Range(TypeState::Wanted))
@@ -67,6 +70,8 @@ pub fn split_type(trees: &[TokenTree]) -> Result<(&[TokenTree], &[TokenTree]), F
 ///   found.1.now)</code>
 /// - `ensures fault`: <code>[IfErr] result (λ fault. [FaultAt] [AreBounds] trees.now fault.at)</code>
 /// - `ensures span`: <code>[IfErr] result (λ fault. fault.span ≡ [extent_at] trees.now fault.at)</code>
+/// - `ensures expected`: <code>[IfErr] result (λ fault. [Expects] [AreBounds] trees.now fault.at
+///   fault.expected)</code>
 ///
 /// [IfOk]: crate::contracts#std.IfOk
 /// [Reads]: crate::contracts#declarations.Reading.Reads
@@ -75,6 +80,7 @@ pub fn split_type(trees: &[TokenTree]) -> Result<(&[TokenTree], &[TokenTree]), F
 /// [IfErr]: crate::contracts#std.IfErr
 /// [FaultAt]: crate::contracts#declarations.Reading.FaultAt
 /// [extent_at]: crate::contracts#declarations.Fault.extent_at
+/// [Expects]: crate::contracts#declarations.Expected.Expects
 pub fn split_bounds(trees: &[TokenTree]) -> Result<(&[TokenTree], &[TokenTree]), Fault>
 {
     split_alone(trees, Rule::Alone, State::Range(TypeState::Bound))
@@ -92,6 +98,8 @@ pub fn split_bounds(trees: &[TokenTree]) -> Result<(&[TokenTree], &[TokenTree]),
 ///   found.1.now)</code>
 /// - `ensures fault`: <code>[IfErr] result (λ fault. [FaultAt] [AreAttributes] trees.now fault.at)</code>
 /// - `ensures span`: <code>[IfErr] result (λ fault. fault.span ≡ [extent_at] trees.now fault.at)</code>
+/// - `ensures expected`: <code>[IfErr] result (λ fault. [Expects] [AreAttributes] trees.now fault.at
+///   fault.expected)</code>
 ///
 /// [IfOk]: crate::contracts#std.IfOk
 /// [Reads]: crate::contracts#declarations.Reading.Reads
@@ -100,6 +108,7 @@ pub fn split_bounds(trees: &[TokenTree]) -> Result<(&[TokenTree], &[TokenTree]),
 /// [IfErr]: crate::contracts#std.IfErr
 /// [FaultAt]: crate::contracts#declarations.Reading.FaultAt
 /// [extent_at]: crate::contracts#declarations.Fault.extent_at
+/// [Expects]: crate::contracts#declarations.Expected.Expects
 pub fn split_attributes(trees: &[TokenTree]) -> Result<(&[TokenTree], &[TokenTree]), Fault>
 {
     split_alone(
@@ -122,6 +131,8 @@ pub fn split_attributes(trees: &[TokenTree]) -> Result<(&[TokenTree], &[TokenTre
 ///   found.1.now)</code>
 /// - `ensures fault`: <code>[IfErr] result (λ fault. [FaultAt] [IsVisibility] trees.now fault.at)</code>
 /// - `ensures span`: <code>[IfErr] result (λ fault. fault.span ≡ [extent_at] trees.now fault.at)</code>
+/// - `ensures expected`: <code>[IfErr] result (λ fault. [Expects] [IsVisibility] trees.now fault.at
+///   fault.expected)</code>
 ///
 /// [IfOk]: crate::contracts#std.IfOk
 /// [Reads]: crate::contracts#declarations.Reading.Reads
@@ -130,6 +141,7 @@ pub fn split_attributes(trees: &[TokenTree]) -> Result<(&[TokenTree], &[TokenTre
 /// [IfErr]: crate::contracts#std.IfErr
 /// [FaultAt]: crate::contracts#declarations.Reading.FaultAt
 /// [extent_at]: crate::contracts#declarations.Fault.extent_at
+/// [Expects]: crate::contracts#declarations.Expected.Expects
 pub fn split_visibility(trees: &[TokenTree]) -> Result<(&[TokenTree], &[TokenTree]), Fault>
 {
     split_alone(
@@ -149,6 +161,8 @@ pub fn split_visibility(trees: &[TokenTree]) -> Result<(&[TokenTree], &[TokenTre
 /// - `ensures only`: <code>[IfOk] result (λ found. [IsOnly] [IsField] trees.now found.0.now found.1.now)</code>
 /// - `ensures fault`: <code>[IfErr] result (λ fault. [FaultAt] [IsField] trees.now fault.at)</code>
 /// - `ensures span`: <code>[IfErr] result (λ fault. fault.span ≡ [extent_at] trees.now fault.at)</code>
+/// - `ensures expected`: <code>[IfErr] result (λ fault. [Expects] [IsField] trees.now fault.at
+///   fault.expected)</code>
 ///
 /// [IfOk]: crate::contracts#std.IfOk
 /// [Reads]: crate::contracts#declarations.Reading.Reads
@@ -157,6 +171,7 @@ pub fn split_visibility(trees: &[TokenTree]) -> Result<(&[TokenTree], &[TokenTre
 /// [IfErr]: crate::contracts#std.IfErr
 /// [FaultAt]: crate::contracts#declarations.Reading.FaultAt
 /// [extent_at]: crate::contracts#declarations.Fault.extent_at
+/// [Expects]: crate::contracts#declarations.Expected.Expects
 pub fn split_field(trees: &[TokenTree]) -> Result<(&[TokenTree], &[TokenTree]), Fault>
 {
     split_alone(trees, Rule::Alone, State::At(Spot::Before(Part::Field)))
@@ -174,6 +189,8 @@ pub fn split_field(trees: &[TokenTree]) -> Result<(&[TokenTree], &[TokenTree]), 
 ///   found.1.now)</code>
 /// - `ensures fault`: <code>[IfErr] result (λ fault. [FaultAt] [IsTupleField] trees.now fault.at)</code>
 /// - `ensures span`: <code>[IfErr] result (λ fault. fault.span ≡ [extent_at] trees.now fault.at)</code>
+/// - `ensures expected`: <code>[IfErr] result (λ fault. [Expects] [IsTupleField] trees.now fault.at
+///   fault.expected)</code>
 ///
 /// [IfOk]: crate::contracts#std.IfOk
 /// [Reads]: crate::contracts#declarations.Reading.Reads
@@ -182,6 +199,7 @@ pub fn split_field(trees: &[TokenTree]) -> Result<(&[TokenTree], &[TokenTree]), 
 /// [IfErr]: crate::contracts#std.IfErr
 /// [FaultAt]: crate::contracts#declarations.Reading.FaultAt
 /// [extent_at]: crate::contracts#declarations.Fault.extent_at
+/// [Expects]: crate::contracts#declarations.Expected.Expects
 pub fn split_tuple_field(trees: &[TokenTree]) -> Result<(&[TokenTree], &[TokenTree]), Fault>
 {
     split_alone(
@@ -203,6 +221,8 @@ pub fn split_tuple_field(trees: &[TokenTree]) -> Result<(&[TokenTree], &[TokenTr
 ///   found.1.now)</code>
 /// - `ensures fault`: <code>[IfErr] result (λ fault. [FaultAt] [AreFields] trees.now fault.at)</code>
 /// - `ensures span`: <code>[IfErr] result (λ fault. fault.span ≡ [extent_at] trees.now fault.at)</code>
+/// - `ensures expected`: <code>[IfErr] result (λ fault. [Expects] [AreFields] trees.now fault.at
+///   fault.expected)</code>
 ///
 /// [IfOk]: crate::contracts#std.IfOk
 /// [Reads]: crate::contracts#declarations.Reading.Reads
@@ -211,6 +231,7 @@ pub fn split_tuple_field(trees: &[TokenTree]) -> Result<(&[TokenTree], &[TokenTr
 /// [IfErr]: crate::contracts#std.IfErr
 /// [FaultAt]: crate::contracts#declarations.Reading.FaultAt
 /// [extent_at]: crate::contracts#declarations.Fault.extent_at
+/// [Expects]: crate::contracts#declarations.Expected.Expects
 pub fn split_fields(trees: &[TokenTree]) -> Result<(&[TokenTree], &[TokenTree]), Fault>
 {
     split_alone(trees, Rule::Fields, State::At(Spot::Before(Part::Field)))
@@ -228,6 +249,8 @@ pub fn split_fields(trees: &[TokenTree]) -> Result<(&[TokenTree], &[TokenTree]),
 ///   found.1.now)</code>
 /// - `ensures fault`: <code>[IfErr] result (λ fault. [FaultAt] [AreTupleFields] trees.now fault.at)</code>
 /// - `ensures span`: <code>[IfErr] result (λ fault. fault.span ≡ [extent_at] trees.now fault.at)</code>
+/// - `ensures expected`: <code>[IfErr] result (λ fault. [Expects] [AreTupleFields] trees.now fault.at
+///   fault.expected)</code>
 ///
 /// [IfOk]: crate::contracts#std.IfOk
 /// [Reads]: crate::contracts#declarations.Reading.Reads
@@ -236,6 +259,7 @@ pub fn split_fields(trees: &[TokenTree]) -> Result<(&[TokenTree], &[TokenTree]),
 /// [IfErr]: crate::contracts#std.IfErr
 /// [FaultAt]: crate::contracts#declarations.Reading.FaultAt
 /// [extent_at]: crate::contracts#declarations.Fault.extent_at
+/// [Expects]: crate::contracts#declarations.Expected.Expects
 pub fn split_tuple_fields(trees: &[TokenTree]) -> Result<(&[TokenTree], &[TokenTree]), Fault>
 {
     split_alone(
@@ -257,6 +281,8 @@ pub fn split_tuple_fields(trees: &[TokenTree]) -> Result<(&[TokenTree], &[TokenT
 ///   found.1.now)</code>
 /// - `ensures fault`: <code>[IfErr] result (λ fault. [FaultAt] [IsVariant] trees.now fault.at)</code>
 /// - `ensures span`: <code>[IfErr] result (λ fault. fault.span ≡ [extent_at] trees.now fault.at)</code>
+/// - `ensures expected`: <code>[IfErr] result (λ fault. [Expects] [IsVariant] trees.now fault.at
+///   fault.expected)</code>
 ///
 /// [IfOk]: crate::contracts#std.IfOk
 /// [Reads]: crate::contracts#declarations.Reading.Reads
@@ -265,6 +291,7 @@ pub fn split_tuple_fields(trees: &[TokenTree]) -> Result<(&[TokenTree], &[TokenT
 /// [IfErr]: crate::contracts#std.IfErr
 /// [FaultAt]: crate::contracts#declarations.Reading.FaultAt
 /// [extent_at]: crate::contracts#declarations.Fault.extent_at
+/// [Expects]: crate::contracts#declarations.Expected.Expects
 pub fn split_variant(trees: &[TokenTree]) -> Result<(&[TokenTree], &[TokenTree]), Fault>
 {
     split_alone(trees, Rule::Alone, State::At(Spot::Before(Part::Variant)))
@@ -283,6 +310,8 @@ pub fn split_variant(trees: &[TokenTree]) -> Result<(&[TokenTree], &[TokenTree])
 ///   found.1.now)</code>
 /// - `ensures fault`: <code>[IfErr] result (λ fault. [FaultAt] [AreVariants] trees.now fault.at)</code>
 /// - `ensures span`: <code>[IfErr] result (λ fault. fault.span ≡ [extent_at] trees.now fault.at)</code>
+/// - `ensures expected`: <code>[IfErr] result (λ fault. [Expects] [AreVariants] trees.now fault.at
+///   fault.expected)</code>
 ///
 /// [IfOk]: crate::contracts#std.IfOk
 /// [Reads]: crate::contracts#declarations.Reading.Reads
@@ -291,6 +320,7 @@ pub fn split_variant(trees: &[TokenTree]) -> Result<(&[TokenTree], &[TokenTree])
 /// [IfErr]: crate::contracts#std.IfErr
 /// [FaultAt]: crate::contracts#declarations.Reading.FaultAt
 /// [extent_at]: crate::contracts#declarations.Fault.extent_at
+/// [Expects]: crate::contracts#declarations.Expected.Expects
 pub fn split_variants(trees: &[TokenTree]) -> Result<(&[TokenTree], &[TokenTree]), Fault>
 {
     let start = Place {
@@ -315,6 +345,8 @@ pub fn split_variants(trees: &[TokenTree]) -> Result<(&[TokenTree], &[TokenTree]
 ///   found.1.now)</code>
 /// - `ensures fault`: <code>[IfErr] result (λ fault. [FaultAt] [IsExpression] trees.now fault.at)</code>
 /// - `ensures span`: <code>[IfErr] result (λ fault. fault.span ≡ [extent_at] trees.now fault.at)</code>
+/// - `ensures expected`: <code>[IfErr] result (λ fault. [Expects] [IsExpression] trees.now fault.at
+///   fault.expected)</code>
 ///
 /// [IfOk]: crate::contracts#std.IfOk
 /// [Reads]: crate::contracts#declarations.Reading.Reads
@@ -323,6 +355,7 @@ pub fn split_variants(trees: &[TokenTree]) -> Result<(&[TokenTree], &[TokenTree]
 /// [IfErr]: crate::contracts#std.IfErr
 /// [FaultAt]: crate::contracts#declarations.Reading.FaultAt
 /// [extent_at]: crate::contracts#declarations.Fault.extent_at
+/// [Expects]: crate::contracts#declarations.Expected.Expects
 pub fn split_expression(trees: &[TokenTree]) -> Result<(&[TokenTree], &[TokenTree]), Fault>
 {
     split_alone(trees, Rule::Alone, State::At(Spot::Expression))
@@ -341,6 +374,8 @@ pub fn split_expression(trees: &[TokenTree]) -> Result<(&[TokenTree], &[TokenTre
 ///   found.1.now)</code>
 /// - `ensures fault`: <code>[IfErr] result (λ fault. [FaultAt] [AreGenerics] trees.now fault.at)</code>
 /// - `ensures span`: <code>[IfErr] result (λ fault. fault.span ≡ [extent_at] trees.now fault.at)</code>
+/// - `ensures expected`: <code>[IfErr] result (λ fault. [Expects] [AreGenerics] trees.now fault.at
+///   fault.expected)</code>
 ///
 /// [IfOk]: crate::contracts#std.IfOk
 /// [Reads]: crate::contracts#declarations.Reading.Reads
@@ -349,6 +384,7 @@ pub fn split_expression(trees: &[TokenTree]) -> Result<(&[TokenTree], &[TokenTre
 /// [IfErr]: crate::contracts#std.IfErr
 /// [FaultAt]: crate::contracts#declarations.Reading.FaultAt
 /// [extent_at]: crate::contracts#declarations.Fault.extent_at
+/// [Expects]: crate::contracts#declarations.Expected.Expects
 pub fn split_generics(trees: &[TokenTree]) -> Result<(&[TokenTree], &[TokenTree]), Fault>
 {
     split_alone(trees, Rule::Alone, State::At(Spot::Generics))
@@ -364,6 +400,8 @@ pub fn split_generics(trees: &[TokenTree]) -> Result<(&[TokenTree], &[TokenTree]
 /// - `ensures only`: <code>[IfOk] result (λ found. [IsOnly] [IsWhere] trees.now found.0.now found.1.now)</code>
 /// - `ensures fault`: <code>[IfErr] result (λ fault. [FaultAt] [IsWhere] trees.now fault.at)</code>
 /// - `ensures span`: <code>[IfErr] result (λ fault. fault.span ≡ [extent_at] trees.now fault.at)</code>
+/// - `ensures expected`: <code>[IfErr] result (λ fault. [Expects] [IsWhere] trees.now fault.at
+///   fault.expected)</code>
 ///
 /// [IfOk]: crate::contracts#std.IfOk
 /// [Reads]: crate::contracts#declarations.Reading.Reads
@@ -372,6 +410,7 @@ pub fn split_generics(trees: &[TokenTree]) -> Result<(&[TokenTree], &[TokenTree]
 /// [IfErr]: crate::contracts#std.IfErr
 /// [FaultAt]: crate::contracts#declarations.Reading.FaultAt
 /// [extent_at]: crate::contracts#declarations.Fault.extent_at
+/// [Expects]: crate::contracts#declarations.Expected.Expects
 pub fn split_where(trees: &[TokenTree]) -> Result<(&[TokenTree], &[TokenTree]), Fault>
 {
     split_alone(trees, Rule::Alone, State::At(Spot::Where))
@@ -388,6 +427,8 @@ pub fn split_where(trees: &[TokenTree]) -> Result<(&[TokenTree], &[TokenTree]), 
 /// - `ensures only`: <code>[IfOk] result (λ found. [IsOnly] [IsItem] trees.now found.0.now found.1.now)</code>
 /// - `ensures fault`: <code>[IfErr] result (λ fault. [FaultAt] [IsItem] trees.now fault.at)</code>
 /// - `ensures span`: <code>[IfErr] result (λ fault. fault.span ≡ [extent_at] trees.now fault.at)</code>
+/// - `ensures expected`: <code>[IfErr] result (λ fault. [Expects] [IsItem] trees.now fault.at
+///   fault.expected)</code>
 ///
 /// [IfOk]: crate::contracts#std.IfOk
 /// [Reads]: crate::contracts#declarations.Reading.Reads
@@ -396,6 +437,7 @@ pub fn split_where(trees: &[TokenTree]) -> Result<(&[TokenTree], &[TokenTree]), 
 /// [IfErr]: crate::contracts#std.IfErr
 /// [FaultAt]: crate::contracts#declarations.Reading.FaultAt
 /// [extent_at]: crate::contracts#declarations.Fault.extent_at
+/// [Expects]: crate::contracts#declarations.Expected.Expects
 pub fn split_item(trees: &[TokenTree]) -> Result<(&[TokenTree], &[TokenTree]), Fault>
 {
     split_alone(trees, Rule::Alone, State::At(Spot::Before(Part::TypeItem)))
@@ -413,6 +455,8 @@ pub fn split_item(trees: &[TokenTree]) -> Result<(&[TokenTree], &[TokenTree]), F
 ///   found.1.now)</code>
 /// - `ensures fault`: <code>[IfErr] result (λ fault. [FaultAt] [AreInnerAttributes] trees.now fault.at)</code>
 /// - `ensures span`: <code>[IfErr] result (λ fault. fault.span ≡ [extent_at] trees.now fault.at)</code>
+/// - `ensures expected`: <code>[IfErr] result (λ fault. [Expects] [AreInnerAttributes] trees.now fault.at
+///   fault.expected)</code>
 ///
 /// [IfOk]: crate::contracts#std.IfOk
 /// [Reads]: crate::contracts#declarations.Reading.Reads
@@ -421,6 +465,7 @@ pub fn split_item(trees: &[TokenTree]) -> Result<(&[TokenTree], &[TokenTree]), F
 /// [IfErr]: crate::contracts#std.IfErr
 /// [FaultAt]: crate::contracts#declarations.Reading.FaultAt
 /// [extent_at]: crate::contracts#declarations.Fault.extent_at
+/// [Expects]: crate::contracts#declarations.Expected.Expects
 pub fn split_inner_attributes(trees: &[TokenTree]) -> Result<(&[TokenTree], &[TokenTree]), Fault>
 {
     split_alone(trees, Rule::Alone, State::At(Spot::Inner))

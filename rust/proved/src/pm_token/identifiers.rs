@@ -16,6 +16,9 @@ use crate::shim::alloc::AllocError;
 use crate::shim::fmt;
 
 /// An identifier or a keyword, raw or plain.
+///
+/// A raw identifier is written with `r#`. Its text has the `r#` too: that of `r#fn` is `r#fn`, and `r#fn` is not equal
+/// to the text `fn`.
 pub struct Ident {
     name: Name,
     span: Span,

@@ -10,6 +10,8 @@ mod compile_errors;
 #[cfg(test)]
 mod entries;
 #[cfg(test)]
+mod expected;
+#[cfg(test)]
 mod files;
 #[cfg(test)]
 mod function;

@@ -55,8 +55,8 @@ explore_many-returns-then-one-seen t c =
     let same = c.if-one-seen.true in
     let seen = c.loop-seen.seen in
     repeats_end (grammar_of c.args.item.now) c.args.trees.now seen.left.now seen.next c.explore-one.result
-    (record { left = seen.left; next = c.union.result }) c.loop-seen.invariant c.explore-one.ensures (omega arith) refl
-    c.union.ensures
+    (record { left = seen.left; next = c.both.result }) c.loop-seen.invariant c.explore-one.ensures (omega arith) refl
+    c.both.ensures
 
 pub explore_many-returns-else-has_end : goal.explore_many-returns-else-has_end
 explore_many-returns-else-has_end t c =

@@ -12,5 +12,5 @@ pub returns-else-second-first : goal.returns-else-second-first
 returns-else-second-first c = λ a b trees e none d.
     let within = sees_within b trees c.args.second d in
     let not = c.if-second-first.false in
-    sees_neither a b trees c.args.first c.args.second (record { left = c.args.second.left; next = c.union.result }) e
-    none d (omega arith) refl c.union.ensures
+    sees_neither a b trees c.args.first c.args.second (record { left = c.args.second.left; next = c.both.result }) e
+    none d (omega arith) refl c.both.ensures

@@ -13,10 +13,10 @@ returns-else-second-first c = λ a b trees e h d.
     let second = c.args.second in
     let within = sees_within b c.args.first.left.now second d in
     let not = c.if-second-first.false in
-    sees_both a b trees c.args.first second (record { left = second.left; next = c.union.result }) e h d (omega arith)
+    sees_both a b trees c.args.first second (record { left = second.left; next = c.both.result }) e h d (omega arith)
     refl
     (record {
       classes = λ x.
-          c.union.ensures.classes x ∙ ap (λ y. y || holds second.next x) (c.without_end.ensures.classes x);
-      end = c.union.ensures.end ∙ ap (λ y. y || holds_end second.next) c.without_end.ensures.end;
+          c.both.ensures.classes x ∙ ap (λ y. y || holds second.next x) (c.without_end.ensures.classes x);
+      end = c.both.ensures.end ∙ ap (λ y. y || holds_end second.next) c.without_end.ensures.end;
     })

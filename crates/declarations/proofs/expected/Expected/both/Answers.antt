@@ -1,5 +1,5 @@
 use Rattle.declarations.proofs.ExpectedLemmas.{joined}
-use Rattle.declarations.proofs.expected.Expected.union.Goals as goal
+use Rattle.declarations.proofs.expected.Expected.both.Goals as goal
 
 pub returns : goal.returns
 returns c = joined c.args.self c.args.other
