@@ -121,7 +121,7 @@ impl CompileError {
     /// let stream: TokenStream = "struct {}".parse()?;
     /// let error = CompileError::from(parse_type_item(stream.trees()).unwrap_err());
     /// let told = error.to_compile_error();
-    /// assert_eq!(told.to_string(), r#":: core :: compile_error ! { "not expected here" }"#);
+    /// assert_eq!(told.to_string(), r#":: core :: compile_error ! { "expected a name" }"#);
     /// # Ok::<(), Box<dyn std::error::Error>>(())
     /// ```
     pub fn to_compile_error(&self) -> TokenStream {
