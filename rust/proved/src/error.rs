@@ -23,7 +23,7 @@ pub use crate::alloc_error::AllocError;
 pub use crate::compile_error::CompileError;
 #[cfg(feature = "declarations")]
 #[doc(inline)]
-pub use crate::declarations::{EntryError, Fault};
+pub use crate::declarations::{Class, EntryError, Expected, Fault, Keyword, Word};
 #[cfg(feature = "explain")]
 #[doc(inline)]
 pub use crate::explain::ExplainError;
