@@ -9,10 +9,10 @@ use proved_tokens::check::{advice, explain, Hint};
 use proved_tokens::cursor::TokenBuffer;
 use proved_tokens::error::CompileError;
 use proved_tokens::items::{
-    check_entries, compile_error, impl_generics, impl_header, impl_header_where, parse_file, parse_function,
-    parse_param, parse_parameter, parse_type_item, split_any_item, split_attribute, split_attributes, split_type,
-    split_visibility, type_generics, where_clause, where_clause_with_bound, within_generics, Attributes, Body, Entries,
-    EntryKind, ItemKind, ParamKind, ParameterKind, Parameters,
+    check_entries, compile_error, impl_generics, impl_header, impl_header_where, parse_entry, parse_file,
+    parse_function, parse_param, parse_parameter, parse_type_item, split_any_item, split_attribute, split_attributes,
+    split_type, split_visibility, type_generics, where_clause, where_clause_with_bound, within_generics, Attributes,
+    Body, Entries, EntryKind, ItemKind, ParamKind, ParameterKind, Parameters,
 };
 use proved_tokens::print::to_pretty_string;
 use proved_tokens::quote::{Hole, Holes, Quote, Template};
@@ -76,6 +76,8 @@ fn calls_in_place_of_proc_macro2s_on_spans_and_literals() -> Outcome {
     let stream = TokenStream::from_str(text, &mut map)?;
     let (span, other) = (stream.trees()[0].span(), stream.trees()[6].span());
     assert!(map.holds(span) && map.holds(other));
+    let one = span;
+    assert!(!one.eq(&other) && other.eq(&other));
     assert_eq!(span.start(&map).line, 1);
     assert_eq!(span.end(&map).column, 2);
     let TokenTree::Group(group) = &stream.trees()[6] else { panic!("it is the body") };
@@ -169,7 +171,11 @@ fn calls_in_place_of_syns_on_attributes_parameters_and_errors() -> Outcome {
     for entry in Entries::new(group) {
         let entry = entry?;
         assert_ne!(entry.is("skip"), entry.is("c"));
+        assert_eq!(entry.name().is_some_and(|name| *name == "c"), entry.is("c"));
     }
+    let list: TokenStream = "clippy::all".parse()?;
+    let (entry, _) = parse_entry(list.trees())?;
+    assert_eq!(TokenStream::from(entry.path).to_string(), "clippy :: all");
     let checked = || -> Result<(), CompileError> { Ok(check_entries(trees, known)?) };
     let mut error = checked().err().ok_or("it is known")?;
     assert_eq!(error.to_string(), "unknown entry `c`; known are `skip`, `d`");
