@@ -229,7 +229,7 @@ callers_in_c() {
         functions() {
             local whole=(-Wl,--whole-archive "$archive" -Wl,--no-whole-archive)
             "$cc" -shared -fPIC -o "$room/libpm_c.so" "${whole[@]}" ../c/heap.c || return 1
-            ../c/functions.py "$room/libpm_c.so" ../c/functions.rs.txt > "$room/seen" || return 1
+            (cd .. && c/functions.py "$room/libpm_c.so" c/functions.rs.txt) > "$room/seen" || return 1
             diff ../c/functions.stdout "$room/seen"
         }
         try "a Python program over the library lists a file's functions" functions
