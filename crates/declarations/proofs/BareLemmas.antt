@@ -1,82 +1,107 @@
--- Groups without delimiters.
-use Rattle.std.proofs.Common.{◌≡◌, refl, sym, ◌∙◌, ap, subst, ◌<◌, ◌==◌, ◌&&◌, Bool, true, false, List, [], ◌∷◌}
-use Rattle.std.proofs.Common.{Some, None, length, suc, if◌then◌else◌, arith}
-use Rattle.pm_stream.specs.DocGroup.{trees_of}
-use Rattle.pm_stream.specs.Forest.{Forest, nil, leaf, group}
-use Rattle.pm_stream.specs.Size.{count, is_nil}
-use Rattle.pm_stream.specs.Trees.{forest}
-use Rattle.pm_stream.specs.declared.stream.Group.{Group as Grouped}
-use Rattle.pm_stream.specs.declared.stream.TokenTree.{TokenTree}
-use Rattle.pm_stream.specs.declared.stream.TokenTree.TheVariants.{Group, Ident, Punct, Literal}
-use Rattle.pm_stream.proofs.DocLemmas.{trees_of-forest}
-use Rattle.declarations.proofs.SignLemmas.{nil_forest}
-use Rattle.declarations.specs.Bare.{bare_first, has_no_delimiters, held_alone, held_by, innermost, inside_of}
+-- What rules find, without the events.
+use Rattle.std.proofs.Common.{◌≡◌, refl, sym, ◌∙◌, ap, ℕ, ◌≤◌, length, Bool, true, false, List, [], ◌∷◌, arith}
+use Rattle.grammars.specs.Find.{Found, Past, Stuck, and_then, find, front, scan}
+use Rattle.grammars.specs.First.{heads, may_begin}
+use Rattle.grammars.specs.Grammar.{Either, Event, Listed, Many, Mark, Nothing, One, Sign, Then, To, further}
+use Rattle.grammars.specs.Machine.{is_nullable}
+use Rattle.grammars.proofs.WordLemmas.{find_element, find_first, find_lacks, find_mark, find_more, find_other, find_sign}
+use Rattle.grammars.proofs.WordLemmas.{find_skips, find_then, find_to}
+use Rattle.declarations.specs.declared.class.Class.{Class}
+use Rattle.declarations.specs.rules.Names.{G, Label, Name}
+use Rattle.declarations.specs.rules.Rules.{rules}
+use Rattle.declarations.proofs.LoopLemmas.{Fits, scan_fits}
 
--- the trees of a stream in a group that holds no other group alone
-pub innermost_held : (f g : Forest) → held_alone f ≡ Some g → innermost f ≡ innermost g
-innermost_held nil g e = cc
-innermost_held (leaf token lo hi rest) g e = cc
-innermost_held (group d lo hi inside rest) g e = go (has_no_delimiters d && is_nil rest) e
+-- what is found, without the events
+abbrev pub bare : Found Class Label → Found Class Label
+bare (Past events rest) = Past [] rest
+bare (Stuck left) = Stuck left
+
+-- what a rule finds at the start of the signs, without the events
+abbrev pub finds : G → List Class → Found Class Label
+finds g cs = bare (find rules g cs)
+
+-- what is found, and then what `f` finds in the signs after it, without the events
+abbrev pub bind : Found Class Label → (List Class → Found Class Label) → Found Class Label
+bind (Past events rest) f = f rest
+bind (Stuck left) f = Stuck left
+
+bare_front : (events : List (Event Class Label)) (f : Found Class Label) → bare (front events f) ≡ bare f
+bare_front events (Past e r) = refl
+bare_front events (Stuck l) = refl
+
+bare_then : (x : Found Class Label) (f : List Class → Found Class Label)
+    → bare (and_then x f) ≡ bind (bare x) (λ r. bare (f r))
+bare_then (Past e r) f = bare_front e (f r)
+bare_then (Stuck l) f = refl
+
+pub bind_bind : (x : Found Class Label) (f g : List Class → Found Class Label)
+    → bind (bind x f) g ≡ bind x (λ r. bind (f r) g)
+bind_bind (Past e r) f g = refl
+bind_bind (Stuck l) f g = refl
+
+-- ---- word by word
+
+pub finds_then : (a b : G) (cs : List Class) → finds (Then a b) cs ≡ bind (finds a cs) (finds b)
+finds_then a b cs = ap bare (find_then rules a b cs) ∙ bare_then (find rules a cs) (find rules b)
+
+pub finds_marked : (l : Label) (b : G) (cs : List Class) → finds (Then (Mark l) b) cs ≡ finds b cs
+finds_marked l b cs =
+    finds_then (Mark l) b cs ∙ ap (λ x. bind (bare x) (finds b)) (find_mark rules l cs)
+
+pub finds_first : (a b : G) (cs : List Class) → heads a cs ≡ true → finds (Either a b) cs ≡ finds a cs
+finds_first a b cs h = ap bare (find_first rules a b cs h)
+
+pub finds_other : (a b : G) (cs : List Class) → heads a cs ≡ false → is_nullable a ≡ false
+    → finds (Either a b) cs ≡ finds b cs
+finds_other a b cs h e = ap bare (find_other rules a b cs h e)
+
+pub finds_sign : (passes : Class → Bool) (c : Class) (cs : List Class) → passes c ≡ true
+    → finds (Sign passes) (c ∷ cs) ≡ Past [] cs
+finds_sign passes c cs h = ap bare (find_sign rules passes c cs h)
+
+pub finds_to : (passes : Class → Bool) (n : Name) (c : Class) (cs : List Class) → passes c ≡ true
+    → finds (To passes n) (c ∷ cs) ≡ finds (rules n) cs
+finds_to passes n c cs h =
+    ap bare (find_to rules passes n c cs h) ∙ bare_front (One c ∷ []) (find rules (rules n) cs)
+
+pub finds_skips : (g : G) (cs : List Class) → heads g cs ≡ false → is_nullable g ≡ true → finds g cs ≡ Past [] cs
+finds_skips g cs h e = ap bare (find_skips rules g cs h e)
+
+pub finds_lacks : (g : G) (cs : List Class) → heads g cs ≡ false → is_nullable g ≡ false → finds g cs ≡ Stuck cs
+finds_lacks g cs h e = ap bare (find_lacks rules g cs h e)
+
+pub finds_element : (a s : G) (cs : List Class) → heads a cs ≡ true
+    → finds (Listed a s) cs ≡ bind (finds a cs) (finds (further a s))
+finds_element a s cs h =
+    ap bare (find_element rules a s cs h) ∙ bare_then (find rules a cs) (find rules (further a s))
+
+pub finds_more : (a : G) (cs : List Class) → heads a cs ≡ true
+    → finds (Many a) cs ≡ bind (finds a cs) (finds (Many a))
+finds_more a cs h = ap bare (find_more rules a cs h) ∙ bare_then (find rules a cs) (find rules (Many a))
+
+-- ---- with the events again
+
+pub past_found : (g : G) (cs rest : List Class) → finds g cs ≡ Past [] rest
+    → (events : List (Event Class Label)) × (find rules g cs ≡ Past events rest)
+past_found g cs rest e = go (find rules g cs) e
   where
-    go : (b : Bool) → (if b then Some inside else None) ≡ Some g
-        → (if b then innermost inside else group d lo hi inside rest) ≡ innermost g
-    go true h = let same : inside ≡ g = cc in ap innermost same
-    go false h = cc
+    go : (f : Found Class Label) → bare f ≡ Past [] rest
+        → (events : List (Event Class Label)) × (f ≡ Past events rest)
+    go (Past events r) h = let same : r ≡ rest = cc in (events, ap (Past events) same)
+    go (Stuck l) h = absurd cc
 
-pub innermost_none : (f : Forest) → held_alone f ≡ None → innermost f ≡ f
-innermost_none nil e = refl
-innermost_none (leaf token lo hi rest) e = refl
-innermost_none (group d lo hi inside rest) e = go (has_no_delimiters d && is_nil rest) e
+pub stuck_found : (g : G) (cs left : List Class) → finds g cs ≡ Stuck left → find rules g cs ≡ Stuck left
+stuck_found g cs left e = go (find rules g cs) e
   where
-    go : (b : Bool) → (if b then Some inside else None) ≡ None
-        → (if b then innermost inside else group d lo hi inside rest) ≡ group d lo hi inside rest
-    go true h = cc
-    go false h = refl
+    go : (f : Found Class Label) → bare f ≡ Stuck left → f ≡ Stuck left
+    go (Past events r) h = absurd cc
+    go (Stuck l) h = h
 
-pub held_fewer : (f g : Forest) → held_alone f ≡ Some g → count g < count f
-held_fewer nil g e = cc
-held_fewer (leaf token lo hi rest) g e = cc
-held_fewer (group d lo hi inside rest) g e = go (has_no_delimiters d && is_nil rest) e
+-- no more signs are left than there were
+pub find_fits : (g : G) (cs : List Class) → Fits (length cs) (finds g cs)
+unfolding find
+find_fits g cs = go (scan rules (g ∷ []) cs) (scan_fits rules (g ∷ []) cs)
   where
-    go : (b : Bool) → (if b then Some inside else None) ≡ Some g → count g < count (group d lo hi inside rest)
-    go true h =
-        let same : inside ≡ g = cc in
-        subst (λ f. count f < count (group d lo hi inside rest)) same (omega arith)
-    go false h = cc
-
-pub held_first : (stream : Forest) (trees : List TokenTree) (first : TokenTree) (rest : List TokenTree) (g : Grouped)
-    (last : Bool) → forest trees ≡ stream → trees ≡ first ∷ rest → first ≡ Group g → last ≡ (length rest == 0)
-    → held_by g.delimiter g.stream last ≡ held_alone stream
-held_first stream trees first rest g last held whole is none =
-    let all : stream ≡ forest (Group g ∷ rest) = sym held ∙ ap forest whole ∙ ap (λ f. forest (f ∷ rest)) is in
-    let nil_rest : is_nil (forest rest) ≡ last = nil_forest rest ∙ sym none in
-    ap (λ l. held_by g.delimiter g.stream l) (sym nil_rest) ∙ ap held_alone (sym all)
-
--- the trees of a stream that are the innermost of a group
-pub inside_trees : (trees : List TokenTree) (stream held : Forest) (g : Grouped) → forest trees ≡ held
-    → held ≡ innermost stream → stream ≡ g.stream
-    → trees ≡ inside_of g
-inside_trees trees stream held g whole same is =
-    sym (trees_of-forest trees) ∙ ap trees_of (whole ∙ same ∙ ap innermost is)
-
-pub no_bare : (trees : List TokenTree) → ((g : Grouped) (rest : List TokenTree) → trees ≡ Group g ∷ rest → ⊥)
-    → bare_first trees ≡ None
-no_bare [] none = refl
-no_bare (Group g ∷ rest) none = absurd (none g rest refl)
-no_bare (Ident i ∷ rest) none = refl
-no_bare (Punct p ∷ rest) none = refl
-no_bare (Literal l ∷ rest) none = refl
-
-pub some_bare : (trees rest : List TokenTree) (g : Grouped) (b : Bool) → trees ≡ Group g ∷ rest
-    → b ≡ has_no_delimiters g.delimiter → b ≡ true → bare_first trees ≡ Some (g, rest)
-some_bare trees rest g b whole is h =
-    let bare : has_no_delimiters g.delimiter ≡ true = sym is ∙ h in
-    ap bare_first whole ∙ rw bare refl
-
-pub not_bare : (trees rest : List TokenTree) (g : Grouped) (b : Bool) → trees ≡ Group g ∷ rest
-    → b ≡ has_no_delimiters g.delimiter → b ≡ false → bare_first trees ≡ None
-not_bare trees rest g b whole is h =
-    let bare : has_no_delimiters g.delimiter ≡ false = sym is ∙ h in
-    ap bare_first whole ∙ rw bare refl
-
-pub ruleset bares = (no_bare, some_bare, not_bare)
+    go : (f : Found Class Label) → Fits (length cs) f → Fits (length cs) (bare f)
+    go (Past events rest) h = h
+    go (Stuck left) h = h
