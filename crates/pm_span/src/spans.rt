@@ -98,7 +98,7 @@ impl Span {
         (self.lo, self.hi)
     }
 
-    /// Returns whether both spans have the same positions.
+    /// Returns whether both spans have the same positions. There is no `==` for spans, as in proc-macro2.
     pub fn eq(&self, other: &Span) -> bool
         ensures value { result ≡ extent_eq self.now other.now }
         ensures same { IsTrue result ↔ (self.now ≡ other.now) }

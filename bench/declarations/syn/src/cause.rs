@@ -20,13 +20,13 @@ pub fn of_part(name: &str, theirs: &str, ours: &str) -> Option<&'static str> {
     (is_order && theirs == ours).then_some("syn prints lifetimes before other arguments, with commas")
 }
 
-/// The cause, if one explains that ours refuses the item.
+/// The cause, if one explains that ours rejects the item.
 pub fn of_refusal(item: &DeriveInput) -> Option<&'static str> {
     let is_nameless = item.generics.type_params().any(|parameter| parameter.ident == "_");
     is_nameless.then_some("syn reads `_` as the name of a type parameter")
 }
 
-/// The cause, if one explains that ours refuses the function.
+/// The cause, if one explains that ours rejects the function.
 pub fn of_refused_function(function: &Function) -> Option<&'static str> {
     // For a type alone syn makes a pattern and a colon that have the place of the type.
     let is_nameless = |input: &FnArg| match input {

@@ -303,10 +303,10 @@ pub fn split_variants(trees: &[TokenTree]) -> Result<(&[TokenTree], &[TokenTree]
     split_pair(trees, start)
 }
 
-/// Returns the expression of a discriminant at the start of the trees, and the trees after it.
+/// Returns the expression at the start of the trees, and the trees after it.
 ///
-/// An expression is not parsed; only its end is found. For `f::<X, Y>() as A<B, C>, D` it is everything before the last
-/// `,`.
+/// Like the discriminant of a variant, it ends at a `,` outside of angle brackets, or with the trees. It is not parsed;
+/// only its end is found. For `f::<X, Y>() as A<B, C>, D` it is everything before the last `,`.
 ///
 /// # Contract
 ///

@@ -18,7 +18,7 @@ pub struct Variant<'a> {
     pub name: &'a Ident,
     /// The fields, or `Unit` if the variant has none.
     pub fields: Fields<'a>,
-    /// The expression after `=`, or no trees.
+    /// The expression after `=`, or no trees. For `= -1` it is two trees, `-` and `1`.
     pub discriminant: &'a [TokenTree],
 }
 

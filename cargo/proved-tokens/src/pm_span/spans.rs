@@ -112,7 +112,7 @@ impl Span {
         (self.lo, self.hi)
     }
 
-    /// Returns whether both spans have the same positions.
+    /// Returns whether both spans have the same positions. There is no `==` for spans, as in proc-macro2.
     ///
     /// # Contract
     ///

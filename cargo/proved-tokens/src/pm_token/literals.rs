@@ -39,6 +39,8 @@ impl Literal {
 
     /// Returns the literal as it is written, with its quotes, its suffix and a `-` before a negative number.
     ///
+    /// This is what `to_string()` gives, without a copy. It is not the value: the text of `"a"` has 3 characters.
+    ///
     /// # Contract
     ///
     /// - `ensures`: <code>[chars] result.now ≡ self.now.text</code>
