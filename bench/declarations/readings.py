@@ -5,16 +5,16 @@ For each part, and each list of signs over an alphabet, it looks for all reading
 must be one at most. The walk by the tables in `specs/` must end exactly where there is one, and go on exactly where
 the list is a front of one. The tables are read from the definitions, so a wrong row of these shows here.
 
-Entries of attributes and parameters of functions have no table. In place of a walk by tables, these are read by their
-rules in `specs/rules`, as `dev/checks/grammar_value.py` reads this value. So are generic parameters, without the
-brackets.
+Entries of attributes, parameters of functions, paths and generic arguments have no table. In place of a walk by tables,
+these are read by their rules in `specs/rules`, as `dev/checks/grammar_value.py` reads this value. So are generic
+parameters, without the brackets.
 
 Usage: readings.py [--code] [LENGTH [PART..]]
 
-With `--code` it compares what the calls for entries, parameters and patterns return with the same grammar, on the same
-lists: the numbers of trees in the parts, the kinds, and where faults are. The calls are those of the package
-`proved-tokens`. `bench/declarations/answers`, which cargo builds, calls them. Lists in which two signs would be another
-sign together, such as `#` and `!`, are left out.
+With `--code` it compares what the calls for those and for patterns return with the same grammar, on the same lists: the
+numbers of trees in the parts, the kinds, and where faults are. The calls are those of the package `proved-tokens`.
+`bench/declarations/answers`, which cargo builds, calls them. Lists in which two signs would be another sign together,
+such as `#` and `!`, are left out.
 """
 import os
 import re
@@ -351,6 +351,16 @@ PROVED = [
     ("fn_parameters", "Parameters.function_parameters", [
         "Word Colon Comma SelfValue And Dot", "Hash Brackets Mut SelfValue Comma Word Colon",
         "Word Colon Comma Less Greater Parentheses"]),
+    ("type_path", "Paths.type_path", [
+        "Word PathSeparator Less Greater Comma Literal", "Word PathSeparator Less Parentheses Arrow Greater",
+        "SelfValue SelfType Super Crate Union PathSeparator", "Word Less LessJoint Greater Lifetime Equals Colon",
+        "Word Parentheses Arrow Plus PathSeparator Restriction", "Word Less Greater Exclamation As Invisible Braces"]),
+    ("generic_argument", "Paths.generic_argument", [
+        "Word Lifetime Comma Equals Colon Plus Literal", "Minus Literal Truth Braces Word Equals Comma",
+        "Word Less Greater Comma Equals Colon PathSeparator", "Lifetime Plus Word Colon Equals And",
+        "And SelfType Underscore Brackets Invisible Exclamation Question Star", "Dyn Impl Fn Parentheses Arrow Comma"]),
+    ("generic_arguments", "Paths.generic_arguments", [
+        "Word Comma Equals Literal Lifetime", "Word Less Greater Comma Colon", "Minus Literal Truth Braces Comma"]),
     ("entry", "Entries.entry", [
         "Word PathSeparator Parentheses Equals Literal Minus Truth", "Word As Equals Greater Arrow Literal Comma",
         "Word Equals Less Greater Comma And Bar", "Keyword SelfValue SelfType Super Crate Await Jump PathSeparator",
@@ -399,7 +409,9 @@ def parts(tables, value):
 
 TWO_TREES = ("Lifetime", "PathSeparator", "Arrow", "LessEquals", "Bars", "HashBang")
 ANOTHER_SIGN = (("Hash", "Exclamation"), ("LessJoint", "Equals"))
-CALLED = ("pattern", "fn_parameter", "fn_parameters", "entry", "entries")
+CALLED = ("pattern", "fn_parameter", "fn_parameters", "entry", "entries", "generic_argument", "generic_arguments",
+          "type_path")
+LISTS = {"fn_parameters": "fn_parameter", "entries": "entry", "generic_arguments": "generic_argument"}
 
 
 def trees(signs):
@@ -424,12 +436,15 @@ class Expected:
         raise ValueError("nothing begins " + part)
 
     def answer(self, part, signs):
-        if part in ("fn_parameters", "entries"):
-            return self.elements(part, {"fn_parameters": "fn_parameter", "entries": "entry"}[part], signs)
+        if part in LISTS:
+            return self.elements(part, LISTS[part], signs)
+        if part == "type_path":
+            return self.path(("Word",) if signs == ("Invisible",) else signs)
         count, is_whole = self.front(part, signs)
         if not is_whole:
             return "fault %d" % trees(signs[:count])
-        parts = {"pattern": lambda signs: [], "fn_parameter": self.parameter, "entry": self.entry}[part](signs[:count])
+        parts = {"pattern": lambda signs: [], "fn_parameter": self.parameter, "entry": self.entry,
+                 "generic_argument": self.argument}[part](signs[:count])
         return " ".join(["ok", str(trees(signs[:count]))] + parts)
 
     def elements(self, part, element, signs):
@@ -461,6 +476,34 @@ class Expected:
                     found.append((name, kind, trees(end) if ended == "type" else 0))
         (name, kind, size), = found
         return [str(trees(signs[:at])), str(trees(name)), kind, str(size)]
+
+    def path(self, signs):
+        """What is said of a path. A group without delimiters that is all of the trees holds a word."""
+        count, is_whole = self.front("type_path", signs)
+        if not is_whole or count < len(signs):
+            return "fault %d" % trees(signs[:count])
+        at = next(at for at in range(len(signs)) if self.is_whole("path_segment", signs[at:]) and (
+            at == 0 or signs[at - 1] == "PathSeparator" and (at == 1 or self.is_whole("type_path", signs[:at - 1]))))
+        rest = signs[at + 1:]
+        rest = rest[1:] if rest[:1] == ("PathSeparator",) else rest
+        kind, size = "None", 0
+        if rest:
+            round_group = rest[0] in ("Parentheses", "Restriction")
+            kind, size = ("Round", trees(rest[2:])) if round_group else ("Angle", trees(rest[1:-1]))
+        return "ok %d %s %d" % (trees(signs[:at]), kind, size)
+
+    def argument(self, signs):
+        if signs == ("Lifetime",):
+            return [str(trees(signs)), "Lifetime", "0"]
+        if signs[-1] in ("Literal", "Truth", "Braces") and signs[:-1] in ((), ("Minus",)):
+            return [str(trees(signs)), "Const", "0"]
+        found = [(signs, "Type", 0)] if self.is_whole("type", signs) else []
+        for mark, end, kind in (("Equals", "type", "Binding"), ("Colon", "bounds", "Constraint")):
+            for at in [place for place, sign in enumerate(signs) if sign == mark]:
+                if self.is_whole("type", signs[:at]) and self.is_whole(end, signs[at + 1:]):
+                    found.append((signs[:at], kind, trees(signs[at + 1:])))
+        (part, kind, size), = found
+        return [str(trees(part)), kind, str(size)]
 
     def entry(self, signs):
         if self.is_whole("entry_literal", signs):

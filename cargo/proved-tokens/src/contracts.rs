@@ -120,6 +120,8 @@
 //!   clause, or no trees if there is no clause
 //! - <a id="declarations.Forms.IsAnyItem"></a>**IsAnyItem**: an item of any kind: what comes before its name,
 //!   its name, header and body; or a group without delimiters
+//! - <a id="declarations.GenericArgument.IsArgumentAt"></a>**IsArgumentAt**: the trees begin with a generic
+//!   argument that has these parts, and the rest comes after it
 //! - <a id="declarations.Attribute.IsAttributeAt"></a>**IsAttributeAt**: the trees are the attribute and then
 //!   the rest
 //! - <a id="declarations.Entry.IsEntryAt"></a>**IsEntryAt**: the trees begin with an entry that has these
@@ -165,6 +167,7 @@
 //!   where none must come and no angle bracket is open
 //! - <a id="declarations.Item.IsTypeItem"></a>**IsTypeItem**: the trees are an item with these parts. In order
 //!   the parts are the trees, and each part is what its rule reads from there on
+//! - <a id="declarations.TypePath.IsTypePath"></a>**IsTypePath**: the trees are a path, and these are its parts
 //! - <a id="declarations.Forms.IsVariant"></a>**IsVariant**: a variant: attributes, a visibility, a name,
 //!   perhaps fields, and perhaps a discriminant
 //! - <a id="declarations.Variant.IsVariantAt"></a>**IsVariantAt**: the trees begin with a variant that has
@@ -195,6 +198,8 @@
 //! - <a id="declarations.rules.Parts.attributes"></a>**attributes**: any number of attributes
 //! - <a id="declarations.Attribute.attributes_in"></a>**attributes_in**: the attributes at the start of the
 //!   trees, up to the first trees that are no attribute
+//! - <a id="declarations.Bare.bared"></a>**bared**: the trees; or if they are one group without delimiters, the
+//!   trees in the innermost of such groups
 //! - <a id="declarations.File.body_of"></a>**body_of**: the braces with the items of an item of this kind, if
 //!   it has such braces
 //! - <a id="declarations.rules.Types.bounds"></a>**bounds**: bounds, with `+` between two
@@ -220,6 +225,8 @@
 //!   visibility, qualifiers, `fn`, a name, generic parameters, parameters and the rest
 //! - <a id="declarations.rules.Parameters.function_parameter"></a>**function_parameter**: a parameter of a
 //!   function: attributes, and then a receiver, a pattern and its type, or `...`
+//! - <a id="declarations.rules.Paths.generic_argument"></a>**generic_argument**: a generic argument: a
+//!   lifetime, a constant, a type, a name with `=` and a type, or a name with `:` and bounds
 //! - <a id="declarations.rules.Parts.generics"></a>**generics**: generic parameters in angle brackets, or
 //!   nothing
 //! - <a id="declarations.rules.Parts.inner_attributes"></a>**inner_attributes**: any number of inner attributes
@@ -252,6 +259,7 @@
 //! - <a id="declarations.rules.Types.type"></a>**type**: a type
 //! - <a id="declarations.rules.Items.type_item"></a>**type_item**: a struct, an enum or a union, with its
 //!   attributes and its visibility
+//! - <a id="declarations.rules.Paths.type_path"></a>**type_path**: a path of a type
 //! - <a id="declarations.rules.Parts.variant"></a>**variant**: a variant: attributes, a visibility, a name,
 //!   perhaps fields, perhaps a discriminant
 //! - <a id="declarations.rules.Parts.variants"></a>**variants**: variants, with `,` between two and perhaps

@@ -24,6 +24,7 @@ mod field;
 mod file;
 mod front;
 mod function;
+mod generic_argument;
 mod generics;
 mod grammar;
 mod header;
@@ -39,6 +40,7 @@ mod place;
 mod range;
 mod reader;
 mod signs;
+mod type_path;
 mod types;
 mod variant;
 mod walk;
@@ -53,6 +55,9 @@ pub use fault::Fault;
 pub use field::{Field, parse_field, parse_tuple_field};
 pub use file::{File, Items, parse_file, parse_item};
 pub use function::{Function, parse_function};
+pub use generic_argument::{
+    ArgumentKind, GenericArgument, GenericArguments, parse_generic_argument,
+};
 pub use generics::{
     Param, ParamKind, Predicate, after_where, parse_param, parse_predicate, within_generics,
 };
@@ -67,4 +72,5 @@ pub use parts::{
     split_variant, split_variants, split_visibility, split_where,
 };
 pub use signs::first_sign;
+pub use type_path::{PathArguments, TypePath, parse_type_path};
 pub use variant::{Variant, parse_variant};

@@ -7,12 +7,13 @@
 #![cfg(feature = "explain")]
 use proved_tokens::check::{advice, explain, Hint};
 use proved_tokens::cursor::TokenBuffer;
-use proved_tokens::error::CompileError;
+use proved_tokens::error::{CompileError, Fault};
 use proved_tokens::items::{
     check_entries, compile_error, impl_generics, impl_header, impl_header_where, parse_entry, parse_file,
-    parse_function, parse_param, parse_parameter, parse_type_item, split_any_item, split_attribute, split_attributes,
-    split_type, split_visibility, type_generics, where_clause, where_clause_with_bound, within_generics, Attributes,
-    Body, Entries, EntryKind, ItemKind, ParamKind, ParameterKind, Parameters,
+    parse_function, parse_generic_argument, parse_param, parse_parameter, parse_type_item, parse_type_path,
+    split_any_item, split_attribute, split_attributes, split_type, split_visibility, type_generics, where_clause,
+    where_clause_with_bound, within_generics, ArgumentKind, Attributes, Body, Entries, EntryKind, GenericArguments,
+    ItemKind, ParamKind, ParameterKind, Parameters, PathArguments,
 };
 use proved_tokens::print::to_pretty_string;
 use proved_tokens::quote::{Hole, Holes, Quote, Template};
@@ -185,6 +186,17 @@ fn calls_in_place_of_syns_on_attributes_parameters_and_errors() -> Outcome {
     assert_eq!(Parameters::new(function.parameters).count(), 2);
     let trees = function.parameters.stream_ref().trees();
     assert!(matches!(parse_parameter(trees)?.0.kind, ParameterKind::Receiver));
+
+    let stream: TokenStream = "std::option::Option<Vec<T>, Item = A>".parse()?;
+    {
+        let trees = stream.trees();
+        let path = parse_type_path(trees)?;
+        assert_eq!((path.name.to_string().as_str(), path.prefix.len()), ("Option", 6));
+        let PathArguments::AngleBracketed(trees) = path.arguments else { panic!("it has arguments") };
+        assert!(matches!(parse_generic_argument(trees)?.0.kind, ArgumentKind::Type));
+        let kinds: Result<Vec<_>, Fault> = GenericArguments::new(trees).map(|argument| Ok(argument?.kind)).collect();
+        assert!(matches!(kinds?[..], [ArgumentKind::Type, ArgumentKind::Binding(_)]));
+    }
 
     let (text, span) = ("a", trees[0].span());
     let mut other = CompileError::new(span, text);

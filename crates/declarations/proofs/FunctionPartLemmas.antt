@@ -135,7 +135,7 @@ qualifiers_find trees a b c d rest default const async safe abi =
 -- ---- trees that are one sign
 
 -- the first sign passes no test that only other trees pass
-no_sign : (passes : Class → Bool) (trees : List TokenTree)
+pub no_sign : (passes : Class → Bool) (trees : List TokenTree)
     → ((sign : signs_in.Sign) (after : List signs_in.Sign) → signs_in.signs trees ≡ sign ∷ after
     → passes sign.class ≡ true → ⊥)
     → heads {N = RuleName} {L = Label} (Sign passes) (classes_in trees) ≡ false
@@ -153,7 +153,7 @@ no_sign passes trees none = go (signs_in.signs trees) refl
     go [] e = rw e refl
     go (sign ∷ after) e = rw e (first sign after (passes sign.class) e refl)
 
-begins_group : (trees rest : List TokenTree) (g : Grouped) → trees ≡ Group g ∷ rest
+pub begins_group : (trees rest : List TokenTree) (g : Grouped) → trees ≡ Group g ∷ rest
     → BeginsWith trees (group_class g.delimiter g.stream) rest
 begins_group trees rest g whole = record {
   front = Group g ∷ [];
@@ -167,7 +167,7 @@ signs_name : (n : Name) (rest : List TokenTree) → signs_in.signs (Ident n ∷ 
 signs_name n [] = refl
 signs_name n (tree ∷ rest) = refl
 
-begins_name : (trees rest : List TokenTree) (n : Name) → trees ≡ Ident n ∷ rest
+pub begins_name : (trees rest : List TokenTree) (n : Name) → trees ≡ Ident n ∷ rest
     → BeginsWith trees (name_class n) rest
 begins_name trees rest n whole = record {
   front = Ident n ∷ [];

@@ -43,3 +43,6 @@ pub mod FrontLemmas
 pub mod TransferLemmas
 pub mod PartReaderLemmas
 pub mod TreeLemmas
+pub mod GenericArgumentLemmas
+pub mod ListedLemmas
+pub mod TypePathLemmas

@@ -18,7 +18,7 @@ use Rattle.declarations.proofs.ReaderLemmas.{remains_on, remains_self}
 -- ---- the rest has fewer signs
 
 -- no more signs are left than this number
-abbrev Fits : {C L : Type 0} → ℕ → Found C L → Type 0
+abbrev pub Fits : {C L : Type 0} → ℕ → Found C L → Type 0
 Fits n (Past events rest) = length rest ≤ n
 Fits n (Stuck left) = length left ≤ n
 
@@ -26,7 +26,7 @@ fits_front : {C L : Type 0} (n m : ℕ) (e : List (Event C L)) (f : Found C L) �
 fits_front n m e (Past x r) h f = omega arith
 fits_front n m e (Stuck l) h f = omega arith
 
-scan_fits : {C N L : Type 0} (rules : N → Grammar C N L) (k : List (Grammar C N L)) (signs : List C)
+pub scan_fits : {C N L : Type 0} (rules : N → Grammar C N L) (k : List (Grammar C N L)) (signs : List C)
     → Fits (length signs) (scan rules k signs)
 scan_fits rules k [] = go (ends k)
   where

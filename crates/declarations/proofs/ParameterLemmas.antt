@@ -96,7 +96,7 @@ attributes_read = table_reads (start places.Alone (states.At (spots.Before parts
 
 -- ---- a rule that goes on as another rule
 
-leads_sign : (g h : G) (trees rest : List TokenTree) (class : Class) → BeginsWith trees class rest
+pub leads_sign : (g h : G) (trees rest : List TokenTree) (class : Class) → BeginsWith trees class rest
     → step rules (g ∷ []) class ≡ Some (One class ∷ [], h ∷ [])
     → LeadsTo g trees h rest
 unfolding find

@@ -12,7 +12,8 @@ use Rattle.declarations.specs.rules.Names.{G, Inside, Label, Name, Outside, Rang
 use Rattle.declarations.specs.rules.Names.{ExpressionWhole, ExpressionLess, ExpressionDot, Closure, Cast, CastWhole}
 use Rattle.declarations.specs.rules.Names.{Function, Qualified, Async, Constant, Static, Alias, Struct, Enum, Union}
 use Rattle.declarations.specs.rules.Names.{Trait}
-use Rattle.declarations.specs.rules.Names.{Impl, Module, Use, UsePath, Call}
+use Rattle.declarations.specs.rules.Names.{Impl, Module, Path, Use, UsePath, Call}
+use Rattle.declarations.specs.rules.Names.{AfterArguments, AfterName, AfterSeparator}
 use Rattle.declarations.specs.rules.Rules.{follows, rules}
 use Rattle.declarations.specs.declared.class.Class.{Class}
 use Rattle.declarations.specs.declared.class.Class.TheVariants as signs
@@ -31,6 +32,9 @@ deterministic (Range _ Outside) = refl
 deterministic (Range types.Bound Target) = refl
 deterministic (Range _ Target) = refl
 deterministic Expression = refl
+deterministic (Path AfterName) = refl
+deterministic (Path AfterSeparator) = refl
+deterministic (Path AfterArguments) = refl
 deterministic _ = refl
 
 productive : (n : Name) → is_productive any (rules n) ≡ true
@@ -43,6 +47,9 @@ productive (Range _ Outside) = refl
 productive (Range types.Bound Target) = refl
 productive (Range _ Target) = refl
 productive Expression = refl
+productive (Path AfterName) = refl
+productive (Path AfterSeparator) = refl
+productive (Path AfterArguments) = refl
 productive _ = refl
 
 -- ---- some signs that each rule reads
@@ -87,6 +94,9 @@ sample Module = plain ∷ signs.Semicolon ∷ []
 sample Use = plain ∷ signs.Semicolon ∷ []
 sample UsePath = plain ∷ signs.Semicolon ∷ []
 sample Call = signs.Exclamation ∷ signs.Braces ∷ []
+sample (Path AfterName) = []
+sample (Path AfterSeparator) = plain ∷ []
+sample (Path AfterArguments) = []
 
 -- whether there are events
 abbrev is_read : Option (List (Event Class Label)) → Bool
@@ -103,6 +113,9 @@ sampled (Range _ Outside) = refl
 sampled (Range types.Bound Target) = refl
 sampled (Range _ Target) = refl
 sampled Expression = refl
+sampled (Path AfterName) = refl
+sampled (Path AfterSeparator) = refl
+sampled (Path AfterArguments) = refl
 sampled _ = refl
 
 derived : (n : Name) (o : Option (List (Event Class Label))) → is_read o ≡ true

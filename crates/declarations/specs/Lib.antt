@@ -27,5 +27,7 @@ pub mod EntryList
 pub mod EntryCheck
 pub mod Parameter
 pub mod Function
+pub mod GenericArgument
+pub mod TypePath
 pub mod CompileError
 pub mod rules

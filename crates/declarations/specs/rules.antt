@@ -7,6 +7,7 @@ pub mod Bodies
 pub mod Fronts
 pub mod Items
 pub mod Impls
+pub mod Paths
 pub mod Rules
 pub mod Pieces
 pub mod Entries

@@ -319,7 +319,7 @@ fn end_of(trees: &[TokenTree]) -> Result<(End<'_>, &[TokenTree]), &[TokenTree]>
 
 /// Reads `->` and a type, if `->` is next. Returns the type, or no trees, and the trees after it.
 #[tactic(auto, using(crate::proofs::FunctionPartLemmas::returns))]
-fn return_of(trees: &[TokenTree]) -> Result<(&[TokenTree], &[TokenTree]), &[TokenTree]>
+pub(crate) fn return_of(trees: &[TokenTree]) -> Result<(&[TokenTree], &[TokenTree]), &[TokenTree]>
     ensures { MatchResult result (λ found. Finds returned trees.now found.1.now
         × HasReturn trees.now found.0.now found.1.now) (λ left. Sticks returned trees.now left.now) }
 {

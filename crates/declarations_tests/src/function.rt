@@ -275,7 +275,8 @@ fn qualifiers_in_another_order_and_other_items_are_faults(rt: HostRuntime) -> Re
             ("const const fn f() {}", FaultAt(1)),
             ("unsafe safe fn f();", FaultAt(1)),
             ("const default fn f() {}", FaultAt(1)),
-            ("gen fn f() {}", FaultAt(0)), // a function in edition 2024, which the call does not read
+            ("gen fn f() {}", FaultAt(0)), // an unstable form of functions, which the call does not read
+            ("async gen fn f() {}", FaultAt(1)),
             ("struct S;", FaultAt(0)),
             ("pub struct S;", FaultAt(1)),
             ("const F: u8 = 1;", FaultAt(1)),

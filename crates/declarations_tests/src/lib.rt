@@ -14,6 +14,8 @@ mod files;
 #[cfg(test)]
 mod function;
 #[cfg(test)]
+mod generic_arguments;
+#[cfg(test)]
 mod generics;
 #[cfg(test)]
 mod items;
@@ -23,3 +25,5 @@ mod lists;
 mod parameters;
 #[cfg(test)]
 mod parts;
+#[cfg(test)]
+mod type_paths;

@@ -265,6 +265,12 @@ fn a_discriminant_ends_at_a_comma_that_is_in_no_brackets(rt: HostRuntime) -> Res
             ("|a; b| 1", FaultAt(2)),
             ("return, B", Reads(1)),
             ("'a: loop { break 'a 1 }, B", Reads(5)),
+            ("async move |x| x + 1, B", Reads(8)),
+            ("&raw const x, B", Reads(4)),
+            (
+                "if let Some(a) = b && let Some(c) = d && e { 1 } else { 2 }, B",
+                Reads(19),
+            ),
             ("..=5, B", Reads(4)),
             ("a..b, C", Reads(4)),
             ("a.await?.b[1](c), D", Reads(8)),

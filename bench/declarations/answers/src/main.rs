@@ -1,10 +1,12 @@
-//! Says what the calls for parameters of functions and for entries of attributes return, for `readings.py --code`.
+//! Says what the calls for parameters of functions, entries of attributes, paths and generic arguments return, for
+//! `readings.py --code`.
 //!
 //! Each line of its input has a part of the grammar and the names of signs, as `pattern And Mut Word`. For each line it
 //! prints `ok` and numbers of trees, with the kind of what is read, or `fault` and the number of trees before it.
 use proved_tokens::error::Fault;
-use proved_tokens::items::{parse_entry, parse_parameter, split_pattern, Entries, Entry, EntryKind};
-use proved_tokens::items::{Parameter, ParameterKind, Parameters};
+use proved_tokens::items::{parse_entry, parse_generic_argument, parse_parameter, parse_type_path, split_pattern};
+use proved_tokens::items::{ArgumentKind, Entries, Entry, EntryKind, GenericArgument, GenericArguments, Parameter};
+use proved_tokens::items::{ParameterKind, Parameters, PathArguments};
 use proved_tokens::{Delimiter, Group, Ident, Literal, Punct, Spacing, Span, TokenStream, TokenTree};
 use std::error::Error;
 use std::io::{self, BufRead, BufWriter, Write};
@@ -99,6 +101,31 @@ fn entry(found: &Entry<'_>) -> String {
     format!("{} {kind} {len}", found.path.len())
 }
 
+fn argument(found: &GenericArgument<'_>) -> String {
+    let (kind, len) = match found.kind {
+        ArgumentKind::Lifetime => ("Lifetime", 0),
+        ArgumentKind::Const => ("Const", 0),
+        ArgumentKind::Type => ("Type", 0),
+        ArgumentKind::Binding(ty) => ("Binding", ty.len()),
+        ArgumentKind::Constraint(bounds) => ("Constraint", bounds.len()),
+    };
+    format!("{} {kind} {len}", found.trees.len())
+}
+
+fn path(trees: &[TokenTree]) -> String {
+    match parse_type_path(trees) {
+        Ok(path) => {
+            let (kind, len) = match path.arguments {
+                PathArguments::None => ("None", 0),
+                PathArguments::AngleBracketed(inside) => ("Angle", inside.len()),
+                PathArguments::Parenthesized(_, output) => ("Round", output.len()),
+            };
+            format!("ok {} {kind} {len}", path.prefix.len())
+        }
+        Err(fault) => format!("fault {}", fault.at),
+    }
+}
+
 /// What an iterator gives: how many elements, and whether a fault ends them.
 fn counted<T>(found: impl Iterator<Item = Result<T, Fault>>) -> String {
     let mut count = 0;
@@ -125,6 +152,9 @@ fn answer(line: &str) -> Result<String, Box<dyn Error>> {
         "fn_parameter" => told(parse_parameter(stream.trees()), all, parameter),
         "pattern" => told(split_pattern(stream.trees()), all, |_| String::new()),
         "entry" => told(parse_entry(stream.trees()), all, entry),
+        "generic_argument" => told(parse_generic_argument(stream.trees()), all, argument),
+        "generic_arguments" => counted(GenericArguments::new(stream.trees())),
+        "type_path" => path(stream.trees()),
         "fn_parameters" => counted(Parameters::new(&group)),
         "entries" => counted(Entries::new(&group)),
         _ => return Err(format!("no part has the name {part}").into()),

@@ -281,7 +281,7 @@ fn end_of(trees: &[TokenTree]) -> Result<(End<'_>, &[TokenTree]), &[TokenTree]>
 }
 
 /// Reads `->` and a type, if `->` is next. Returns the type, or no trees, and the trees after it.
-fn return_of(trees: &[TokenTree]) -> Result<(&[TokenTree], &[TokenTree]), &[TokenTree]>
+pub(crate) fn return_of(trees: &[TokenTree]) -> Result<(&[TokenTree], &[TokenTree]), &[TokenTree]>
 {
     match first_sign(trees) {
         Some((class, from_type)) => {

@@ -13,6 +13,15 @@ pub data Context : Type 0 where
   Outside : Context
   Target : Context
 
+-- where in a path what follows is read
+pub data PathState : Type 0 where
+  -- after the name of a segment
+  AfterName : PathState
+  -- after the name of a segment and `::`
+  AfterSeparator : PathState
+  -- after the generic arguments of a segment
+  AfterArguments : PathState
+
 -- the names of rules, to which a sign can lead
 pub data Name : Type 0 where
   -- a type or bounds, from a state of the walk on
@@ -42,6 +51,8 @@ pub data Name : Type 0 where
   Use : Name
   UsePath : Name
   Call : Name
+  -- the rest of a path
+  Path : PathState → Name
 
 -- the labels of parts
 pub data Label : Type 0 where

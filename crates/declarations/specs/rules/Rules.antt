@@ -1,12 +1,12 @@
 -- The grammar of each named rule, and the signs that may follow it.
-use Rattle.std.specs.Prelude.{Bool, true, ◌||◌, [], ◌∷◌}
+use Rattle.std.specs.Prelude.{Bool, false, true, ◌||◌, [], ◌∷◌}
 use Rattle.grammars.specs.Grammar.{To, Then, Either, perhaps}
 use Rattle.declarations.specs.rules.Classes.{is, keyword, one_of}
 use Rattle.declarations.specs.rules.Names.{Inside, Outside, Target, Name, Range, Expression, ExpressionOpen}
 use Rattle.declarations.specs.rules.Names.{ExpressionWhole, ExpressionLess, ExpressionDot, Closure, Cast, CastWhole}
 use Rattle.declarations.specs.rules.Names.{Function, Qualified, Async, Constant, Static, Alias, Struct, Enum, Union}
 use Rattle.declarations.specs.rules.Names.{Trait}
-use Rattle.declarations.specs.rules.Names.{Impl, Module, Use, UsePath, Call, G, seq, key}
+use Rattle.declarations.specs.rules.Names.{Impl, Module, Path, Use, UsePath, Call, G, seq, key}
 use Rattle.declarations.specs.rules.Types.{range}
 use Rattle.declarations.specs.rules.Expressions as expressions
 use Rattle.declarations.specs.rules.Parts.{generics}
@@ -15,6 +15,7 @@ use Rattle.declarations.specs.rules.Bodies.{trait_rest, typed}
 use Rattle.declarations.specs.rules.Fronts.{async_front, const_front, qualified}
 use Rattle.declarations.specs.rules.Items.{call, use_path}
 use Rattle.declarations.specs.rules.Impls.{impl_front}
+use Rattle.declarations.specs.rules.Paths.{path}
 use Rattle.declarations.specs.declared.class.Class.{Class}
 use Rattle.declarations.specs.declared.class.Class.TheVariants as signs
 use Rattle.declarations.specs.declared.class.Keyword.TheVariants as keywords
@@ -45,6 +46,7 @@ rules Module = Then name body_end
 rules Use = Either (To (is signs.PathSeparator) UsePath) use_path
 rules UsePath = use_path
 rules Call = call
+rules (Path state) = path state
 
 -- whether a sign of this class may follow the rule
 abbrev pub follows : Name → Class → Bool
@@ -61,4 +63,5 @@ follows ExpressionDot c = is signs.Comma c
 follows Closure c = is signs.Comma c
 follows Cast c = is signs.Comma c
 follows CastWhole c = is signs.Comma c
+follows (Path state) c = false
 follows _ c = true

@@ -1,0 +1,31 @@
+use Rattle.std.proofs.Common.{inl, arith}
+use Rattle.declarations.specs.rules.Paths.{generic_argument}
+use Rattle.declarations.specs.rules.Pieces.{ByRule}
+use Rattle.declarations.proofs.ListLemmas.{lacks_comma, past_fewer, rest_within}
+use Rattle.declarations.proofs.generic_argument.first_argument.Goals as goal
+
+pub returns-in-Err-clause-given : goal.returns-in-Err-clause-given
+returns-in-Err-clause-given c = record {
+  place = inl c.in-Err.ensures.fault;
+  span = c.in-Err.ensures.span;
+}
+
+pub returns-in-Some-clause-given : goal.returns-in-Some-clause-given
+returns-in-Some-clause-given c = (c.in-Ok.rest.now, c.in-Ok.ensures.ok, c.in-Some.ensures.found)
+
+pub returns-in-Some-clause-fewer : goal.returns-in-Some-clause-fewer
+returns-in-Some-clause-fewer c =
+    let past = past_fewer c.in-Ok.rest.now _ c.in-Some.ensures.found in
+    let fewer = c.in-Ok.ensures.fewer in
+    omega (arith, past, fewer)
+
+pub returns-in-None-clause-given : goal.returns-in-None-clause-given
+returns-in-None-clause-given c =
+    let at = c.in-Ok.ensures.ok in
+    lacks_comma (ByRule generic_argument) c.args.trees.now at.part c.in-Ok.rest.now _ at.reads c.in-None.ensures.none
+    c.fault_after.ensures.at c.fault_after.ensures.span
+
+pub fault_after-requires : goal.fault_after-requires
+fault_after-requires c =
+    let at = c.in-Ok.ensures.ok in
+    rest_within (ByRule generic_argument) c.args.trees.now at.part c.in-Ok.rest.now at.reads

@@ -1,0 +1,16 @@
+use Rattle.declarations.proofs.GenericArgumentLemmas.{argument_at, argument_fault, argument_fewer, argument_only}
+use Rattle.declarations.proofs.generic_argument.parse_generic_argument.Goals as goal
+
+pub returns-in-Ok-clause-ok : goal.returns-in-Ok-clause-ok
+returns-in-Ok-clause-ok c =
+    argument_at c.args.trees.now c.in-Ok.rest.now c.in-Ok.argument c.in-Ok.ensures.0 c.in-Ok.ensures.1
+
+pub returns-in-Ok-clause-only : goal.returns-in-Ok-clause-only
+returns-in-Ok-clause-only c = argument_only c.args.trees.now c.in-Ok.rest.now c.in-Ok.ensures.0
+
+pub returns-in-Ok-clause-fewer : goal.returns-in-Ok-clause-fewer
+returns-in-Ok-clause-fewer c = argument_fewer c.args.trees.now c.in-Ok.rest.now c.in-Ok.ensures.0
+
+pub returns-in-Err-clause-fault : goal.returns-in-Err-clause-fault
+returns-in-Err-clause-fault c =
+    argument_fault c.args.trees.now c.in-Err.left.now c.ahead_of.result.at c.in-Err.ensures c.ahead_of.ensures.at

@@ -1,0 +1,136 @@
+// The generic arguments of paths. The crate syn 2 reads each text in the same way, unless a row says otherwise.
+use declarations::{ArgumentKind, GenericArguments, parse_generic_argument};
+use proc_macro2::{SourceMap, TokenStream};
+use std::process::Abort;
+use std::test::Fail;
+
+/// A generic argument, with the number of its trees, and of those after `=` or `:`.
+#[derive(Clone, Copy, Debug, PartialEq, Eq)]
+enum Parts {
+    Lifetime(usize),
+    Const(usize),
+    Type(usize),
+    Binding(usize, usize),
+    Constraint(usize, usize),
+    /// An error after so many of the remaining trees. No argument comes after it.
+    Fault(usize),
+}
+
+/// Checks the arguments of each text. A text is what is between the angle brackets.
+fn check(rt: &(impl Abort + AllocGlobal), rows: &[(&str, &[Parts])]) -> Result<(), Fail> {
+    for (text, wanted) in rows {
+        let stream = TokenStream::from_str(text, &mut SourceMap::new(rt.alloc()))?;
+        let mut list = GenericArguments::new(stream.trees());
+        for one in *wanted {
+            match list.next() {
+                Some(Ok(argument)) => {
+                    let count = argument.trees.len();
+                    let parts = match argument.kind {
+                        ArgumentKind::Lifetime => Parts::Lifetime(count),
+                        ArgumentKind::Const => Parts::Const(count),
+                        ArgumentKind::Type => Parts::Type(count),
+                        ArgumentKind::Binding(ty) => Parts::Binding(count, ty.len()),
+                        ArgumentKind::Constraint(bounds) => Parts::Constraint(count, bounds.len()),
+                    };
+                    assert_eq!(rt; parts, *one, "{text:?}");
+                }
+                Some(Err(fault)) => assert_eq!(rt; Parts::Fault(fault.at), *one, "{text:?}"),
+                None => assert!(rt; false, "{text:?}"),
+            }
+        }
+        assert!(rt; list.next().is_none(), "{text:?}");
+    }
+    Ok(())
+}
+
+#[test]
+fn each_kind_of_argument_is_told(rt: HostRuntime) -> Result<(), Fail> {
+    check(
+        &rt,
+        &[
+            ("", &[]),
+            ("'a", &[Parts::Lifetime(2)]),
+            ("'_, 'static", &[Parts::Lifetime(2), Parts::Lifetime(2)]),
+            ("T", &[Parts::Type(1)]),
+            ("T,", &[Parts::Type(1)]),
+            ("3", &[Parts::Const(1)]),
+            (
+                "-1, 'x', \"y\"",
+                &[Parts::Const(2), Parts::Const(1), Parts::Const(1)],
+            ),
+            ("true, false", &[Parts::Const(1), Parts::Const(1)]),
+            ("{ N + 1 }", &[Parts::Const(1)]),
+            ("Item = T", &[Parts::Binding(1, 1)]),
+            ("Item: A + B", &[Parts::Constraint(1, 3)]),
+            ("Item:", &[Parts::Constraint(1, 0)]),
+            ("Item<'a> = &'a T", &[Parts::Binding(5, 4)]),
+            ("Item<'a>: 'a", &[Parts::Constraint(5, 2)]),
+            ("_", &[Parts::Type(1)]),
+            ("impl A", &[Parts::Type(2)]),
+        ],
+    )
+}
+
+#[test]
+fn a_comma_within_brackets_ends_no_argument(rt: HostRuntime) -> Result<(), Fail> {
+    check(
+        &rt,
+        &[
+            ("(A, B), C", &[Parts::Type(1), Parts::Type(1)]),
+            ("[A; 3], C", &[Parts::Type(1), Parts::Type(1)]),
+            ("A<B, C>, D", &[Parts::Type(6), Parts::Type(1)]),
+            ("A<B<C, D>, E>, F", &[Parts::Type(11), Parts::Type(1)]),
+            ("Fn(A, B) -> C<D, E>, F", &[Parts::Type(10), Parts::Type(1)]),
+            ("<A<B, C> as D>::E, F", &[Parts::Type(13), Parts::Type(1)]),
+            ("fn(A, B) -> C, D", &[Parts::Type(5), Parts::Type(1)]),
+            ("dyn A<B, C> + D, E", &[Parts::Type(9), Parts::Type(1)]),
+            ("Item = A<B, C>, D", &[Parts::Binding(1, 6), Parts::Type(1)]),
+            (
+                "Item: A<B, C> + D, E",
+                &[Parts::Constraint(1, 8), Parts::Type(1)],
+            ),
+            (
+                "a::B<C>, m![d, e], F",
+                &[Parts::Type(7), Parts::Type(3), Parts::Type(1)],
+            ),
+        ],
+    )
+}
+
+#[test]
+fn broken_arguments_are_rejected(rt: HostRuntime) -> Result<(), Fail> {
+    check(
+        &rt,
+        &[
+            (",", &[Parts::Fault(0)]),
+            ("A,,", &[Parts::Type(1), Parts::Fault(0)]),
+            ("A B", &[Parts::Fault(1)]),
+            ("A;", &[Parts::Fault(1)]),
+            ("-x", &[Parts::Fault(1)]),
+            ("-", &[Parts::Fault(1)]),
+            ("3 + 4", &[Parts::Fault(1)]),
+            ("Item =", &[Parts::Fault(2)]),
+            ("A::", &[Parts::Fault(3)]),
+            ("A<", &[Parts::Fault(2)]),
+            ("A>", &[Parts::Fault(1)]),
+            ("&A = B", &[Parts::Fault(2)]),
+            ("(A): B", &[Parts::Fault(1)]),
+            ("'a: 'b", &[Parts::Fault(2)]),
+            // The crate syn 2 reads a binding of a constant, which no stable version of Rust accepts.
+            ("N = 3", &[Parts::Fault(2)]),
+        ],
+    )
+}
+
+#[test]
+fn an_argument_is_read_with_the_trees_after_it(rt: HostRuntime) -> Result<(), Fail> {
+    let stream = TokenStream::from_str("A<B>; C", &mut SourceMap::new(rt.alloc()))?;
+    match parse_generic_argument(stream.trees()) {
+        Ok((argument, rest)) => {
+            assert_eq!(rt; argument.trees.len(), 4);
+            assert_eq!(rt; rest.len(), 2);
+        }
+        Err(_) => assert!(rt; false),
+    }
+    Ok(())
+}
