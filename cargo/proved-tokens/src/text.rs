@@ -26,6 +26,7 @@
 #[doc(inline)]
 pub use crate::lexical::{
     is_mark, is_reserved, literal_at, name_at, past_white, piece_at, pieces, Piece, PieceKind, PieceWalk, PlacedPiece,
+    Spaced,
 };
 #[doc(inline)]
 pub use crate::literal_escaper::{

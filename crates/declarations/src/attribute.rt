@@ -41,7 +41,8 @@ pub enum AttributeArgs<'a> {
 
 /// The attributes at the start of trees, such as those of an item, a field or a variant, in order.
 ///
-/// The iterator ends before the first trees that are no attribute, which stay in `left`. It allocates nothing.
+/// Outer and inner attributes are given. The iterator ends before the first trees that are no attribute, which stay in
+/// `left`. It allocates nothing.
 ///
 /// ```text
 /// for attribute in Attributes::new(field.attributes) {

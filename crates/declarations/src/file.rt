@@ -126,8 +126,8 @@ impl<'a> Iterator for Items<'a> {
 impl<'a> AnyItem<'a> {
     /// Returns the braces that hold the items of a module, a trait, an `impl` or an `extern` block.
     ///
-    /// The result is `None` for a module that ends in `;`, and for an item of any other kind. [`parse_file`] reads the
-    /// trees in the braces.
+    /// They are the last tree of the item. The result is `None` for a module that ends in `;`, and for an item of any
+    /// other kind. [`parse_file`] reads the trees in the braces.
     pub fn body(&self) -> Option<&'a Group>
         ensures { MatchOption result (body_of self.now.kind self.now.trees.now ≡ None)
             (λ group. body_of self.now.kind self.now.trees.now ≡ Some group.now) }

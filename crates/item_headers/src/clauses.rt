@@ -32,7 +32,7 @@ pub fn where_clause(alloc: Global, item: &TypeItem<'_>) -> Result<TokenStream, H
     Ok(quote.into_stream())
 }
 
-/// Returns the where clause of the item with one more predicate.
+/// Returns the where clause of the item with one more predicate, or several with `,` between them.
 ///
 /// For `struct S<T> where T: A,` and `T: B` it is `where T: A, T: B`. For `struct S<T>` it is `where T: B`. The trees
 /// of the predicate are not checked. The errors are those of [`where_clause`].
