@@ -9,15 +9,17 @@ const SHORT: usize = 10;
 
 impl Tree {
     /// Lays out a group that is not on one line. The gap before it is written.
-    pub fn lay_group(&mut self, task: &Task, own: &Node) {
+    pub fn lay_group(&mut self, task: &Task) {
+        self.read_short(task.node);
+        let own = *self.node(task.node);
         let atom = *self.atom(own.first);
         let doc = atom.role == Role::Attribute && own.until.saturating_sub(own.from) == 3;
         if own.child == NOWHERE || doc {
             return self.put(own.first, own.end);
         }
         self.read_unread(own.last);
-        let inside = atom.role == Role::Attribute || self.is_doubled(own);
-        let head = self.head_inside(own);
+        let inside = atom.role == Role::Attribute || self.is_doubled(&own);
+        let head = self.head_inside(&own);
         if !inside && self.column.saturating_add(head) >= WIDTH {
             return self.lay_lines(task, task.node);
         }
@@ -25,7 +27,7 @@ impl Tree {
         let last = *self.node(own.last);
         self.open_group(Step::Shut, task);
         self.put(own.from, last.first);
-        self.lead(own, last.first);
+        self.lead(&own, last.first);
         self.lay(own.last, task.indent, task.tail.saturating_add(1));
     }
 
@@ -38,6 +40,7 @@ impl Tree {
 
     /// Begins to write a group, which is in the node of the task, with its parts on lines.
     pub fn lay_lines(&mut self, task: &Task, group: usize) {
+        self.read_short(group);
         let own = *self.node(group);
         if own.child == NOWHERE {
             return self.put(own.first, own.end);
@@ -61,10 +64,9 @@ impl Tree {
         let atom = self.atom(own.first);
         let several = own.child != own.last;
         let list = atom.is_list() && !matches!(atom.role, Role::Params | Role::Repeated);
-        let most = if atom.role == Role::Meta {
-            usize::MAX
-        } else {
-            SHORT
+        let most = match atom.role {
+            Role::Meta => usize::MAX,
+            _ => SHORT,
         };
         let short = list && several && self.are_short(own.from, own.until, Role::Comma, most);
         if atom.role == Role::Use || short {
@@ -152,11 +154,8 @@ impl Tree {
         if child.first >= own.until {
             return self.next_body(task, own, child, &atom);
         }
-        let tail = if self.atom(own.until).is_brace() {
-            3
-        } else {
-            1
-        };
+        let brace = self.atom(own.until).is_brace();
+        let tail = if brace { 3 } else { 1 };
         if self.fit(task.at, own.until, tail) {
             return self.push(task.step, task, child.next, task.at);
         }

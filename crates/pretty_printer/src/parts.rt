@@ -1,6 +1,6 @@
 //! Reads the parts of lists: statements, items, arms, fields and arguments.
 use crate::atoms::{Kind, Role, Word};
-use crate::tree::{Form, Tree};
+use crate::tree::{Form, NOWHERE, Node, Tree};
 
 /// The width in characters up to which a part is not read, because no rule breaks its line.
 pub const SHORT: usize = 50;
@@ -30,6 +30,19 @@ impl Tree {
     /// Returns the end of a part without its comma or semicolon. The part ends at this index.
     pub fn without_mark(&self, end: usize) -> usize {
         end.saturating_sub(self.previous(end).ends_part() as usize)
+    }
+
+    /// Reads the parts of a group, unless they are read already.
+    pub fn read_short(&mut self, group: usize) {
+        let own = *self.node(group);
+        if own.child == NOWHERE {
+            self.read_parts(group, self.atom(own.first).is_brace());
+        }
+    }
+
+    /// Returns whether a list that is not in braces has one part.
+    pub fn is_single(&self, list: &Node) -> bool {
+        self.part_end(list.from, list.until, false) >= list.until
     }
 
     /// Reads a part, unless it is read already.

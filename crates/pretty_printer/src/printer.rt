@@ -82,7 +82,8 @@ impl<'a> Printer<'a> {
             }
             return gap;
         }
-        if self.outer.is_empty() && index == self.tree.node(self.part).first {
+        let is_first = self.part < self.nodes && index == self.tree.node(self.part).first;
+        if is_first && self.outer.is_empty() {
             self.lay_part();
         }
         let own = self.tree.atom(index);

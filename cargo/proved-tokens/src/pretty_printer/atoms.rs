@@ -157,18 +157,10 @@ impl Atom {
     /// An atom with no role yet.
     #[cfg_attr(not(debug_assertions), inline(always))]
     pub fn new(kind: Kind, width: usize) -> Atom {
-        Atom {
-            width,
-            offset: 0,
-            tall_before: 0,
-            node: 0,
-            gap: Gap::Nothing,
-            kind,
-            role: Role::Plain,
-            glued: false,
-            tall: false,
-            ends: false,
-        }
+        let mut atom = NOTHING;
+        atom.kind = kind;
+        atom.width = width;
+        atom
     }
 
     /// The number of its tokens. A group counts as its opener.
@@ -274,19 +266,8 @@ pub fn word_of(text: &str) -> Word {
         b"where" => Word::Where,
         b"while" => Word::While,
         b"as" | b"continue" | b"dyn" | b"ref" | b"type" | b"use" => Word::Keyword,
-        b"block"
-        | b"expr"
-        | b"ident"
-        | b"item"
-        | b"lifetime"
-        | b"literal"
-        | b"meta"
-        | b"pat"
-        | b"path"
-        | b"stmt"
-        | b"tt"
-        | b"ty"
-        | b"vis" => Word::Fragment,
+        b"block" | b"expr" | b"ident" | b"item" | b"lifetime" | b"literal" => Word::Fragment,
+        b"meta" | b"pat" | b"path" | b"stmt" | b"tt" | b"ty" | b"vis" => Word::Fragment,
         _ => Word::Name,
     }
 }

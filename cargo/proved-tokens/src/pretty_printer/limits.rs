@@ -89,12 +89,15 @@ impl Tree {
             return;
         }
         self.place(from, until);
-        self.read_parts(group, brace);
+        let inner = self.width(from, until);
+        // The parts of a short list are read when it is laid out on lines. Most short lists never are.
+        if inner > SHORT || self.is_tall(from, until) {
+            self.read_parts(group, brace);
+        }
         let own = self.node(group);
         let atom = self.atom(first);
         let padded = brace && atom.role != Role::Use && !self.is_doubled(own);
         let gap = if padded { Gap::Space } else { Gap::Nothing };
-        let inner = self.width(from, until);
         let must = self.needs_lines(own, atom, inner);
         let long = must || inner > SHORT;
         let inside = if long { self.head_inside(own) } else { NO_HEAD };
@@ -118,14 +121,14 @@ impl Tree {
         only && inner.is_brace() && self.previous(own.first).role == Role::Arm
     }
 
-    /// Returns whether a group whose parts are read needs several lines. `inner` is the width of its list.
+    /// Returns whether a group needs several lines. `inner` is the width of its list. The parts of a long one are read.
     fn needs_lines(&self, own: &Node, atom: &Atom, inner: usize) -> bool {
         let comma = self.previous(own.until).is_mark(',');
         let previous = self.previous(own.first);
         let single = own.child == own.last;
         let loose = matches!(atom.role, Role::Repeated | Role::Attribute | Role::Meta)
-            || atom.role == Role::Tuple && single
             || previous.role == Role::Bang;
+        let forced = comma && !loose && !(atom.role == Role::Tuple && self.is_single(own));
         let next = self.atom(own.end);
         let pattern = next.role == Role::Arm
             || next.is_mark('=')
@@ -142,7 +145,7 @@ impl Tree {
         own.must
             || atom.role == Role::Block
             || self.is_tall(own.from, own.until)
-            || comma && !loose
+            || forced
             || inner.saturating_sub(comma as usize) > limit
     }
 

@@ -131,7 +131,7 @@ impl Tree {
                 self.read_unread(task.node);
                 self.lay(task.node, task.indent, task.tail);
             }
-            Form::Group => self.lay_group(task, own),
+            Form::Group => self.lay_group(task),
             Form::Chain => self.lay_chain(task, own),
             Form::Arm => self.lay_arm(task, own),
             _ => self.push(Step::Next, task, own.child, own.first),
