@@ -69,10 +69,10 @@ impl Tree {
             _ => SHORT,
         };
         let short = list && several && self.are_short(own.from, own.until, Role::Comma, most);
-        if atom.role == Role::Use || short {
-            Step::Fill
-        } else {
-            Step::Part
+        match atom.role {
+            Role::Use if self.has(own.from, own.until, Role::Use) => Step::Names,
+            role if role == Role::Use || short => Step::Fill,
+            _ => Step::Part,
         }
     }
 
@@ -101,16 +101,18 @@ impl Tree {
         if !first {
             self.put(last.end, part.first);
         }
-        if !first && task.step == Step::Fill && self.fits(part, 2) {
+        let fills = match task.step {
+            // A path in imports with inner lists has its own line.
+            Step::Names => !self.has(last.first, part.end, Role::Path),
+            step => step == Step::Fill,
+        };
+        if !first && fills && self.fits(part, 2) {
             self.lead(own, part.first);
         } else {
             let blank = !first && self.parts_items(&last, part);
             let indent = task.indent;
-            let gap = if blank {
-                Gap::Blank(indent)
-            } else {
-                Gap::Line(indent)
-            };
+            let line = Gap::Line(indent);
+            let gap = if blank { Gap::Blank(indent) } else { line };
             self.break_line(part.first, gap, indent);
         }
         self.push(task.step, task, part.next, task.child);

@@ -142,6 +142,7 @@ impl Tree {
         };
         own.must
             || atom.role == Role::Block
+            || atom.role == Role::Use && self.has(own.from, own.until, Role::Use)
             || self.is_tall(own.from, own.until)
             || forced
             || inner.saturating_sub(comma as usize) > limit
@@ -167,14 +168,14 @@ impl Tree {
         let name = self.previous(own.first);
         let path = self.previous(own.first.saturating_sub(1)).role == Role::Path;
         let short = bang || name.is_name() && name.width < NAME && !path;
-        let calls = self.node(self.node(value.child).next).next != NOWHERE;
+        let root = self.node(value.child);
+        let calls = root.must || self.node(root.next).next != NOWHERE;
         let chain = value.form == Form::Chain && calls && short && atom.is_round();
         if chain && !several || tuple && value.head == NO_HEAD {
             return 0;
         }
-        let width = self
-            .distance(own.from, value.first)
-            .saturating_add(value.head);
+        let before = self.distance(own.from, value.first);
+        let width = before.saturating_add(value.head);
         if width > CALL && !tuple {
             NO_HEAD
         } else {

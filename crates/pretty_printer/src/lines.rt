@@ -21,9 +21,10 @@ pub enum Step {
     Broken,
     Apart,
     Line,
-    /// Lay out the next part of a list: on its own line, and with as many as fit.
+    /// Lay out the next part of a list: on its own line, with as many as fit, and with as many names as fit.
     Part,
     Fill,
+    Names,
     /// Write the closer of the group: on its own line, and on this line.
     Close,
     Shut,
@@ -141,9 +142,8 @@ impl Tree {
             return self.rest(child.end, own.end).saturating_add(task.tail);
         }
         let next = self.node(child.next).first;
-        self.rest(child.end, next.saturating_add(1))
-            .saturating_sub(self.atom(next).width)
-            .saturating_add(1)
+        let rest = self.rest(child.end, next.saturating_add(1));
+        rest.saturating_sub(self.atom(next).width).saturating_add(1)
     }
 
     /// Returns the width of the atoms in `from..end` with the space before them.

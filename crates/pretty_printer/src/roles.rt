@@ -184,17 +184,12 @@ impl State {
 
     /// Returns the role of braces that belong to no head.
     fn value_role(&self, own: &Atom, previous: &Atom) -> Role {
-        let block = own.role == Role::Block
-            || matches!(
-                previous.role,
-                Role::Attribute | Role::Arm | Role::Bang | Role::BarClose
-            );
-        if block {
-            Role::Block
-        } else if previous.is_name() || previous.role == Role::Greater {
-            Role::Fields
-        } else {
-            Role::Expression
+        match previous.role {
+            _ if own.role == Role::Block => Role::Block,
+            Role::Attribute | Role::Arm | Role::Bang | Role::BarClose => Role::Block,
+            Role::Greater => Role::Fields,
+            _ if previous.is_name() => Role::Fields,
+            _ => Role::Expression,
         }
     }
 

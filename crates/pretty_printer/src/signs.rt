@@ -177,12 +177,9 @@ pub fn wants_space(tree: &Tree, index: usize, previous: &Atom, next: &Atom, role
 
 /// Returns whether an operator with this role touches what is before it.
 fn is_close(role: Role, own: &Atom) -> bool {
-    let ends = matches!(
-        role,
-        Role::Comma | Role::Semicolon | Role::Colon | Role::Separator
-    );
+    let ends = matches!(role, Role::Comma | Role::Semicolon | Role::Separator);
     let touches = matches!(role, Role::Dot | Role::Greater | Role::Bang | Role::After);
-    ends || touches || role == Role::BarClose && own.is_mark('|')
+    ends || touches || role == Role::Colon || role == Role::BarClose && own.is_mark('|')
 }
 
 /// Returns whether a space follows an operator.

@@ -237,6 +237,11 @@ impl Tree {
         last.tall || last.tall_before > self.atom(from).tall_before
     }
 
+    /// Returns whether an atom in `from..end` has this role.
+    pub fn has(&self, from: usize, end: usize, role: Role) -> bool {
+        self.find_role(from, end, role) < end
+    }
+
     /// Returns the index of the first atom in `from..end` with this role, or `end`.
     pub fn find_role(&self, from: usize, end: usize, role: Role) -> usize {
         for index in from..end {
