@@ -4,9 +4,10 @@
 Usage: bench/pretty_fair.py PROGRAM FOLDER.. [--files N] [--beside PROGRAM]
 
 Each FOLDER is a package. Of each the N files of 2 to 40 KB with the least digests of their names are taken (all if N is
-left out). PROGRAM is given a file's text on standard input and prints a pretty text, as `'FOLDER/tokens pretty'` does.
-rustfmt formats that text, with its default configuration and edition 2021. Bodies of macros that rustfmt leaves alone
-count as they are. Blank lines, doc comments, and files that PROGRAM or rustfmt rejects do not count.
+left out). rustfmt formats the text of each without plain comments. PROGRAM is given that on standard input and prints a
+pretty text, as `'FOLDER/tokens pretty'` does. rustfmt formats the pretty text, with its default configuration and
+edition 2021. Bodies of macros that rustfmt leaves alone count as they are. Blank lines, doc comments, and files that
+PROGRAM or rustfmt rejects do not count.
 
 A line is met if it stands in that order in what rustfmt makes of the text, where a comma at its end does not count, and
 where the imports that follow one another may be in any order. Printed are the share of lines that are met and the share
@@ -22,7 +23,7 @@ import subprocess
 import sys
 
 sys.dont_write_bytecode = True
-from pretty import formatted, lines_of  # noqa: E402
+from pretty import formatted, lines_of, without_comments  # noqa: E402
 
 SMALLEST, LARGEST = 2_000, 40_000
 IMPORT = re.compile(r"\s*(pub(\([^)]*\))? )?(use|mod|extern crate) [^{]*({[^{]*)?$|\s*(pub(\([^)]*\))? )?use ")
@@ -60,11 +61,11 @@ def hits(one: list[str], other: list[str]) -> int:
     return sum(block.size for block in blocks)
 
 
-def measure(program: str, files: list[pathlib.Path], worst: int) -> None:
+def measure(program: str, files: list[tuple[pathlib.Path, str]], worst: int) -> None:
     """Prints the figures of a program."""
     rows, rejected = [], 0
-    for path in files:
-        ran = subprocess.run(program.split(), input=path.read_bytes(), capture_output=True)
+    for path, text in files:
+        ran = subprocess.run(program.split(), input=text.encode(), capture_output=True)
         ours = ran.stdout.decode() if ran.returncode == 0 else ""
         theirs = formatted(ours) if ours else ""
         if not theirs:
@@ -95,7 +96,9 @@ def main() -> None:
     parser.add_argument("--beside", action="append", default=[])
     parser.add_argument("--worst", type=int, default=0, help="prints so many files with the most lines that differ")
     words = parser.parse_args()
-    files = [path for folder in words.folders for path in sources(folder, words.files)]
+    paths = [path for folder in words.folders for path in sources(folder, words.files)]
+    files = [(path, formatted(without_comments(path.read_text(errors="replace")))) for path in paths]
+    files = [(path, text) for path, text in files if text]
     for program in [words.program, *words.beside]:
         measure(program, files, words.worst)
 
