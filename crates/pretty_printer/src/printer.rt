@@ -82,8 +82,8 @@ impl<'a> Printer<'a> {
             }
             return gap;
         }
-        let is_first = self.part < self.nodes && index == self.tree.node(self.part).first;
-        if is_first && self.outer.is_empty() {
+        let in_parts = self.outer.is_empty() && self.part < self.nodes;
+        if in_parts && index == self.tree.node(self.part).first {
             self.lay_part();
         }
         let own = self.tree.atom(index);
@@ -109,12 +109,10 @@ impl<'a> Printer<'a> {
         self.tree.place(part.first, part.end.saturating_add(1));
         let node = self.tree.read_part(part.first, part.end, true);
         self.tree.lay_all(node);
-        let gap = if part.first == 1 {
-            Gap::Nothing
-        } else if self.tree.parts_items(&last, &part) {
-            Gap::Blank(0)
-        } else {
-            Gap::Line(0)
+        let gap = match part.first {
+            1 => Gap::Nothing,
+            _ if self.tree.parts_items(&last, &part) => Gap::Blank(0),
+            _ => Gap::Line(0),
         };
         self.tree.set_gap(part.first, gap);
         self.part = self.part.saturating_add(1);

@@ -233,9 +233,8 @@ fn head_of(word: Word) -> Option<Head> {
 
 /// Returns whether braces after the atom are an operand and not a body.
 pub fn awaits_operand(previous: &Atom) -> bool {
-    let asks = matches!(
-        previous.kind,
-        Kind::Word(Word::If | Word::While | Word::Match | Word::In | Word::Prefix)
-    );
-    asks || previous.role == Role::Between
+    match previous.kind {
+        Kind::Word(Word::If | Word::While | Word::Match | Word::In | Word::Prefix) => true,
+        _ => previous.role == Role::Between,
+    }
 }

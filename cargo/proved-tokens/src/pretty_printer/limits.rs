@@ -130,11 +130,8 @@ impl Tree {
             || previous.role == Role::Bang;
         let forced = comma && !loose && !(atom.role == Role::Tuple && self.is_single(own));
         let next = self.atom(own.end);
-        let pattern = next.role == Role::Arm
-            || next.is_mark('=')
-            || next.is_mark('|')
-            || next.is_word(Word::If)
-            || previous.is_word(Word::Let);
+        let sign = next.role == Role::Arm || next.is_mark('=') || next.is_mark('|');
+        let pattern = sign || next.is_word(Word::If) || previous.is_word(Word::Let);
         let index = !atom.is_round() && previous.is_value();
         let limit = match atom.role {
             Role::Fields => FIELDS,
