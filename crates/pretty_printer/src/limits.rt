@@ -168,7 +168,9 @@ impl Tree {
         let root = self.node(value.child);
         let calls = root.must || self.node(root.next).next != NOWHERE;
         let chain = value.form == Form::Chain && calls && short && atom.is_round();
-        if chain && !several || tuple && value.head == NO_HEAD {
+        // Parentheses in parentheses break their lines themselves.
+        let round = value.form == Form::Group && self.atom(value.first).is_round();
+        if chain && !several || tuple && (value.head == NO_HEAD || round) {
             return 0;
         }
         let before = self.distance(own.from, value.first);

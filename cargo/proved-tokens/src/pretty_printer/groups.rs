@@ -66,10 +66,8 @@ impl Tree {
         let atom = self.atom(own.first);
         let several = own.child != own.last;
         let list = atom.is_list() && !matches!(atom.role, Role::Params | Role::Repeated);
-        let most = match atom.role {
-            Role::Meta => usize::MAX,
-            _ => SHORT,
-        };
+        let meta = atom.role == Role::Meta;
+        let most = if meta { usize::MAX } else { SHORT };
         let short = list && several && self.are_short(own.from, own.until, Role::Comma, most);
         match atom.role {
             Role::Use if self.has(own.from, own.until, Role::Use) => Step::Names,
