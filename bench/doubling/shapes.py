@@ -25,6 +25,9 @@ NAMED = [
     ("macro, index, dot", "fn f() { a", ".m!{}[0]", "", "", "; }"),
     ("where in angles", "fn f where A, ", "where .b, A<B, ", "C", ">.d()", ";"),
     ("wide roots of chains", "x = ", "a::<{ b; }, ", "C", ">()", ".d({ e; }).f().g();"),
+    # At the usual size each of these has more than 4,000 parts.
+    ("nested calls", "x = ", "f(", "a", ")", ";"), ("nested assignments", "x = ", "a = ", "b", "", ";"),
+    ("operators by turns", "x = ", "a + b - ", "c", "", ";"),
 ]
 
 # The shapes of another script, which timed the programs.

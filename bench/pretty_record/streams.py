@@ -1,7 +1,7 @@
 #!/usr/bin/env python3
 """Makes the streams of crates/pretty_tests/stdin: of a grammar of Rust, of items and statements whose names have 1 to
-40 letters, of lists and chains of each length, of shapes that grow, of words one after another, and of the items in
-bench/items.txt.
+40 letters, of lists and chains of each length, of shapes that grow, of words one after another, of the items in
+bench/items.txt, and of texts that were laid out wrongly once.
 
 Usage: bench/pretty_record/streams.py PROGRAM > crates/pretty_tests/stdin
 
@@ -159,6 +159,7 @@ def main() -> None:
     digests = [text for text in texts if text not in whole][:DIGESTS]
     words = ["text"] * (WHOLE - JOINT) + ["joint"] * JOINT
     rows = [row(word, text) for word, text in zip(words, whole)] + [row("digest", text) for text in digests]
+    rows += [row("text", text) for text in maker.choices["layouts"]]
     sys.stdout.buffer.write("".join(rows).encode())
 
 

@@ -8,11 +8,17 @@
 use crate::shim::prelude::TryClone;
 
 mod atoms;
-mod chains;
-mod lists;
+mod expressions;
+mod groups;
+mod limits;
+mod lines;
+mod parts;
 mod printer;
+mod reading;
 mod roles;
-mod widths;
+mod sides;
+mod signs;
+mod tree;
 
 use crate::layout::{Chooser, Gap, LayoutError, Place, text_with};
 use printer::Printer;

@@ -16,11 +16,17 @@ ghost use Rattle.quoting.specs.Fault.{IsFaultOf};
 ghost use Rattle.quoting.specs.Respaced.{respaced};
 
 mod atoms;
-mod chains;
-mod lists;
+mod expressions;
+mod groups;
+mod limits;
+mod lines;
+mod parts;
 mod printer;
+mod reading;
 mod roles;
-mod widths;
+mod sides;
+mod signs;
+mod tree;
 
 use layout::{Chooser, Gap, LayoutError, Place, text_with};
 use printer::Printer;

@@ -1,386 +1,242 @@
 // Made from crates/pretty_printer/src/roles.rt by dev/erase: change that file, not this one.
-//! Finds the roles of operators and groups, which depend on the atoms around them.
-
-use crate::shim::prelude::Grow;
+//! Gives words and groups their roles.
 
 use crate::pretty_printer::atoms::{Atom, Kind, Role, Sign, Word};
-use crate::pretty_printer::lists::{after, atom, before, set_role};
-use crate::pretty_printer::widths::wants_space;
-use crate::proc_macro2::Delimiter;
-use crate::shim::alloc::AllocError;
+use crate::pretty_printer::signs::{pair_angles, wants_space};
+use crate::pretty_printer::tree::{NOWHERE, Tree};
+use crate::layout::Gap;
 
-/// Sets the roles of a list's atoms. `block` is whether the list may have statements. `opens` is scratch memory.
-pub fn assign_roles(
-    atoms: &mut Vec<Atom>,
-    opens: &mut Vec<usize>,
-    first: usize,
-    end: usize,
-    block: bool,
-) -> Result<(), AllocError> {
+/// Gives the atoms in `first..end` their roles, and the gaps before them on one line. They are the list of a group with
+/// the role `inside`, in braces if `block`.
+pub fn assign_roles(tree: &mut Tree, first: usize, end: usize, block: bool, inside: Role) {
     let mut state = State {
-        start: if block { first } else { NO_START },
+        start: if block { first } else { NOWHERE },
         in_bars: false,
         head: Head::Nothing,
         last: Head::Nothing,
+        ends: false,
         depth: 0,
+        inside,
     };
     for index in first..end {
-        // Roles before this atom are set, and no pairing reads those after it. So angles can be paired in order.
-        let open = atom(atoms.as_slice(), index);
-        if open.is_mark('<') && open.role == Role::Plain {
-            pair_angles(atoms, opens, index, end)?;
+        let own = tree.atom(index);
+        if own.is_mark('<') && own.role == Role::Plain {
+            pair_angles(tree, index, end);
         }
-        state.take(atoms, first, end, index);
-    }
-    Ok(())
-}
-
-/// Finds the `<` and `>` around types, from the `<` at this index on.
-fn pair_angles(
-    atoms: &mut Vec<Atom>,
-    opens: &mut Vec<usize>,
-    index: usize,
-    end: usize,
-) -> Result<(), AllocError> {
-    opens.clear();
-    opens.push_fallibly(index)?;
-    for later in index.saturating_add(1)..end {
-        let next = atom(atoms.as_slice(), later);
-        if next.is_mark('<') {
-            opens.push_fallibly(later)?;
-        } else if next.is_mark('>') {
-            if let Some(matched) = opens.pop() {
-                set_role(atoms, matched, Role::Less);
-            }
-            set_role(atoms, later, Role::Greater);
-        } else if ends_types(&next, before(atoms.as_slice(), index, later)) {
-            break;
-        }
-        if opens.is_empty() {
-            break;
-        }
-    }
-    for place in 0..opens.len() {
-        if let Some(unmatched) = opens.get(place) {
-            set_role(atoms, *unmatched, Role::Between);
-        }
-    }
-    Ok(())
-}
-
-/// Returns whether types end before the atom, which follows the atom `previous`.
-fn ends_types(atom: &Atom, previous: &Atom) -> bool {
-    match atom.kind {
-        Kind::Word(word) => matches!(
-            word,
-            Word::String | Word::If | Word::Let | Word::Match | Word::Else
-        ),
-        // Braces can be a whole argument, as in `f::<{ N }>()`.
-        Kind::Group(_) => {
-            atom.is_brace() && !matches!(previous.kind, Kind::Sign(Sign::One('<' | ',' | '=')))
-        }
-        Kind::Sign(sign) => match sign {
-            Sign::Path | Sign::Arrow => false,
-            Sign::One(mark) => !matches!(
-                mark,
-                ',' | '&' | ':' | '=' | '+' | '?' | '*' | '!' | '$' | '#' | '\''
-            ),
-            _ => true,
-        },
-        Kind::Nothing => true,
+        state.take(tree, index);
     }
 }
 
-/// The keyword that the next braces belong to.
+/// What the next braces belong to.
 #[derive(Clone, Copy, PartialEq)]
-enum Head {
+pub enum Head {
     Nothing,
     Fn,
     Impl,
-    // Any other item.
+    /// Any other item.
     Item,
-    Else,
-    // An `if` whose value is used, and its `else`.
+    /// An `if` whose value is used, and its `else`.
     Branch,
-    // `if`, `for`, `while`, `loop` or `match`.
+    /// `if`, `else`, `for`, `while`, `loop` or `match`.
     Other,
 }
 
-/// The `start` of a state in which no statement begins.
-const NO_START: usize = usize::MAX;
-
-/// The state of the loop over a list.
+/// What is known of the list before the next atom.
 #[derive(Clone, Copy)]
-struct State {
-    // The index at which the statement or the arm begins. After braces that end one, it is the next index.
-    start: usize,
-    in_bars: bool,
-    head: Head,
-    last: Head,
-    // The number of open `<`.
-    depth: usize,
+pub struct State {
+    /// The index of the first atom of the statement or the arm. In a list that is not in braces: `NOWHERE`.
+    pub start: usize,
+    /// Whether the atoms are the parameters of a closure.
+    pub in_bars: bool,
+    pub head: Head,
+    /// The head of the last braces.
+    pub last: Head,
+    /// Whether a statement, an item or an arm ends with the atom.
+    pub ends: bool,
+    /// The number of open `<`.
+    pub depth: usize,
+    /// The role of the list's group.
+    pub inside: Role,
 }
 
 impl State {
-    /// Sets the role of the atom at this index, and whether a space is before it.
-    fn take(&mut self, atoms: &mut Vec<Atom>, first: usize, end: usize, index: usize) {
-        let own = atom(atoms.as_slice(), index);
-        let previous = before(atoms.as_slice(), first, index);
-        let mut begins = false;
+    /// Gives the atom at this index its role, and the gap before it on one line.
+    #[cfg_attr(not(debug_assertions), inline(always))]
+    fn take(&mut self, tree: &mut Tree, index: usize) {
+        let own = tree.atom(index);
+        let previous = tree.previous(index);
         let mut role = own.role;
+        self.ends = false;
         match own.kind {
             Kind::Word(word) => {
                 if let Some(head) = head_of(word) {
-                    let next = after(atoms.as_slice(), end, index);
-                    begins = self.take_head(word, head, previous, next);
+                    self.take_head(word, head, previous, tree.next(index));
+                } else if word == Word::Where && is_item(self.head) {
+                    role = Role::Where;
                 }
             }
-            Kind::Group(delimiter) => {
-                let earlier = before(atoms.as_slice(), first, index.saturating_sub(1));
-                let next = after(atoms.as_slice(), end, index);
-                role = self.group_role(delimiter, own, previous, earlier, next);
-                if self.start < NO_START && self.ends(atoms.as_slice(), index, role, next) {
-                    self.start = index.saturating_add(1);
-                }
-            }
+            Kind::Group(_) => role = self.group_role(tree, index, own),
             Kind::Sign(sign) => {
-                // Only marks are angles.
                 match role {
                     Role::Less => self.depth = self.depth.saturating_add(1),
                     Role::Greater => self.depth = self.depth.saturating_sub(1),
                     _ => {}
                 }
-                let next = after(atoms.as_slice(), end, index);
-                role = self.sign_role(sign, own.role, previous, next, index);
+                role = self.sign_role(sign, role, previous, tree.next(index), index);
             }
             Kind::Nothing => {}
         }
-        let spaced = index > first
-            && wants_space(atoms.as_slice(), first, index, previous, own, role);
-        if let Some(changed) = atoms.get_mut(index) {
+        let begins = matches!(previous.kind, Kind::Nothing);
+        let spaced = !begins && wants_space(tree, index, previous, own, role);
+        self.ends = self.ends && self.start < NOWHERE && !own.glued;
+        if self.ends {
+            self.start = index.saturating_add(1);
+        }
+        if let Some(changed) = tree.atoms.get_mut(index) {
             changed.role = role;
-            changed.spaced = spaced;
-            changed.begins_branches = begins;
+            changed.ends = self.ends;
+            changed.tall = changed.tall || role == Role::Where && self.head != Head::Impl;
+            changed.gap = if spaced { Gap::Space } else { Gap::Nothing };
         }
     }
 
-    /// Returns whether an `if` whose value is used begins at this word. The word begins `head`.
-    fn take_head(&mut self, word: Word, head: Head, previous: &Atom, next: &Atom) -> bool {
-        let item = matches!(head, Head::Fn | Head::Impl | Head::Item);
-        if word == Word::For && (self.head == Head::Impl || next.is_mark('<')) {
-            return false;
+    /// Returns the role of a group.
+    fn group_role(&mut self, tree: &Tree, index: usize, own: &Atom) -> Role {
+        let previous = tree.previous(index);
+        let next = tree.next(index);
+        let passed = index.saturating_sub(self.start);
+        if !own.is_brace() {
+            let role = self.list_role(own, previous, tree.previous(index.saturating_sub(1)));
+            self.ends = role == Role::Attribute && passed < 3;
+            return role;
         }
-        if item && (next.is_group() || self.head == Head::Fn) {
-            return false;
+        let item = is_item(self.head);
+        let role = self.brace_role(own, previous, next);
+        let operand = awaits_operand(previous) && !(passed == 1 && previous.is_word(Word::Prefix));
+        let goes_on = match next.kind {
+            Kind::Word(word) => word == Word::Else,
+            Kind::Sign(sign) => matches!(sign, Sign::Arm | Sign::One(';' | ',' | '.' | '?')),
+            _ => false,
+        };
+        let second = tree.next(self.start);
+        let statement = match tree.atom(self.start).kind {
+            Kind::Group(_) => passed == 0,
+            Kind::Word(Word::Lifetime) => true,
+            // For example `unsafe` and `async move`.
+            Kind::Word(Word::Prefix) => passed < 3,
+            Kind::Word(Word::Name | Word::MacroRules) => {
+                // For example `m! {}` and `union U {}`.
+                matches!(second.role, Role::Bang | Role::Path) || second.is_any_word()
+            }
+            Kind::Word(word) => head_of(word).is_some(),
+            _ => false,
+        };
+        let braces = role == Role::Block || role == Role::Expression || second.is_any_word();
+        let ends = braces && !goes_on && !operand && self.head != Head::Other;
+        self.ends = ends && self.depth == 0 && (item || statement);
+        role
+    }
+
+    /// Takes the head that begins with this word.
+    fn take_head(&mut self, word: Word, head: Head, previous: &Atom, next: &Atom) {
+        let bounds = word == Word::For && (self.head == Head::Impl || next.is_mark('<'));
+        let inner = is_item(head) && (next.is_group() || self.head == Head::Fn);
+        if bounds || inner {
+            return;
         }
         let after_sign = previous.is_sign()
             && previous.role != Role::Greater
             && previous.role != Role::Semicolon;
-        let inside = after_sign || previous.is_word(Word::Return) || previous.is_word(Word::Break);
+        let is_value = after_sign
+            || matches!(previous.kind, Kind::Nothing) && self.start == NOWHERE
+            || previous.is_word(Word::Return);
         let after_else = previous.is_word(Word::Else);
-        self.head = if word == Word::If && after_else {
-            self.last
-        } else if word == Word::Else && self.last == Head::Branch {
-            Head::Branch
-        } else if word == Word::If && inside {
-            Head::Branch
-        } else {
-            head
+        self.head = match word {
+            Word::If if after_else => self.last,
+            Word::If if is_value => Head::Branch,
+            Word::Else if self.last == Head::Branch || !previous.is_brace() => Head::Branch,
+            _ => head,
         };
-        self.head == Head::Branch && word == Word::If && !after_else
     }
 
-    fn is_in_item(&self) -> bool {
-        matches!(self.head, Head::Fn | Head::Impl | Head::Item)
-    }
-
-    fn group_role(
-        &mut self,
-        delimiter: Delimiter,
-        own: &Atom,
-        previous: &Atom,
-        earlier: &Atom,
-        next: &Atom,
-    ) -> Role {
-        if delimiter != Delimiter::Brace {
-            if previous.is_mark('$') {
-                return Role::Repeated;
-            }
-            let hash = previous.is_mark('#') || previous.is_mark('!') && earlier.is_mark('#');
-            if delimiter == Delimiter::Bracket && hash {
-                return Role::Attribute;
-            }
-            if delimiter == Delimiter::Parenthesis && !previous.is_value() {
-                return Role::Tuple;
-            }
-            return Role::Plain;
-        }
-        if previous.is_path() {
+    /// Returns the role of braces.
+    fn brace_role(&mut self, own: &Atom, previous: &Atom, next: &Atom) -> Role {
+        if previous.role == Role::Path {
             return Role::Use;
         }
         if self.depth > 0 {
-            // An argument of a type.
+            // It is an argument of a type.
             return Role::Expression;
         }
         let goes_on = next.is_mark('=')
             || next.is_mark('|')
             || next.is_mark(':')
-            || next.is_word(Word::In);
-        if self.head != Head::Nothing && (self.is_in_item() || !goes_on) {
-            let role = if self.head == Head::Branch && !own.statements {
-                Role::Branch
-            } else {
-                Role::Block
-            };
-            self.last = self.head;
-            self.head = Head::Nothing;
-            return role;
+            || next.is_word(Word::In)
+            || awaits_operand(previous);
+        if self.head == Head::Nothing || !is_item(self.head) && goes_on {
+            return self.value_role(own, previous);
         }
-        if own.statements
-            || previous.role == Role::Attribute
-            || previous.is_arm()
-            || previous.is_mark('!')
-            || previous.is_mark('|')
-            || previous.is_or()
-        {
-            return Role::Block;
+        self.last = self.head;
+        self.head = Head::Nothing;
+        match self.last {
+            Head::Branch if own.role != Role::Block => Role::Branch,
+            _ => Role::Block,
         }
-        let name = previous.is_any_word() && !previous.is_keyword();
-        if name || previous.role == Role::Greater {
-            Role::Fields
+    }
+
+    /// Returns the role of braces that belong to no head.
+    fn value_role(&self, own: &Atom, previous: &Atom) -> Role {
+        match previous.role {
+            _ if own.role == Role::Block => Role::Block,
+            Role::Attribute | Role::Arm | Role::Bang | Role::BarClose => Role::Block,
+            Role::Greater => Role::Fields,
+            _ if previous.is_name() => Role::Fields,
+            _ => Role::Expression,
+        }
+    }
+
+    /// Returns the role of a group that is not in braces.
+    fn list_role(&self, own: &Atom, previous: &Atom, earlier: &Atom) -> Role {
+        let named = previous.is_any_word() && earlier.is_word(Word::Fn);
+        if previous.is_mark('$') {
+            Role::Repeated
+        } else if !own.is_round() && previous.role == Role::Hash {
+            Role::Attribute
+        } else if !own.is_round() {
+            Role::Plain
+        } else if self.head == Head::Fn && (named || previous.role == Role::Greater) {
+            Role::Params
+        } else if matches!(self.inside, Role::Attribute | Role::Meta) {
+            Role::Meta
+        } else if previous.is_value() || previous.role == Role::Bang {
+            Role::Plain
         } else {
-            Role::Expression
+            Role::Tuple
         }
     }
+}
 
-    /// Returns whether a statement, an arm or an attribute ends with the group at this index, which gets this role.
-    fn ends(&self, atoms: &[Atom], index: usize, role: Role, next: &Atom) -> bool {
-        let passed = index.saturating_sub(self.start);
-        if role == Role::Attribute {
-            return passed < 3;
-        }
-        if role != Role::Block && role != Role::Expression {
-            return false;
-        }
-        if next.is_word(Word::Else) || next.is_mark('.') || next.is_mark('?') {
-            return false;
-        }
-        let first = atom(atoms, self.start);
-        match first.kind {
-            Kind::Group(_) => passed == 0,
-            Kind::Word(word) => match word {
-                Word::If
-                | Word::For
-                | Word::While
-                | Word::Loop
-                | Word::Match
-                | Word::Lifetime
-                | Word::Fn
-                | Word::Impl
-                | Word::Trait
-                | Word::Mod
-                | Word::Struct
-                | Word::Enum
-                | Word::Extern
-                | Word::Pub => true,
-                // For example `unsafe` and `async move`, or a keyword before `fn`.
-                Word::Keyword => passed < 3 || self.last == Head::Fn,
-                Word::Name | Word::MacroRules => after(atoms, index, self.start).role == Role::Bang,
-                _ => false,
-            },
-            _ => false,
-        }
-    }
-
-    fn sign_role(
-        &mut self,
-        sign: Sign,
-        role: Role,
-        previous: &Atom,
-        next: &Atom,
-        index: usize,
-    ) -> Role {
-        let mark = match sign {
-            Sign::One(mark) => mark,
-            _ => ' ',
-        };
-        let comma_ends = mark == ',' && self.depth == 0 && !self.is_in_item();
-        if mark == ';' || matches!(sign, Sign::Arm) || comma_ends {
-            self.head = Head::Nothing;
-            if self.start < NO_START {
-                self.start = index.saturating_add(1);
-            }
-        }
-        let repeated = previous.role == Role::Repeated || previous.role == Role::Separator;
-        if repeated && matches!(mark, '*' | '+' | '?') {
-            return Role::After;
-        }
-        if repeated && matches!(mark, ',' | ';' | '|') {
-            return Role::Separator;
-        }
-        let value = previous.is_value() && !(index == self.start && previous.is_brace());
-        if mark == '!' {
-            return if previous.is_mark('#') {
-                Role::Hash
-            } else if previous.is_any_word()
-                && (value && !next.is_sign() || previous.is_word(Word::MacroRules))
-            {
-                Role::Bang
-            } else {
-                Role::Before
-            };
-        }
-        if mark == '|' || matches!(sign, Sign::Or) {
-            let found = if mark == '|' && self.in_bars {
-                Role::BarClose
-            } else if value {
-                Role::Between
-            } else if mark == '|' {
-                Role::BarOpen
-            } else {
-                Role::BarClose
-            };
-            self.in_bars = found == Role::BarOpen;
-            return found;
-        }
-        if role != Role::Plain {
-            return role;
-        }
-        match sign {
-            Sign::Path => Role::Path,
-            Sign::Range => Role::Range,
-            Sign::And => side(value),
-            Sign::One(c) => match c {
-                ':' => Role::Colon,
-                ',' => Role::Comma,
-                ';' => Role::Semicolon,
-                '.' => Role::Dot,
-                '#' => Role::Hash,
-                '$' | '~' => Role::Before,
-                '?' if value => Role::After,
-                '-' | '*' | '&' | '@' | '?' => side(value),
-                _ => Role::Between,
-            },
-            _ => Role::Between,
-        }
-    }
+/// Returns whether it is the head of an item.
+pub fn is_item(head: Head) -> bool {
+    matches!(head, Head::Fn | Head::Impl | Head::Item)
 }
 
 /// Returns the kind of item or expression that begins with the word.
 fn head_of(word: Word) -> Option<Head> {
-    Some(match word {
-        Word::Fn => Head::Fn,
-        Word::Impl => Head::Impl,
-        Word::Trait | Word::Mod | Word::Struct | Word::Enum | Word::Union | Word::Extern => {
-            Head::Item
-        }
-        Word::For | Word::While | Word::Loop | Word::Match | Word::If => Head::Other,
-        Word::Else => Head::Else,
-        _ => return None,
-    })
+    match word {
+        Word::Fn => Some(Head::Fn),
+        Word::Impl => Some(Head::Impl),
+        Word::Item | Word::Extern => Some(Head::Item),
+        Word::For | Word::While | Word::Loop | Word::Match | Word::If => Some(Head::Other),
+        Word::Else => Some(Head::Other),
+        _ => None,
+    }
 }
 
-/// Returns the role of an operator that has two operands if it follows a value, and otherwise one.
-fn side(value: bool) -> Role {
-    if value { Role::Between } else { Role::Before }
+/// Returns whether braces after the atom are an operand and not a body.
+pub fn awaits_operand(previous: &Atom) -> bool {
+    match previous.kind {
+        Kind::Word(Word::If | Word::While | Word::Match | Word::In | Word::Prefix) => true,
+        _ => previous.role == Role::Between,
+    }
 }

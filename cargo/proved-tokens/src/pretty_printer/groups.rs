@@ -1,0 +1,183 @@
+// Made from crates/pretty_printer/src/groups.rt by dev/erase: change that file, not this one.
+//! Breaks the lines of groups and of items.
+
+use crate::pretty_printer::atoms::{Atom, Kind, Role, Word};
+use crate::pretty_printer::lines::{Step, Task, WIDTH, deeper};
+use crate::pretty_printer::tree::{Form, NOWHERE, Node, Tree};
+use crate::layout::Gap;
+
+/// The largest width of an element if several elements share a line.
+const SHORT: usize = 10;
+
+impl Tree {
+    /// Lays out a group that is not on one line. The gap before it is written.
+    pub fn lay_group(&mut self, task: &Task) {
+        self.read_short(task.node);
+        let own = *self.node(task.node);
+        let atom = *self.atom(own.first);
+        let doc = atom.role == Role::Attribute && own.until.saturating_sub(own.from) == 3;
+        if own.child == NOWHERE || doc {
+            return self.put(own.first, own.end);
+        }
+        self.read_unread(own.last);
+        let inside = atom.role == Role::Attribute || self.is_doubled(&own);
+        let head = self.head_inside(&own);
+        if !inside && self.column.saturating_add(head) >= WIDTH {
+            return self.lay_lines(task, task.node);
+        }
+        // The last part goes on over the next lines, as if there were no delimiters.
+        let last = *self.node(own.last);
+        self.open_group(Step::Shut, task);
+        self.put(own.from, last.first);
+        self.lead(&own, last.first);
+        self.lay(own.last, task.indent, task.tail.saturating_add(1));
+    }
+
+    /// Writes the opener of a group, and leaves its closer to this step.
+    fn open_group(&mut self, step: Step, task: &Task) {
+        self.put_mark();
+        self.is_shut = false;
+        self.push(step, task, NOWHERE, NOWHERE);
+    }
+
+    /// Begins to write a group, which is in the node of the task, with its parts on lines.
+    pub fn lay_lines(&mut self, task: &Task, group: usize) {
+        self.read_short(group);
+        let own = *self.node(group);
+        if own.child == NOWHERE {
+            return self.put(own.first, own.end);
+        }
+        let mut lines = *task;
+        lines.node = group;
+        self.open_group(Step::Close, &lines);
+        self.push_parts(self.step_of(&own), &lines, group);
+    }
+
+    /// Leaves the parts of a list to this step. Their lines are deeper than those of the task.
+    fn push_parts(&mut self, step: Step, task: &Task, list: usize) {
+        let mut parts = *task;
+        parts.node = list;
+        parts.indent = deeper(task.indent);
+        self.push(step, &parts, self.node(list).child, NOWHERE);
+    }
+
+    /// Returns the step that writes the parts of a group.
+    fn step_of(&self, own: &Node) -> Step {
+        let atom = self.atom(own.first);
+        let several = own.child != own.last;
+        let list = atom.is_list() && !matches!(atom.role, Role::Params | Role::Repeated);
+        let meta = atom.role == Role::Meta;
+        let most = if meta { usize::MAX } else { SHORT };
+        let short = list && several && self.are_short(own.from, own.until, Role::Comma, most);
+        match atom.role {
+            Role::Use if self.has(own.from, own.until, Role::Use) => Step::Names,
+            role if role == Role::Use || short => Step::Fill,
+            _ => Step::Part,
+        }
+    }
+
+    /// Returns whether the atoms between those with this role are names, literals and fields of this width at most.
+    pub fn are_short(&self, from: usize, end: usize, between: Role, most: usize) -> bool {
+        let mut start = from;
+        for index in from..end {
+            let atom = self.atom(index);
+            let mark = matches!(atom.role, Role::Dot | Role::Before | Role::After);
+            if atom.role == between {
+                start = index.saturating_add(1);
+            } else if !(atom.is_any_word() || mark)
+                || atom.tall
+                || self.width(start, index.saturating_add(1)) > most
+            {
+                return false;
+            }
+        }
+        true
+    }
+
+    /// Writes the next part of a list.
+    pub fn next_part(&mut self, task: &Task, own: &Node, part: &Node) {
+        let last = *self.node(task.at);
+        let first = task.at == NOWHERE;
+        if !first {
+            self.put(last.end, part.first);
+        }
+        let fills = match task.step {
+            // A path in imports with inner lists has its own line.
+            Step::Names => !self.has(last.first, part.end, Role::Path),
+            step => step == Step::Fill,
+        };
+        if !first && fills && self.fits(part, 2) {
+            self.lead(own, part.first);
+        } else {
+            let blank = !first && self.parts_items(&last, part);
+            let indent = task.indent;
+            let line = Gap::Line(indent);
+            let gap = if blank { Gap::Blank(indent) } else { line };
+            self.break_line(part.first, gap, indent);
+        }
+        self.push(task.step, task, part.next, task.child);
+        let comma = part.end < own.until && self.atom(part.end).ends_part();
+        self.lay(task.child, task.indent, comma as usize);
+    }
+
+    /// Returns whether an empty line is between two parts: between two items, if one of them has several lines or the
+    /// second has an attribute.
+    pub fn parts_items(&self, last: &Node, next: &Node) -> bool {
+        let tall = self.is_tall(last.first, last.end) || self.is_tall(next.first, next.end);
+        self.is_item(last) && (self.atom(next.first).is_mark('#') || tall && self.is_item(next))
+    }
+
+    /// Returns whether the part is an item.
+    fn is_item(&self, part: &Node) -> bool {
+        let begins = matches!(
+            self.atom(part.first).kind,
+            Kind::Word(
+                Word::Pub | Word::Fn | Word::Impl | Word::Item | Word::Prefix | Word::Keyword
+            )
+        );
+        begins && (self.atom(part.end).is_mark(';') || self.previous(part.end).is_brace())
+    }
+
+    /// Writes the next child of an item: its head on one line if it fits, and otherwise its parameters on lines.
+    pub fn next_of_item(&mut self, task: &Task, own: &Node, child: &Node) {
+        let atom = *self.atom(child.first);
+        if child.form == Form::Bounds {
+            self.write(own, task.at, child.first);
+            if task.step == Step::Broken && self.is_shut {
+                // They go on after the parameters.
+                self.lead(own, child.first);
+            } else {
+                self.begin_line(child.first, task.indent);
+            }
+            self.put(child.first, child.from);
+            self.leave(Step::Apart, task, child);
+            return self.push_parts(Step::Part, task, task.child);
+        }
+        if child.first >= own.until {
+            return self.next_body(task, own, child, &atom);
+        }
+        let brace = self.atom(own.until).is_brace();
+        let tail = if brace { 3 } else { 1 };
+        if self.fit(task.at, own.until, tail) {
+            return self.push(task.step, task, child.next, task.at);
+        }
+        self.reach(task, own, child, false);
+        self.leave(Step::Broken, task, child);
+        if atom.role == Role::Params {
+            return self.lay_lines(task, task.child);
+        }
+        let tail = self.tail_of(task, own, child);
+        self.lay(task.child, task.indent, tail);
+    }
+
+    /// Writes the body of an item. An empty one after a head of several lines has two lines.
+    fn next_body(&mut self, task: &Task, own: &Node, child: &Node, brace: &Atom) {
+        self.reach(task, own, child, task.step == Step::Apart);
+        self.leave(Step::Next, task, child);
+        if task.step != Step::Next && !brace.is_full() {
+            self.put_mark();
+            return self.close(child, task.indent);
+        }
+        self.lay(task.child, task.indent, 0);
+    }
+}

@@ -1,0 +1,200 @@
+// Made from crates/pretty_printer/src/signs.rt by dev/erase: change that file, not this one.
+//! Pairs angles, gives operators their roles, and chooses the spaces of a line.
+
+use crate::shim::prelude::Grow;
+
+use crate::pretty_printer::atoms::{Atom, Kind, Role, Sign, Word};
+use crate::pretty_printer::roles::{Head, State, is_item};
+use crate::pretty_printer::tree::{NOWHERE, Tree};
+
+/// Pairs the `<` at this index and those after it with the `>` that end types.
+pub fn pair_angles(tree: &mut Tree, index: usize, end: usize) {
+    tree.angles.clear();
+    for later in index..end {
+        let next = tree.atom(later);
+        if next.is_mark('<') {
+            let pushed = tree.angles.push_fallibly(later);
+            tree.check(pushed);
+        } else if next.is_mark('>') {
+            if let Some(matched) = tree.angles.pop() {
+                if let Some(less) = tree.atoms.get_mut(matched) {
+                    less.role = Role::Less;
+                    less.node = later;
+                }
+            }
+            tree.set_role(later, Role::Greater);
+        } else if ends_types(next, tree.previous(later)) {
+            break;
+        }
+        if tree.angles.is_empty() {
+            break;
+        }
+    }
+    for _ in 0..tree.angles.len() {
+        if let Some(unmatched) = tree.angles.pop() {
+            tree.set_role(unmatched, Role::Between);
+        }
+    }
+}
+
+/// Returns whether no type goes on with the atom after this one.
+fn ends_types(atom: &Atom, previous: &Atom) -> bool {
+    match atom.kind {
+        Kind::Word(word) => matches!(
+            word,
+            Word::String | Word::If | Word::Let | Word::Match | Word::Else
+        ),
+        // Braces may be an argument, as in `f::<{ N }>()`.
+        Kind::Group(_) => {
+            atom.is_brace() && !matches!(previous.kind, Kind::Sign(Sign::One('<' | ',' | '=')))
+        }
+        Kind::Sign(sign) => match sign {
+            Sign::Path | Sign::Arrow => false,
+            Sign::One('-') => !matches!(previous.kind, Kind::Sign(Sign::One('<' | ','))),
+            Sign::One(mark) => !matches!(
+                mark,
+                ',' | '&' | ':' | '=' | '+' | '?' | '*' | '!' | '$' | '#' | '\''
+            ),
+            _ => true,
+        },
+        Kind::Nothing => true,
+    }
+}
+
+impl State {
+    /// Returns the role of an operator at this index between these atoms. `role` is the one that it has as an angle.
+    pub fn sign_role(
+        &mut self,
+        sign: Sign,
+        role: Role,
+        previous: &Atom,
+        next: &Atom,
+        index: usize,
+    ) -> Role {
+        let mark = match sign {
+            Sign::One(mark) => mark,
+            _ => ' ',
+        };
+        let listed = self.depth > 0 || self.in_bars || is_item(self.head);
+        self.ends = mark == ';' || mark == ',' && !listed;
+        if self.ends || matches!(sign, Sign::Arm) {
+            self.head = Head::Nothing;
+            if self.start < NOWHERE {
+                self.start = index.saturating_add(1);
+            }
+        }
+        if previous.role == Role::Repeated || previous.role == Role::Separator {
+            match mark {
+                '*' | '+' | '?' => return Role::After,
+                ',' | ';' | '|' => return Role::Separator,
+                _ => {}
+            }
+        }
+        let value = previous.is_value() && !(index == self.start && previous.is_brace());
+        match sign {
+            Sign::One('!') => bang_role(previous, next, value),
+            Sign::One('|') | Sign::Or => self.bar_role(mark, value),
+            _ if role != Role::Plain => role,
+            _ => plain_role(sign, value),
+        }
+    }
+
+    /// Returns the role of `|` or `||`.
+    fn bar_role(&mut self, mark: char, value: bool) -> Role {
+        let closes = mark == '|' && self.in_bars;
+        let found = if closes || !value && mark != '|' {
+            Role::BarClose
+        } else if value {
+            Role::Between
+        } else {
+            Role::BarOpen
+        };
+        self.in_bars = found == Role::BarOpen;
+        found
+    }
+}
+
+/// Returns the role of `!`.
+fn bang_role(previous: &Atom, next: &Atom, value: bool) -> Role {
+    let called = previous.is_any_word() && value && !next.is_sign();
+    if previous.is_mark('#') {
+        Role::Hash
+    } else if called || previous.is_word(Word::MacroRules) {
+        Role::Bang
+    } else if matches!(previous.kind, Kind::Sign(Sign::Arrow)) {
+        // It is a type.
+        Role::Plain
+    } else {
+        Role::Before
+    }
+}
+
+/// Returns the role of any other operator.
+fn plain_role(sign: Sign, value: bool) -> Role {
+    let side = if value { Role::Between } else { Role::Before };
+    match sign {
+        Sign::Path => Role::Path,
+        Sign::Range => Role::Range,
+        Sign::Arm => Role::Arm,
+        Sign::And => side,
+        Sign::One(c) => match c {
+            ':' => Role::Colon,
+            ',' => Role::Comma,
+            ';' => Role::Semicolon,
+            '.' => Role::Dot,
+            '#' => Role::Hash,
+            '$' | '~' => Role::Before,
+            '?' if value => Role::After,
+            '-' | '*' | '&' | '@' | '?' => side,
+            _ => Role::Between,
+        },
+        _ => Role::Between,
+    }
+}
+
+/// Returns whether a space should be before the atom `next` at this index, which gets this role. The atom is not the
+/// first of its list.
+#[cfg_attr(not(debug_assertions), inline(always))]
+pub fn wants_space(tree: &Tree, index: usize, previous: &Atom, next: &Atom, role: Role) -> bool {
+    if previous.glued || next.is_sign() && is_close(role, next) {
+        return false;
+    }
+    if previous.is_sign() && previous.role != Role::Greater && previous.role != Role::After {
+        return is_wide(tree, index, previous, next);
+    }
+    if next.is_sign() && matches!(role, Role::Path | Role::Range | Role::Less) {
+        let opens = matches!(previous.kind, Kind::Word(Word::Impl | Word::For | Word::Fn));
+        let keyword = previous.is_any_word() && !previous.is_name();
+        return keyword && !(opens && role == Role::Less);
+    }
+    if !next.is_list() {
+        return true;
+    }
+    match previous.kind {
+        Kind::Word(Word::Pub) => !next.is_round(),
+        Kind::Word(Word::Fn | Word::Await | Word::MacroRules) => false,
+        Kind::Word(Word::Lifetime) => true,
+        Kind::Word(_) => !previous.is_name(),
+        _ => previous.is_brace() || previous.role == Role::Attribute,
+    }
+}
+
+/// Returns whether an operator with this role touches what is before it.
+fn is_close(role: Role, own: &Atom) -> bool {
+    let ends = matches!(role, Role::Comma | Role::Semicolon | Role::Separator);
+    let touches = matches!(role, Role::Dot | Role::Greater | Role::Bang | Role::After);
+    ends || touches || role == Role::Colon || role == Role::BarClose && own.is_mark('|')
+}
+
+/// Returns whether a space follows an operator.
+fn is_wide(tree: &Tree, index: usize, previous: &Atom, next: &Atom) -> bool {
+    match previous.role {
+        Role::Colon => {
+            let dollar = tree.atom(index.saturating_sub(3));
+            !(dollar.is_mark('$') && next.is_word(Word::Fragment))
+        }
+        Role::Bang => !next.is_list(),
+        Role::Plain | Role::Between | Role::Arm | Role::BarClose => true,
+        role => role == Role::Comma || role == Role::Semicolon,
+    }
+}
