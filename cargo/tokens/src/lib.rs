@@ -54,8 +54,9 @@ pub mod find_calls {
 #[allow(dead_code, unreachable_code, unused_imports, clippy::complexity, clippy::style)]
 pub mod pretty {
     pub mod answer;
-    pub mod comments;
+    mod comments;
     pub mod options;
+    pub mod report;
     mod script;
 }
 

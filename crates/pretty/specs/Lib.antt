@@ -1,3 +1,4 @@
 pub mod Answer
 pub mod Comments
+pub mod Report
 pub mod Script

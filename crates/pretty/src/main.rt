@@ -16,12 +16,13 @@
 mod answer;
 mod comments;
 mod options;
+mod report;
 mod script;
 
 use answer::print_text;
-use comments::{say_denied, say_left_out};
 use messages::{Failure, conclude, read_text, words};
 use options::{Options, USAGE, options_of};
+use report::{report, status};
 use std::env;
 use std::io::{BufWriter, Write};
 use std::process::ExitCode;
@@ -39,21 +40,12 @@ fn asked(rt: &HostRuntime) -> Result<Options, Failure> {
     options_of(rt.alloc(), words.as_slice())
 }
 
-/// Prints the tokens of the file, writes which comments are left out, and returns the exit status.
+/// Prints the tokens of the file, reports the outcome, and returns the exit status.
 fn pretty_file(rt: &HostRuntime, options: &Options) -> ExitCode {
+    let outcome = print_file(rt, options);
     let path = options.path.as_str();
-    match print_file(rt, options) {
-        Ok(0) => ExitCode::SUCCESS,
-        Ok(count) if options.deny => {
-            let _ = say_denied(path, count, &mut rt.stderr());
-            ExitCode::FAILURE
-        }
-        Ok(count) => {
-            let _ = say_left_out(count, &mut rt.stderr());
-            ExitCode::SUCCESS
-        }
-        Err(failure) => conclude(rt.alloc(), path, Err(failure), &mut rt.stderr()),
-    }
+    let _ = report(rt.alloc(), path, options.deny, &outcome, &mut rt.stderr());
+    ExitCode::from(status(options.deny, &outcome))
 }
 
 /// Prints the tokens of the file, and returns how many plain comments it has.

@@ -1,0 +1,36 @@
+// Made from crates/pretty/src/report.rt by dev/erase: change that file, not this one.
+//! What the program writes to standard error, and its exit status.
+
+use crate::pretty::comments::{say_denied, say_left_out};
+use crate::messages::{Failure, say};
+use proved_tokens::shim::io;
+use proved_tokens::shim::io::Write;
+
+/// Writes to `errors` what is said of an outcome of `print_text` for the file at this path: nothing if the text has no
+/// plain comments, a line with their number if they were left out or denied, and why the program failed otherwise.
+pub fn report<E: Write>(
+    path: &str,
+    deny: bool,
+    outcome: &Result<usize, Failure>,
+    errors: &mut E,
+) -> io::Result<()>
+{
+    match outcome {
+        Ok(0) => Ok(()),
+        Ok(count) if deny => say_denied(path, *count, errors),
+        Ok(count) => say_left_out(*count, errors),
+        Err(failure) => say(path, failure, errors),
+    }
+}
+
+/// Returns the exit status after an outcome of `print_text`: 0 after success, 1 after a syntax error or if plain
+/// comments were denied, and 2 after any other failure.
+pub fn status(deny: bool, outcome: &Result<usize, Failure>) -> u8
+{
+    match outcome {
+        Ok(count) if deny && *count > 0 => 1,
+        Ok(_) => 0,
+        Err(Failure::Fault(_)) => 1,
+        Err(_) => 2,
+    }
+}
