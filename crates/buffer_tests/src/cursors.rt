@@ -10,57 +10,61 @@ use token_buffer::{Cursor, LiteralText, TokenBuffer, TokenText};
 
 /// Asserts what the cursor at the start of `r#f += 'é (\"x\")` returns up to the group.
 fn check_names_and_marks<'a>(rt: &impl Abort, cursor: Cursor<'a>) -> Option<Cursor<'a>> {
-    assert!(rt; !cursor.eof());
-    assert_eq!(rt; cursor.span().map(bounds), Some((1, 4)));
+    let start = (cursor.eof(), cursor.span().map(bounds));
     let (name, rest) = cursor.ident()?;
-    assert!(rt; name.raw);
-    assert_eq!(rt; name.text, "f");
     let (plus, spacing, rest) = rest.punct()?;
-    assert_eq!(rt; plus, '+');
-    assert_eq!(rt; spacing, Spacing::Joint);
-    let (name, rest) = rest.skip()?.lifetime()?;
-    assert_eq!(rt; name.text, "é");
+    let (lifetime, rest) = rest.skip()?.lifetime()?;
+    let found = (start, (name.raw, name.text), (plus, spacing), lifetime.text);
+    let want = (
+        (false, Some((1, 4))),
+        (true, "f"),
+        ('+', Spacing::Joint),
+        "é",
+    );
+    assert_eq!(rt; found, want);
     Some(rest)
 }
 
 /// Asserts what the cursor before `(\"x\")` returns.
 fn check_group(rt: &impl Abort, cursor: Cursor<'_>) -> Option<()> {
-    assert_eq!(rt; cursor.span().map(bounds), Some((11, 16)));
+    let in_brackets = cursor.group(Delimiter::Bracket).is_some();
+    let start = (
+        cursor.span().map(bounds),
+        in_brackets,
+        cursor.any_group().is_some(),
+    );
+    assert_eq!(rt; start, (Some((11, 16)), false, true));
     let (inside, after) = cursor.group(Delimiter::Parenthesis)?;
-    assert!(rt; after.eof());
-    assert!(rt; cursor.group(Delimiter::Bracket).is_none());
-    assert!(rt; cursor.any_group().is_some());
     let (literal, end) = inside.literal()?;
-    assert!(rt; matches!(literal, LiteralText::Source("\"x\"")));
-    assert!(rt; end.eof());
-    assert!(rt; end.next().is_none());
+    let is_x = matches!(literal, LiteralText::Source("\"x\""));
+    let ends = (after.eof(), end.eof(), end.next().is_none());
+    assert_eq!(rt; (is_x, ends), (true, (true, true, true)));
     Some(())
 }
 
 #[test]
 fn tokens_come_one_after_another(rt: HostRuntime) -> Result<(), Fail> {
     let buffer = TokenBuffer::new(rt.alloc(), "r#f += 'é (\"x\")")?;
-    let rest = check_names_and_marks(&rt, buffer.begin());
-    assert!(rt; rest.is_some());
-    if let Some(rest) = rest {
-        assert!(rt; check_group(&rt, rest).is_some());
-    }
+    let checked = match check_names_and_marks(&rt, buffer.begin()) {
+        Some(rest) => check_group(&rt, rest),
+        None => None,
+    };
+    assert!(rt; checked.is_some());
     Ok(())
 }
 
 /// Asserts what the cursor at the start of `//! d`, CR and LF returns. The comment includes the CR before its line
 /// feed, but its text does not.
 fn check_doc(rt: &impl Abort, cursor: Cursor<'_>) -> Option<()> {
-    let rest = cursor.skip()?.skip()?;
-    assert_eq!(rt; rest.span().map(bounds), Some((1, 7)));
-    let (_, inside, _) = rest.any_group()?;
-    let (name, inside) = inside.ident()?;
-    assert_eq!(rt; name.text, "doc");
-    let (mark, _, inside) = inside.punct()?;
-    assert_eq!(rt; mark, '=');
-    assert_eq!(rt; inside.span().map(bounds), Some((1, 7)));
-    let (text, _) = inside.next()?;
-    assert!(rt; matches!(text, TokenText::Literal(LiteralText::Doc(" d"))));
+    let group = cursor.skip()?.skip()?;
+    let (_, inside, _) = group.any_group()?;
+    let (name, rest) = inside.ident()?;
+    let (mark, _, rest) = rest.punct()?;
+    let (text, _) = rest.next()?;
+    let is_d = matches!(text, TokenText::Literal(LiteralText::Doc(" d")));
+    let spans = (group.span().map(bounds), rest.span().map(bounds));
+    let want = ((Some((1, 7)), Some((1, 7))), ("doc", '=', true));
+    assert_eq!(rt; (spans, (name.text, mark, is_d)), want);
     Some(())
 }
 
@@ -186,10 +190,9 @@ fn cursors_are_equal_up_to_spans(rt: HostRuntime) -> Result<(), Fail> {
         let buffer = TokenBuffer::new(rt.alloc(), text)?;
         let others = TokenBuffer::new(rt.alloc(), other)?;
         let (left, right) = (buffer.begin(), others.begin());
-        assert_eq!(rt; left == right, want, "{text:?} and {other:?}");
-        assert_eq!(rt; right == left, want, "{other:?} and {text:?}");
-        let same = have_same_streams(rt.alloc(), left, right)?;
-        assert_eq!(rt; same, want, "the streams of {text:?} and {other:?}");
+        let streams = have_same_streams(rt.alloc(), left, right)?;
+        let found = (left == right, right == left, streams);
+        assert_eq!(rt; found, (want, want, want), "{text:?} and {other:?}");
     }
     Ok(())
 }
