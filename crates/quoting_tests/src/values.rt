@@ -72,19 +72,28 @@ fn check<'a>(
     Ok(())
 }
 
+/// Asserts the printed text of the template with the stream for `x`, lent and given.
+fn check_stream(
+    rt: &(impl Abort + AllocGlobal),
+    stream: TokenStream,
+    want: &str,
+) -> Result<(), Fail> {
+    check(rt, "(#x, #x)", &Value::Stream(&stream), want)?;
+    check(rt, "(#x, #x)", &Value::OwnedStream(stream), want)
+}
+
+/// Asserts the printed text of the template with the tree for `x`, lent and given.
+fn check_tree(rt: &(impl Abort + AllocGlobal), tree: TokenTree, want: &str) -> Result<(), Fail> {
+    check(rt, "(#x, #x)", &Value::Tree(&tree), want)?;
+    check(rt, "(#x, #x)", &Value::OwnedTree(tree), want)
+}
+
 #[test]
 fn streams_and_trees_are_put_in(rt: HostRuntime) -> Result<(), Fail> {
     let stream = TokenStream::from_str("c + d", &mut SourceMap::new(rt.alloc()))?;
-    check(&rt, "(#x, #x)", &Value::Stream(&stream), "(c + d , c + d)")?;
-    check(
-        &rt,
-        "(#x, #x)",
-        &Value::OwnedStream(stream),
-        "(c + d , c + d)",
-    )?;
+    check_stream(&rt, stream, "(c + d , c + d)")?;
     let tree = TokenTree::Literal(Literal::i8_suffixed(rt.alloc(), -4)?);
-    check(&rt, "(#x, #x)", &Value::Tree(&tree), "(- 4i8 , - 4i8)")?;
-    check(&rt, "(#x, #x)", &Value::OwnedTree(tree), "(- 4i8 , - 4i8)")
+    check_tree(&rt, tree, "(- 4i8 , - 4i8)")
 }
 
 #[test]
@@ -104,12 +113,18 @@ fn tokens_are_put_in(rt: HostRuntime) -> Result<(), Fail> {
 
 #[test]
 fn texts_and_truth_values_are_put_in(rt: HostRuntime) -> Result<(), Fail> {
-    check(&rt, "(#x, #x)", &Value::Nothing, "(,)")?;
-    check(&rt, "(#x, #x)", &Value::Name("fn"), "(fn , fn)")?;
-    check(&rt, "#x", &Value::String("\"\n"), "\"\\\"\\n\"")?;
-    check(&rt, "#x", &Value::Character('\''), "'\\''")?;
-    check(&rt, "(#x, #x)", &Value::Boolean(true), "(true , true)")?;
-    check(&rt, "(#x, #x)", &Value::Boolean(false), "(false , false)")
+    let rows = [
+        ("(#x, #x)", Value::Nothing, "(,)"),
+        ("(#x, #x)", Value::Name("fn"), "(fn , fn)"),
+        ("#x", Value::String("\"\n"), "\"\\\"\\n\""),
+        ("#x", Value::Character('\''), "'\\''"),
+        ("(#x, #x)", Value::Boolean(true), "(true , true)"),
+        ("(#x, #x)", Value::Boolean(false), "(false , false)"),
+    ];
+    for (template, value, want) in &rows {
+        check(&rt, template, value, want)?;
+    }
+    Ok(())
 }
 
 #[test]
@@ -141,43 +156,69 @@ fn numbers_have_their_suffix(rt: HostRuntime) -> Result<(), Fail> {
     Ok(())
 }
 
-#[test]
-fn a_value_that_is_no_token_is_an_error_at_the_name_of_its_hole(
-    rt: HostRuntime,
-) -> Result<(), Fail> {
-    for name in ["1", "", "a b", "r#a"] {
-        let fault = check_fault(&rt, &Value::Name(name));
-        assert!(rt; matches!(fault, Some(TemplateError::NotIdent(_))));
+/// Returns the name of the error's variant, of those that a value can have.
+fn kind(fault: Option<TemplateError>) -> &'static str {
+    match fault {
+        Some(TemplateError::NotIdent(_)) => "NotIdent",
+        Some(TemplateError::NotFinite(_)) => "NotFinite",
+        Some(TemplateError::LoneList(_)) => "LoneList",
+        _ => "none of these",
     }
-    let fault = check_fault(&rt, &Value::NotFinite);
-    assert!(rt; matches!(fault, Some(TemplateError::NotFinite(_))));
-    let fault = check_fault(&rt, &Value::Streams(&[]));
-    assert!(rt; matches!(fault, Some(TemplateError::LoneList(_))));
-    let fault = check_fault(&rt, &Value::List(Values::new(rt.alloc())));
-    assert!(rt; matches!(fault, Some(TemplateError::LoneList(_))));
-    Ok(())
+}
+
+#[test]
+fn a_value_that_is_no_token_is_an_error_at_the_name_of_its_hole(rt: HostRuntime) {
+    let rows = [
+        (Value::Name("1"), "NotIdent"),
+        (Value::Name(""), "NotIdent"),
+        (Value::Name("a b"), "NotIdent"),
+        (Value::Name("r#a"), "NotIdent"),
+        (Value::NotFinite, "NotFinite"),
+        (Value::Streams(&[]), "LoneList"),
+        (Value::List(Values::new(rt.alloc())), "LoneList"),
+    ];
+    for (value, want) in &rows {
+        assert_eq!(rt; kind(check_fault(&rt, value)), *want);
+    }
+}
+
+/// Asserts what a list of two streams prints, and a list of trees.
+fn check_streams(rt: &(impl Abort + AllocGlobal), each: &str) -> Result<(), Fail> {
+    let stream = TokenStream::from_str("a; b", &mut SourceMap::new(rt.alloc()))?;
+    check(rt, each, &Value::Trees(stream.trees()), "a , ; , b")?;
+    let streams = [stream, TokenStream::new(rt.alloc())];
+    check(rt, each, &Value::Streams(&streams), "a ; b ,")
+}
+
+/// Asserts what a list of two identifiers prints.
+fn check_idents(rt: &(impl Abort + AllocGlobal), each: &str) -> Result<(), Fail> {
+    let idents = [word(rt.alloc(), "a")?, word(rt.alloc(), "b")?];
+    check(rt, each, &Value::Idents(&idents), "a , b")
+}
+
+/// Asserts what a list of two literals prints.
+fn check_literals(rt: &(impl Abort + AllocGlobal), each: &str) -> Result<(), Fail> {
+    let text = Literal::string(rt.alloc(), "a")?;
+    let literals = [text, Literal::i8_unsuffixed(rt.alloc(), -1)?];
+    check(rt, each, &Value::Literals(&literals), "\"a\" , - 1")
+}
+
+/// Asserts what a list of values prints.
+fn check_values(rt: &(impl Abort + AllocGlobal), each: &str) -> Result<(), Fail> {
+    let mut list = Values::new(rt.alloc());
+    list.push(Value::Number(Number::U8(1)))?;
+    list.push(Value::Nothing)?;
+    check(rt, each, &Value::List(list), "1u8 ,")
 }
 
 #[test]
 fn lists_of_every_kind_are_repeated(rt: HostRuntime) -> Result<(), Fail> {
-    let alloc = rt.alloc();
-    let stream = TokenStream::from_str("a; b", &mut SourceMap::new(alloc))?;
-    let idents = [word(alloc, "a")?, word(alloc, "b")?];
-    let literals = [
-        Literal::string(alloc, "a")?,
-        Literal::i8_unsuffixed(alloc, -1)?,
-    ];
-    let streams = [stream.clone()?, TokenStream::new(alloc)];
-    let mut list = Values::new(alloc);
-    list.push(Value::Number(Number::U8(1)))?;
-    list.push(Value::Nothing)?;
     let each = "#(#x),*";
-    check(&rt, each, &Value::Streams(&streams), "a ; b ,")?;
-    check(&rt, each, &Value::Trees(stream.trees()), "a , ; , b")?;
-    check(&rt, each, &Value::Idents(&idents), "a , b")?;
-    check(&rt, each, &Value::Literals(&literals), "\"a\" , - 1")?;
+    check_streams(&rt, each)?;
+    check_idents(&rt, each)?;
+    check_literals(&rt, each)?;
     check(&rt, each, &Value::Strings(&["a", "b"]), "\"a\" , \"b\"")?;
-    check(&rt, each, &Value::List(list), "1u8 ,")
+    check_values(&rt, each)
 }
 
 /// Returns a list of two strings.
