@@ -11,22 +11,22 @@ pub fn leaf(alloc: Global, line: &str) -> Result<Option<TokenTree>, ParseError> 
     let Some((word, text)) = line.split_once(' ') else {
         return Ok(None);
     };
-    Ok(match word {
-        "ident" => identifier(Ident::new(alloc, text, Span::call_site()))?,
-        "raw" => identifier(Ident::new_raw(alloc, text, Span::call_site()))?,
-        "alone" => mark(text, Spacing::Alone),
-        "joint" => mark(text, Spacing::Joint),
-        "literal" => literal(alloc, text)?,
-        "integer" => integer(alloc, text)?,
-        _ => None,
-    })
+    match word {
+        "ident" => identifier(Ident::new(alloc, text, Span::call_site())),
+        "raw" => identifier(Ident::new_raw(alloc, text, Span::call_site())),
+        "alone" => Ok(mark(text, Spacing::Alone)),
+        "joint" => Ok(mark(text, Spacing::Joint)),
+        "literal" => literal(alloc, text),
+        "integer" => integer(alloc, text),
+        _ => Ok(None),
+    }
 }
 
 /// Returns the identifier, or `None` if the name is wrong.
-fn identifier(ident: Result<Ident, IdentError>) -> Result<Option<TokenTree>, AllocError> {
+fn identifier(ident: Result<Ident, IdentError>) -> Result<Option<TokenTree>, ParseError> {
     match ident {
         Ok(ident) => Ok(Some(TokenTree::Ident(ident))),
-        Err(IdentError::Memory(error)) => Err(error),
+        Err(IdentError::Memory(error)) => Err(ParseError::Memory(error)),
         Err(_) => Ok(None),
     }
 }
@@ -53,7 +53,7 @@ fn literal(alloc: Global, text: &str) -> Result<Option<TokenTree>, ParseError> {
 }
 
 /// Returns the literal that the constructor of the suffix makes of the number before it.
-fn integer(alloc: Global, text: &str) -> Result<Option<TokenTree>, AllocError> {
+fn integer(alloc: Global, text: &str) -> Result<Option<TokenTree>, ParseError> {
     let (number, suffix) = match text.find('i') {
         Some(at) => text.split_at(at),
         None => (text, ""),
@@ -61,15 +61,22 @@ fn integer(alloc: Global, text: &str) -> Result<Option<TokenTree>, AllocError> {
     let Ok(number) = number.parse::<i8>() else {
         return Ok(None);
     };
-    let literal = match suffix {
-        "" => Literal::i8_unsuffixed(alloc, number)?,
-        "i8" => Literal::i8_suffixed(alloc, number)?,
-        "i16" => Literal::i16_suffixed(alloc, i16::from(number))?,
-        "i32" => Literal::i32_suffixed(alloc, i32::from(number))?,
-        "i64" => Literal::i64_suffixed(alloc, i64::from(number))?,
-        "i128" => Literal::i128_suffixed(alloc, i128::from(number))?,
-        "isize" => Literal::isize_suffixed(alloc, isize::from(number))?,
-        _ => return Ok(None),
-    };
-    Ok(Some(TokenTree::Literal(literal)))
+    match suffixed(alloc, number, suffix) {
+        Some(literal) => Ok(Some(TokenTree::Literal(literal?))),
+        None => Ok(None),
+    }
+}
+
+/// Returns the literal that the constructor of the suffix makes of the number, or `None` if there is no such suffix.
+fn suffixed(alloc: Global, number: i8, suffix: &str) -> Option<Result<Literal, AllocError>> {
+    match suffix {
+        "" => Some(Literal::i8_unsuffixed(alloc, number)),
+        "i8" => Some(Literal::i8_suffixed(alloc, number)),
+        "i16" => Some(Literal::i16_suffixed(alloc, i16::from(number))),
+        "i32" => Some(Literal::i32_suffixed(alloc, i32::from(number))),
+        "i64" => Some(Literal::i64_suffixed(alloc, i64::from(number))),
+        "i128" => Some(Literal::i128_suffixed(alloc, i128::from(number))),
+        "isize" => Some(Literal::isize_suffixed(alloc, isize::from(number))),
+        _ => None,
+    }
 }
