@@ -19,12 +19,13 @@ pub fn run<W: Write>(alloc: Global, out: &mut W, call: &str, text: &str) -> Resu
     };
     for _ in 0..2 {
         begin(out)?;
-        match call {
-            "impl_header" => print(out, impl_header(alloc, &item, &path))?,
-            "where_clause_with_bound" => print(out, where_clause_with_bound(alloc, &item, &path))?,
-            "compile_error" => print(out, compile_error(alloc, text, Span::call_site()))?,
-            _ => return Err(Fail::NoCase),
-        }
+        let done = match call {
+            "impl_header" => print(out, impl_header(alloc, &item, &path)),
+            "where_clause_with_bound" => print(out, where_clause_with_bound(alloc, &item, &path)),
+            "compile_error" => print(out, compile_error(alloc, text, Span::call_site())),
+            _ => Err(Fail::NoCase),
+        };
+        done?;
     }
     Ok(())
 }

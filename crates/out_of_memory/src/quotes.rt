@@ -25,19 +25,29 @@ pub fn run<W: Write>(alloc: Global, out: &mut W, call: &str, given: &str) -> Res
     let template = if given.is_empty() { TEMPLATE } else { given };
     for _ in 0..2 {
         let mut quote = x_and_group(alloc)?;
-        match call {
-            "push" => push(alloc, out, &mut quote)?,
-            "push_stream" => push_stream(alloc, out, &mut quote)?,
-            "fill" => fill(alloc, out, &mut quote, template)?,
-            "parse" => parse(alloc, out, &mut quote)?,
-            "values" => values(alloc, out, &mut quote)?,
-            "list" => list(alloc, out)?,
-            "finish" => finish(out, &quote)?,
-            _ => return Err(Fail::NoCase),
-        }
+        change(alloc, out, call, template, &mut quote)?;
         show_stream(out, &quote.finish()?)?;
     }
     Ok(())
+}
+
+fn change<W: Write>(
+    alloc: Global,
+    out: &mut W,
+    call: &str,
+    template: &str,
+    quote: &mut Quote,
+) -> Result<(), Fail> {
+    match call {
+        "push" => push(alloc, out, quote),
+        "push_stream" => push_stream(alloc, out, quote),
+        "fill" => fill(alloc, out, quote, template),
+        "parse" => parse(alloc, out, quote),
+        "values" => values(alloc, out, quote),
+        "list" => list(alloc, out),
+        "finish" => finish(out, &*quote),
+        _ => Err(Fail::NoCase),
+    }
 }
 
 fn push<W: Write>(alloc: Global, out: &mut W, quote: &mut Quote) -> Result<(), Fail> {
