@@ -44,16 +44,21 @@ mod tests {
         }
     }
 
+    /// Returns the texts as arguments.
+    fn arguments(alloc: Global, texts: &[&str]) -> Result<Args, AllocError> {
+        let mut arguments = Vec::new(alloc);
+        for text in texts {
+            arguments.push(String::from_str(alloc, text)?)?;
+        }
+        Ok(arguments.into_iter())
+    }
+
     #[test]
     fn the_name_of_the_program_is_no_word(rt: HostRuntime) -> Result<(), Fail> {
-        let mut arguments = Vec::new(rt.alloc());
-        assert_eq!(rt;
-            count(rt.alloc(), Ok(Vec::new(rt.alloc()).into_iter())),
-            Some(0)
-        );
-        arguments.push(String::from_str(rt.alloc(), "tokens")?)?;
-        arguments.push(String::from_str(rt.alloc(), "print")?)?;
-        let words = words(rt.alloc(), Ok(arguments.into_iter()))?;
+        let none = arguments(rt.alloc(), &[])?;
+        assert_eq!(rt; count(rt.alloc(), Ok(none)), Some(0));
+        let two = arguments(rt.alloc(), &["tokens", "print"])?;
+        let words = words(rt.alloc(), Ok(two))?;
         assert_eq!(rt; words.len(), 1);
         assert_eq!(rt; words[0].as_str(), "print");
         Ok(())

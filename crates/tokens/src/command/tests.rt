@@ -64,20 +64,27 @@ fn check_input(
     check_command(rt, &input, words.as_slice(), reader, status, output, said);
 }
 
+/// Words, each with an input, the output, the message and the status.
+const INPUTS: &[(&str, &[u8], &[u8], &[u8], u8)] = &[
+    ("print", ROW, PRINTED, b"", 0),
+    ("print", b"", b"\n", b"", 0),
+    ("print", b"a+b", b"a + b\n", b"", 0),
+    ("print", b"a += b", b"a += b\n", b"", 0),
+    ("print", b"a\n(", b"", b"fault 2:0\n", 1),
+    ("print", b"(]", b"", b"fault 1:1\n", 1),
+    ("print", b"\xC3\xA9 \"", b"", b"fault 1:2\n", 1),
+    ("print", b"a\xFF", b"", b"not utf-8\n", 2),
+    ("spans", b"", b"", b"", 0),
+    ("spans", b"\xC3\xA9 ", b"1:0-1:1 ident\n", b"", 0),
+    ("spans", b"a\n(", b"", b"fault 2:0\n", 1),
+    ("spans", b"a\xFF", b"", b"not utf-8\n", 2),
+];
+
 #[test]
 fn each_input_has_its_output_message_and_status(rt: HostRuntime) {
-    check_input(&rt, "print", ROW, PRINTED, b"", 0);
-    check_input(&rt, "print", b"", b"\n", b"", 0);
-    check_input(&rt, "print", b"a+b", b"a + b\n", b"", 0);
-    check_input(&rt, "print", b"a += b", b"a += b\n", b"", 0);
-    check_input(&rt, "print", b"a\n(", b"", b"fault 2:0\n", 1);
-    check_input(&rt, "print", b"(]", b"", b"fault 1:1\n", 1);
-    check_input(&rt, "print", b"\xC3\xA9 \"", b"", b"fault 1:2\n", 1);
-    check_input(&rt, "print", b"a\xFF", b"", b"not utf-8\n", 2);
-    check_input(&rt, "spans", b"", b"", b"", 0);
-    check_input(&rt, "spans", b"\xC3\xA9 ", b"1:0-1:1 ident\n", b"", 0);
-    check_input(&rt, "spans", b"a\n(", b"", b"fault 2:0\n", 1);
-    check_input(&rt, "spans", b"a\xFF", b"", b"not utf-8\n", 2);
+    for &(word, input, output, said, status) in INPUTS {
+        check_input(&rt, word, input, output, said, status);
+    }
 }
 
 #[test]
@@ -176,13 +183,20 @@ fn check_terminal(
     assert_eq!(rt; reader.reads(), times.saturating_add(1), "of {bytes:?}");
 }
 
+/// Bytes, each with how many times they come, and the status, the output and the message.
+const TERMINALS: &[(&[u8], usize, u8, &[u8], &[u8])] = &[
+    (b"a+", 0, 0, b"\n", b""),
+    (b"a+b\n", 1, 0, b"a + b\n", b""),
+    (b"a+", 3, 0, b"a + a + a +\n", b""),
+    (b"a(\n", 2, 1, b"", b"fault 2:1\n"),
+    (b"a\xFF", 2, 2, b"", b"not utf-8\n"),
+];
+
 #[test]
 fn nothing_is_read_after_the_end(rt: HostRuntime) {
-    check_terminal(&rt, b"a+", 0, 0, b"\n", b"");
-    check_terminal(&rt, b"a+b\n", 1, 0, b"a + b\n", b"");
-    check_terminal(&rt, b"a+", 3, 0, b"a + a + a +\n", b"");
-    check_terminal(&rt, b"a(\n", 2, 1, b"", b"fault 2:1\n");
-    check_terminal(&rt, b"a\xFF", 2, 2, b"", b"not utf-8\n");
+    for &(bytes, times, status, output, said) in TERMINALS {
+        check_terminal(&rt, bytes, times, status, output, said);
+    }
 }
 
 /// Asserts what is written if each write takes at most `most` bytes and a write after `writes` writes fails.
@@ -210,15 +224,21 @@ fn check_front(
     check_bytes(rt, &at, errors.bytes(), FAILED);
 }
 
+/// Words, each with the size of a write, the number of writes, and what is written then.
+const FRONTS: &[(&str, usize, usize, &[u8])] = &[
+    ("print", 4, 0, b""),
+    ("print", 4, 1, b"fn f"),
+    ("print", 4, 4, b"fn f (x) { x + y"),
+    ("print", 0, 9, b""),
+    ("spans", 0, 9, b""),
+    ("spans", 14, 1, b"1:0-1:2 ident\n"),
+];
+
 #[test]
 fn a_write_that_fails_leaves_a_beginning(rt: HostRuntime) {
-    // The size of a write, the number of writes, and what is written then.
-    check_front(&rt, "print", 4, 0, b"");
-    check_front(&rt, "print", 4, 1, b"fn f");
-    check_front(&rt, "print", 4, 4, b"fn f (x) { x + y");
-    check_front(&rt, "print", 0, 9, b"");
-    check_front(&rt, "spans", 0, 9, b"");
-    check_front(&rt, "spans", 14, 1, b"1:0-1:2 ident\n");
+    for &(word, most, writes, front) in FRONTS {
+        check_front(&rt, word, most, writes, front);
+    }
     for writes in 0..PRINTED.len() {
         check_front(&rt, "print", 1, writes, &PRINTED[..writes]);
     }
