@@ -236,7 +236,8 @@ fn deep_groups_are_respaced_without_a_deep_stack(rt: HostRuntime) -> Result<(), 
     Ok(())
 }
 
-/// Returns what a quote has after an Alone quote, the stream in a group without delimiters and a Joint mark were pushed.
+/// Returns what a quote has after these were pushed: an Alone quote, the stream in a group without delimiters, and a
+/// Joint mark.
 fn pushed(alloc: Global, stream: TokenStream) -> Result<TokenStream, Fail> {
     let mut quote = Quote::new(alloc);
     quote.push(TokenTree::Punct(Punct::new('\'', Spacing::Alone)))?;

@@ -22,20 +22,34 @@ pub fn content_answer<'a>(
     content: &str,
 ) -> Result<Option<Answer<'a>>, AllocError> {
     let said = match call {
-        "unescape_str" => items(unescape_str(content))?,
-        "unescape_byte_str" => items(unescape_byte_str(content))?,
-        "unescape_c_str" => items(unescape_c_str(content))?,
-        "check_raw_str" => items(check_raw_str(content))?,
-        "check_raw_byte_str" => items(check_raw_byte_str(content))?,
-        "check_raw_c_str" => items(check_raw_c_str(content))?,
-        "unescape_char" => unit_text(unescape_char(content))?,
-        "unescape_byte" => unit_text(unescape_byte(content))?,
-        _ => match call.strip_prefix("errors_").and_then(mode) {
-            Some(mode) => errors(content, mode)?,
-            None => return Ok(None),
-        },
+        "unescape_str" => items(unescape_str(content)),
+        "unescape_byte_str" => items(unescape_byte_str(content)),
+        "unescape_c_str" => items(unescape_c_str(content)),
+        "check_raw_str" => items(check_raw_str(content)),
+        "check_raw_byte_str" => items(check_raw_byte_str(content)),
+        "check_raw_c_str" => items(check_raw_c_str(content)),
+        "unescape_char" => unit_text(unescape_char(content)),
+        "unescape_byte" => unit_text(unescape_byte(content)),
+        _ => return errors_answer(call, content),
     };
-    Ok(Some(Answer { kind: call, said }))
+    Ok(Some(Answer {
+        kind: call,
+        said: said?,
+    }))
+}
+
+/// Returns the errors in the content, if the call names the kind of the literal after `errors_`.
+fn errors_answer<'a>(
+    call: &'a str,
+    content: &str,
+) -> Result<Option<Answer<'a>>, AllocError> {
+    match call.strip_prefix("errors_").and_then(mode) {
+        Some(mode) => Ok(Some(Answer {
+            kind: call,
+            said: errors(content, mode)?,
+        })),
+        None => Ok(None),
+    }
 }
 
 /// Returns the kind of literal that a word names.

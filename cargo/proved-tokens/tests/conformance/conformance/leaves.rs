@@ -13,22 +13,22 @@ pub fn leaf(line: &str) -> Result<Option<TokenTree>, ParseError> {
     let Some((word, text)) = line.split_once(' ') else {
         return Ok(None);
     };
-    Ok(match word {
-        "ident" => identifier(Ident::new(text, Span::call_site()))?,
-        "raw" => identifier(Ident::new_raw(text, Span::call_site()))?,
-        "alone" => mark(text, Spacing::Alone),
-        "joint" => mark(text, Spacing::Joint),
-        "literal" => literal(text)?,
-        "integer" => integer(text)?,
-        _ => None,
-    })
+    match word {
+        "ident" => identifier(Ident::new(text, Span::call_site())),
+        "raw" => identifier(Ident::new_raw(text, Span::call_site())),
+        "alone" => Ok(mark(text, Spacing::Alone)),
+        "joint" => Ok(mark(text, Spacing::Joint)),
+        "literal" => literal(text),
+        "integer" => integer(text),
+        _ => Ok(None),
+    }
 }
 
 /// Returns the identifier, or `None` if the name is wrong.
-fn identifier(ident: Result<Ident, IdentError>) -> Result<Option<TokenTree>, AllocError> {
+fn identifier(ident: Result<Ident, IdentError>) -> Result<Option<TokenTree>, ParseError> {
     match ident {
         Ok(ident) => Ok(Some(TokenTree::Ident(ident))),
-        Err(IdentError::Memory(error)) => Err(error),
+        Err(IdentError::Memory(error)) => Err(ParseError::Memory(error)),
         Err(_) => Ok(None),
     }
 }
@@ -55,7 +55,7 @@ fn literal(text: &str) -> Result<Option<TokenTree>, ParseError> {
 }
 
 /// Returns the literal that the constructor of the suffix makes of the number before it.
-fn integer(text: &str) -> Result<Option<TokenTree>, AllocError> {
+fn integer(text: &str) -> Result<Option<TokenTree>, ParseError> {
     let (number, suffix) = match text.find('i') {
         Some(at) => text.split_at(at),
         None => (text, ""),
@@ -63,15 +63,22 @@ fn integer(text: &str) -> Result<Option<TokenTree>, AllocError> {
     let Ok(number) = number.parse::<i8>() else {
         return Ok(None);
     };
-    let literal = match suffix {
-        "" => Literal::i8_unsuffixed(number)?,
-        "i8" => Literal::i8_suffixed(number)?,
-        "i16" => Literal::i16_suffixed(i16::from(number))?,
-        "i32" => Literal::i32_suffixed(i32::from(number))?,
-        "i64" => Literal::i64_suffixed(i64::from(number))?,
-        "i128" => Literal::i128_suffixed(i128::from(number))?,
-        "isize" => Literal::isize_suffixed(isize::from(number))?,
-        _ => return Ok(None),
-    };
-    Ok(Some(TokenTree::Literal(literal)))
+    match suffixed(number, suffix) {
+        Some(literal) => Ok(Some(TokenTree::Literal(literal?))),
+        None => Ok(None),
+    }
+}
+
+/// Returns the literal that the constructor of the suffix makes of the number, or `None` if there is no such suffix.
+fn suffixed(number: i8, suffix: &str) -> Option<Result<Literal, AllocError>> {
+    match suffix {
+        "" => Some(Literal::i8_unsuffixed(number)),
+        "i8" => Some(Literal::i8_suffixed(number)),
+        "i16" => Some(Literal::i16_suffixed(i16::from(number))),
+        "i32" => Some(Literal::i32_suffixed(i32::from(number))),
+        "i64" => Some(Literal::i64_suffixed(i64::from(number))),
+        "i128" => Some(Literal::i128_suffixed(i128::from(number))),
+        "isize" => Some(Literal::isize_suffixed(isize::from(number))),
+        _ => None,
+    }
 }

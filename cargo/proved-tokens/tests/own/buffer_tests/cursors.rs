@@ -14,30 +14,35 @@ use proved_tokens::token_buffer::{Cursor, LiteralText, TokenBuffer, TokenText};
 
 /// Asserts what the cursor at the start of `r#f += 'é (\"x\")` returns up to the group.
 fn check_names_and_marks<'a>(rt: &impl Abort, cursor: Cursor<'a>) -> Option<Cursor<'a>> {
-    assert!(!cursor.eof());
-    assert_eq!(cursor.span().map(bounds), Some((1, 4)));
+    let start = (cursor.eof(), cursor.span().map(bounds));
     let (name, rest) = cursor.ident()?;
-    assert!(name.raw);
-    assert_eq!(name.text, "f");
     let (plus, spacing, rest) = rest.punct()?;
-    assert_eq!(plus, '+');
-    assert_eq!(spacing, Spacing::Joint);
-    let (name, rest) = rest.skip()?.lifetime()?;
-    assert_eq!(name.text, "é");
+    let (lifetime, rest) = rest.skip()?.lifetime()?;
+    let found = (start, (name.raw, name.text), (plus, spacing), lifetime.text);
+    let want = (
+        (false, Some((1, 4))),
+        (true, "f"),
+        ('+', Spacing::Joint),
+        "é",
+    );
+    assert_eq!(found, want);
     Some(rest)
 }
 
 /// Asserts what the cursor before `(\"x\")` returns.
 fn check_group(rt: &impl Abort, cursor: Cursor<'_>) -> Option<()> {
-    assert_eq!(cursor.span().map(bounds), Some((11, 16)));
+    let in_brackets = cursor.group(Delimiter::Bracket).is_some();
+    let start = (
+        cursor.span().map(bounds),
+        in_brackets,
+        cursor.any_group().is_some(),
+    );
+    assert_eq!(start, (Some((11, 16)), false, true));
     let (inside, after) = cursor.group(Delimiter::Parenthesis)?;
-    assert!(after.eof());
-    assert!(cursor.group(Delimiter::Bracket).is_none());
-    assert!(cursor.any_group().is_some());
     let (literal, end) = inside.literal()?;
-    assert!(matches!(literal, LiteralText::Source("\"x\"")));
-    assert!(end.eof());
-    assert!(end.next().is_none());
+    let is_x = matches!(literal, LiteralText::Source("\"x\""));
+    let ends = (after.eof(), end.eof(), end.next().is_none());
+    assert_eq!((is_x, ends), (true, (true, true, true)));
     Some(())
 }
 
@@ -45,27 +50,26 @@ fn check_group(rt: &impl Abort, cursor: Cursor<'_>) -> Option<()> {
 fn tokens_come_one_after_another() -> Result<(), Fail> {
     let rt = HostRuntime;
     let buffer = TokenBuffer::new("r#f += 'é (\"x\")")?;
-    let rest = check_names_and_marks(&rt, buffer.begin());
-    assert!(rest.is_some());
-    if let Some(rest) = rest {
-        assert!(check_group(&rt, rest).is_some());
-    }
+    let checked = match check_names_and_marks(&rt, buffer.begin()) {
+        Some(rest) => check_group(&rt, rest),
+        None => None,
+    };
+    assert!(checked.is_some());
     Ok(())
 }
 
 /// Asserts what the cursor at the start of `//! d`, CR and LF returns. The comment includes the CR before its line
 /// feed, but its text does not.
 fn check_doc(rt: &impl Abort, cursor: Cursor<'_>) -> Option<()> {
-    let rest = cursor.skip()?.skip()?;
-    assert_eq!(rest.span().map(bounds), Some((1, 7)));
-    let (_, inside, _) = rest.any_group()?;
-    let (name, inside) = inside.ident()?;
-    assert_eq!(name.text, "doc");
-    let (mark, _, inside) = inside.punct()?;
-    assert_eq!(mark, '=');
-    assert_eq!(inside.span().map(bounds), Some((1, 7)));
-    let (text, _) = inside.next()?;
-    assert!(matches!(text, TokenText::Literal(LiteralText::Doc(" d"))));
+    let group = cursor.skip()?.skip()?;
+    let (_, inside, _) = group.any_group()?;
+    let (name, rest) = inside.ident()?;
+    let (mark, _, rest) = rest.punct()?;
+    let (text, _) = rest.next()?;
+    let is_d = matches!(text, TokenText::Literal(LiteralText::Doc(" d")));
+    let spans = (group.span().map(bounds), rest.span().map(bounds));
+    let want = ((Some((1, 7)), Some((1, 7))), ("doc", '=', true));
+    assert_eq!((spans, (name.text, mark, is_d)), want);
     Some(())
 }
 
@@ -195,10 +199,9 @@ fn cursors_are_equal_up_to_spans() -> Result<(), Fail> {
         let buffer = TokenBuffer::new(text)?;
         let others = TokenBuffer::new(other)?;
         let (left, right) = (buffer.begin(), others.begin());
-        assert_eq!(left == right, want, "{text:?} and {other:?}");
-        assert_eq!(right == left, want, "{other:?} and {text:?}");
-        let same = have_same_streams(left, right)?;
-        assert_eq!(same, want, "the streams of {text:?} and {other:?}");
+        let streams = have_same_streams(left, right)?;
+        let found = (left == right, right == left, streams);
+        assert_eq!(found, (want, want, want), "{text:?} and {other:?}");
     }
     Ok(())
 }

@@ -244,38 +244,54 @@ fn deep_groups_are_respaced_without_a_deep_stack() -> Result<(), Fail> {
     Ok(())
 }
 
-#[test]
-fn a_stream_has_exactly_what_was_pushed() -> Result<(), Fail> {
-    let rt = HostRuntime;
-    let mut map = SourceMap::new();
-    let stream = TokenStream::from_str("a", &mut map)?;
+/// Returns what a quote has after these were pushed: an Alone quote, the stream in a group without delimiters, and a
+/// Joint mark.
+fn pushed(stream: TokenStream) -> Result<TokenStream, Fail> {
     let mut quote = Quote::new();
     quote.push(TokenTree::Punct(Punct::new('\'', Spacing::Alone)))?;
     quote.push(TokenTree::Group(Group::new(Delimiter::None, stream)))?;
     quote.push(TokenTree::Punct(Punct::new('+', Spacing::Joint)))?;
-    let stream = quote.into_stream();
+    Ok(quote.into_stream())
+}
+
+/// Returns the spacing of the mark before a group, the group's delimiter and first tree, and the spacing of the mark
+/// after it, if the stream consists of these three trees.
+fn parts_of(stream: &TokenStream) -> Option<(Spacing, Delimiter, &TokenTree, Spacing)> {
     let [
         TokenTree::Punct(first),
         TokenTree::Group(group),
         TokenTree::Punct(last),
     ] = stream.trees()
     else {
-        assert!(false, "three trees");
-        return Ok(());
+        return None;
     };
-    assert!(first.spacing() == Spacing::Alone && last.spacing() == Spacing::Joint);
-    assert!(group.delimiter() == Delimiter::None);
-    let Some(name) = group.stream_ref().trees().first() else {
-        assert!(false, "a name");
-        return Ok(());
-    };
-    let span = name.span();
-    let text = if map.holds(span) {
-        span.source_str(&map)
+    let name = group.stream_ref().trees().first()?;
+    Some((first.spacing(), group.delimiter(), name, last.spacing()))
+}
+
+/// Returns the text of the span, if the map holds it.
+fn text_of(map: &SourceMap, span: Span) -> Option<&str> {
+    if map.holds(span) {
+        span.source_str(map)
     } else {
         None
+    }
+}
+
+#[test]
+fn a_stream_has_exactly_what_was_pushed() -> Result<(), Fail> {
+    let rt = HostRuntime;
+    let mut map = SourceMap::new();
+    let name = TokenStream::from_str("a", &mut map)?;
+    let stream = pushed(name)?;
+    let found = match parts_of(&stream) {
+        Some((first, delimiter, name, last)) => {
+            Some((first, delimiter, text_of(&map, name.span()), last))
+        }
+        None => None,
     };
-    assert_eq!(text, Some("a"));
+    let want = (Spacing::Alone, Delimiter::None, Some("a"), Spacing::Joint);
+    assert_eq!(found, Some(want));
     Ok(())
 }
 

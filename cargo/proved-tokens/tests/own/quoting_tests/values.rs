@@ -1,7 +1,7 @@
 // Made from crates/quoting_tests/src/values.rt by dev/erase: change that file, not this one.
 //! Values of every kind in the holes of templates, and lists of lists.
 
-use crate::shim::prelude::{AllocGlobal, HostRuntime, TryClone, format};
+use crate::shim::prelude::{AllocGlobal, HostRuntime, format};
 
 use proved_tokens::proc_macro2::{Ident, Literal, SourceMap, Span, TokenStream, TokenTree};
 use proved_tokens::quoting::{Hole, Number, Quote, TemplateError, Value, Values};
@@ -75,20 +75,29 @@ fn check<'a>(
     Ok(())
 }
 
+/// Asserts the printed text of the template with the stream for `x`, lent and given.
+fn check_stream(
+    rt: &(impl Abort + AllocGlobal),
+    stream: TokenStream,
+    want: &str,
+) -> Result<(), Fail> {
+    check(rt, "(#x, #x)", &Value::Stream(&stream), want)?;
+    check(rt, "(#x, #x)", &Value::OwnedStream(stream), want)
+}
+
+/// Asserts the printed text of the template with the tree for `x`, lent and given.
+fn check_tree(rt: &(impl Abort + AllocGlobal), tree: TokenTree, want: &str) -> Result<(), Fail> {
+    check(rt, "(#x, #x)", &Value::Tree(&tree), want)?;
+    check(rt, "(#x, #x)", &Value::OwnedTree(tree), want)
+}
+
 #[test]
 fn streams_and_trees_are_put_in() -> Result<(), Fail> {
     let rt = HostRuntime;
     let stream = TokenStream::from_str("c + d", &mut SourceMap::new())?;
-    check(&rt, "(#x, #x)", &Value::Stream(&stream), "(c + d , c + d)")?;
-    check(
-        &rt,
-        "(#x, #x)",
-        &Value::OwnedStream(stream),
-        "(c + d , c + d)",
-    )?;
+    check_stream(&rt, stream, "(c + d , c + d)")?;
     let tree = TokenTree::Literal(Literal::i8_suffixed(-4)?);
-    check(&rt, "(#x, #x)", &Value::Tree(&tree), "(- 4i8 , - 4i8)")?;
-    check(&rt, "(#x, #x)", &Value::OwnedTree(tree), "(- 4i8 , - 4i8)")
+    check_tree(&rt, tree, "(- 4i8 , - 4i8)")
 }
 
 #[test]
@@ -110,12 +119,18 @@ fn tokens_are_put_in() -> Result<(), Fail> {
 #[test]
 fn texts_and_truth_values_are_put_in() -> Result<(), Fail> {
     let rt = HostRuntime;
-    check(&rt, "(#x, #x)", &Value::Nothing, "(,)")?;
-    check(&rt, "(#x, #x)", &Value::Name("fn"), "(fn , fn)")?;
-    check(&rt, "#x", &Value::String("\"\n"), "\"\\\"\\n\"")?;
-    check(&rt, "#x", &Value::Character('\''), "'\\''")?;
-    check(&rt, "(#x, #x)", &Value::Boolean(true), "(true , true)")?;
-    check(&rt, "(#x, #x)", &Value::Boolean(false), "(false , false)")
+    let rows = [
+        ("(#x, #x)", Value::Nothing, "(,)"),
+        ("(#x, #x)", Value::Name("fn"), "(fn , fn)"),
+        ("#x", Value::String("\"\n"), "\"\\\"\\n\""),
+        ("#x", Value::Character('\''), "'\\''"),
+        ("(#x, #x)", Value::Boolean(true), "(true , true)"),
+        ("(#x, #x)", Value::Boolean(false), "(false , false)"),
+    ];
+    for (template, value, want) in &rows {
+        check(&rt, template, value, want)?;
+    }
+    Ok(())
 }
 
 #[test]
@@ -148,42 +163,71 @@ fn numbers_have_their_suffix() -> Result<(), Fail> {
     Ok(())
 }
 
-#[test]
-fn a_value_that_is_no_token_is_an_error_at_the_name_of_its_hole() -> Result<(), Fail> {
-    let rt = HostRuntime;
-    for name in ["1", "", "a b", "r#a"] {
-        let fault = check_fault(&rt, &Value::Name(name));
-        assert!(matches!(fault, Some(TemplateError::NotIdent(_))));
+/// Returns the name of the error's variant, of those that a value can have.
+fn kind(fault: Option<TemplateError>) -> &'static str {
+    match fault {
+        Some(TemplateError::NotIdent(_)) => "NotIdent",
+        Some(TemplateError::NotFinite(_)) => "NotFinite",
+        Some(TemplateError::LoneList(_)) => "LoneList",
+        _ => "none of these",
     }
-    let fault = check_fault(&rt, &Value::NotFinite);
-    assert!(matches!(fault, Some(TemplateError::NotFinite(_))));
-    let fault = check_fault(&rt, &Value::Streams(&[]));
-    assert!(matches!(fault, Some(TemplateError::LoneList(_))));
-    let fault = check_fault(&rt, &Value::List(Values::new()));
-    assert!(matches!(fault, Some(TemplateError::LoneList(_))));
-    Ok(())
+}
+
+#[test]
+fn a_value_that_is_no_token_is_an_error_at_the_name_of_its_hole() {
+    let rt = HostRuntime;
+    let rows = [
+        (Value::Name("1"), "NotIdent"),
+        (Value::Name(""), "NotIdent"),
+        (Value::Name("a b"), "NotIdent"),
+        (Value::Name("r#a"), "NotIdent"),
+        (Value::NotFinite, "NotFinite"),
+        (Value::Streams(&[]), "LoneList"),
+        (Value::List(Values::new()), "LoneList"),
+    ];
+    for (value, want) in &rows {
+        assert_eq!(kind(check_fault(&rt, value)), *want);
+    }
+}
+
+/// Asserts what a list of two streams prints, and a list of trees.
+fn check_streams(rt: &(impl Abort + AllocGlobal), each: &str) -> Result<(), Fail> {
+    let stream = TokenStream::from_str("a; b", &mut SourceMap::new())?;
+    check(rt, each, &Value::Trees(stream.trees()), "a , ; , b")?;
+    let streams = [stream, TokenStream::new()];
+    check(rt, each, &Value::Streams(&streams), "a ; b ,")
+}
+
+/// Asserts what a list of two identifiers prints.
+fn check_idents(rt: &(impl Abort + AllocGlobal), each: &str) -> Result<(), Fail> {
+    let idents = [word("a")?, word("b")?];
+    check(rt, each, &Value::Idents(&idents), "a , b")
+}
+
+/// Asserts what a list of two literals prints.
+fn check_literals(rt: &(impl Abort + AllocGlobal), each: &str) -> Result<(), Fail> {
+    let text = Literal::string("a")?;
+    let literals = [text, Literal::i8_unsuffixed(-1)?];
+    check(rt, each, &Value::Literals(&literals), "\"a\" , - 1")
+}
+
+/// Asserts what a list of values prints.
+fn check_values(rt: &(impl Abort + AllocGlobal), each: &str) -> Result<(), Fail> {
+    let mut list = Values::new();
+    list.push(Value::Number(Number::U8(1)))?;
+    list.push(Value::Nothing)?;
+    check(rt, each, &Value::List(list), "1u8 ,")
 }
 
 #[test]
 fn lists_of_every_kind_are_repeated() -> Result<(), Fail> {
     let rt = HostRuntime;
-    let stream = TokenStream::from_str("a; b", &mut SourceMap::new())?;
-    let idents = [word("a")?, word("b")?];
-    let literals = [
-        Literal::string("a")?,
-        Literal::i8_unsuffixed(-1)?,
-    ];
-    let streams = [stream.try_clone()?, TokenStream::new()];
-    let mut list = Values::new();
-    list.push(Value::Number(Number::U8(1)))?;
-    list.push(Value::Nothing)?;
     let each = "#(#x),*";
-    check(&rt, each, &Value::Streams(&streams), "a ; b ,")?;
-    check(&rt, each, &Value::Trees(stream.trees()), "a , ; , b")?;
-    check(&rt, each, &Value::Idents(&idents), "a , b")?;
-    check(&rt, each, &Value::Literals(&literals), "\"a\" , - 1")?;
+    check_streams(&rt, each)?;
+    check_idents(&rt, each)?;
+    check_literals(&rt, each)?;
     check(&rt, each, &Value::Strings(&["a", "b"]), "\"a\" , \"b\"")?;
-    check(&rt, each, &Value::List(list), "1u8 ,")
+    check_values(&rt, each)
 }
 
 /// Returns a list of two strings.
