@@ -106,6 +106,8 @@
 //! - <a id="declarations.Signs.BeginsWith"></a>**BeginsWith**: the trees begin with a sign of this class, and
 //!   the rest comes after it
 //! - <a id="declarations.rules.Pieces.ByRule"></a>**ByRule**: the form whose pieces are those of the rule
+//! - <a id="declarations.Ending.EndsAt"></a>**EndsAt**: the error is one of these, with this span if trees are
+//!   missing at the end
 //! - <a id="declarations.Reading.FaultAt"></a>**FaultAt**: nothing of this form can be read. The error is after
 //!   `at` trees: the longest prefix that other trees could complete
 //! - <a id="declarations.File.FileFaultAt"></a>**FileFaultAt**: the trees are no file. The error is in the
@@ -203,10 +205,14 @@
 //! - <a id="declarations.File.body_of"></a>**body_of**: the braces with the items of an item of this kind, if
 //!   it has such braces
 //! - <a id="declarations.rules.Types.bounds"></a>**bounds**: bounds, with `+` between two
+//! - <a id="declarations.Ending.closing_fields"></a>**closing_fields**: the span of the closing delimiter of
+//!   the group that has the fields, or nothing if there is no group
+//! - <a id="declarations.Ending.closing_of"></a>**closing_of**: the span of the group's closing delimiter
 //! - <a id="declarations.CompileError.compile_error"></a>**compile_error**: the trees of
 //!   `::core::compile_error! { "text" }`, each with this span
 //! - <a id="declarations.Attribute.doc_of"></a>**doc_of**: the literal, if the trees in the brackets are `doc`,
 //!   `=` Alone and that literal
+//! - <a id="declarations.Ending.ending_at"></a>**ending_at**: the error with this span, if it has none
 //! - <a id="declarations.Grammar.ends"></a>**ends**: whether the part that is read may end in this state
 //! - <a id="declarations.Entry.entry_extent"></a>**entry_extent**: the span of the first tree of an entry that
 //!   has this kind and this path
@@ -238,6 +244,7 @@
 //!   text, perhaps in groups without delimiters
 //! - <a id="declarations.Grammar.names"></a>**names**: whether a sign of this class is the name of the item, in
 //!   this state
+//! - <a id="declarations.Ending.or_extent"></a>**or_extent**: the span, or this other one if there is none
 //! - <a id="declarations.Param.param_trees"></a>**param_trees**: the parts of a generic parameter that the
 //!   library returns, as lists of trees
 //! - <a id="declarations.Attribute.parts_of"></a>**parts_of**: the parts of an attribute: its marks and its

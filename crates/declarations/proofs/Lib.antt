@@ -14,6 +14,7 @@ pub mod VariantLemmas
 pub mod FileLemmas
 pub mod ParamLemmas
 pub mod AttributeLemmas
+pub mod EndingLemmas
 pub mod ListLemmas
 pub mod CompileErrorLemmas
 pub mod ClassLemmas

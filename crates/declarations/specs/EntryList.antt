@@ -1,7 +1,8 @@
 -- The entries of an attribute's list, one at a time.
-use Rattle.std.specs.Prelude.{◌≡◌, [], Option, Result, MatchOption, MatchResult}
+use Rattle.std.specs.Prelude.{◌≡◌, [], Option, Result, MatchOption}
+use Rattle.declarations.specs.Ending.{EndsAt}
 use Rattle.declarations.specs.Entry.{IsEntryAt, IsEntryListFault}
-use Rattle.declarations.specs.List.{IsFirst}
+use Rattle.declarations.specs.List.{BeginsList}
 use Rattle.declarations.specs.declared.entry.Entry.{Entry}
 use Rattle.declarations.specs.declared.entry_list.Entries.{Entries}
 use Rattle.declarations.specs.declared.fault.Fault.{Fault}
@@ -10,5 +11,5 @@ use Rattle.declarations.specs.declared.fault.Fault.{Fault}
 abbrev pub GivesEntry : Entries → Option (Result Entry Fault) → Entries → Type 0
 GivesEntry old given new =
     MatchOption given ((old.left.now ≡ []) × (new ≡ old))
-    (λ found. MatchResult found (λ entry. IsFirst IsEntryAt old.left.now entry new.left.now)
-    (λ fault. IsEntryListFault old.left.now fault × (new.left.now ≡ [])))
+    (λ found. BeginsList IsEntryAt (EndsAt old.end (IsEntryListFault old.left.now)) old.left.now found new.left.now
+    × (new.end ≡ old.end))

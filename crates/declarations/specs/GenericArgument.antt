@@ -2,7 +2,7 @@
 use Rattle.std.specs.Prelude.{◌≡◌, List, [], MatchOption, MatchResult, Option, Result}
 use Rattle.std.specs.Borrow.{Bor}
 use Rattle.pm_stream.specs.declared.stream.TokenTree.{TokenTree}
-use Rattle.declarations.specs.List.{BeginsList}
+use Rattle.declarations.specs.List.{BeginsList, IsListFault}
 use Rattle.declarations.specs.Reader.{Finds, Sticks}
 use Rattle.declarations.specs.Reading.{Reads}
 use Rattle.declarations.specs.Signs.{BeginsWith}
@@ -48,7 +48,8 @@ pub record IsArgumentAt (trees : List TokenTree) (argument : GenericArgument) (r
 abbrev pub GivesArgument : GenericArguments → Option (Result GenericArgument Fault) → GenericArguments → Type 0
 GivesArgument old given new =
     MatchOption given ((old.left.now ≡ []) × (new ≡ old))
-    (λ found. BeginsList IsArgumentAt (ByRule rule.generic_argument) old.left.now found new.left.now)
+    (λ found. BeginsList IsArgumentAt (IsListFault (ByRule rule.generic_argument) old.left.now) old.left.now found
+    new.left.now)
 
 -- ---- how an argument is read
 

@@ -14,6 +14,7 @@ pub mod Reading
 pub mod Reader
 pub mod Whole
 pub mod Item
+pub mod Ending
 pub mod Field
 pub mod Fault
 pub mod Variant

@@ -5,6 +5,7 @@ use Rattle.pm_stream.specs.Trees.{forest}
 use Rattle.pm_stream.specs.declared.stream.Group.{Group as Grouped}
 use Rattle.pm_stream.specs.declared.stream.TokenTree.{TokenTree}
 use Rattle.pm_stream.specs.declared.stream.TokenTree.TheVariants.{Punct}
+use Rattle.declarations.specs.Ending.{EndsAt}
 use Rattle.declarations.specs.Fault.{extent_at}
 use Rattle.declarations.specs.Field.{IsFieldAt, HasFieldParts, HasTypeParts}
 use Rattle.declarations.specs.Forms.{IsField, IsTupleField, IsVariant}
@@ -44,11 +45,11 @@ abbrev pub IsFirst : {A : Type 0} → (List TokenTree → A → List TokenTree �
     → List TokenTree → Type 0
 IsFirst at trees part left = (rest : List TokenTree) × at trees part rest × IsPastComma rest left
 
--- the list begins with this part; or it has this error at its first part, and no trees are left
-abbrev pub BeginsList : {A : Type 0} → (List TokenTree → A → List TokenTree → Type 0)
-    → (List Class → List Class → Type 0) → List TokenTree → Result A Fault → List TokenTree → Type 0
-BeginsList at form trees found left =
-    MatchResult found (λ part. IsFirst at trees part left) (λ fault. IsListFault form trees fault × (left ≡ []))
+-- the list begins with this part; or it has one of these errors at its first part, and no trees are left
+abbrev pub BeginsList : {A : Type 0} → (List TokenTree → A → List TokenTree → Type 0) → (Fault → Type 0)
+    → List TokenTree → Result A Fault → List TokenTree → Type 0
+BeginsList at fails trees found left =
+    MatchResult found (λ part. IsFirst at trees part left) (λ fault. fails fault × (left ≡ []))
 
 -- the list begins with these parts, and then has the left trees
 abbrev pub Lists : {A : Type 0} → (List TokenTree → A → List TokenTree → Type 0) → List TokenTree → List A
@@ -70,8 +71,9 @@ field_form false = IsTupleField
 abbrev pub GivesField : FieldList → Option (Result Field Fault) → FieldList → Type 0
 GivesField old given new =
     MatchOption given ((old.left.now ≡ []) × (new ≡ old))
-    (λ found. BeginsList (IsFieldOf old.named) (field_form old.named) old.left.now found new.left.now
-    × (new.named ≡ old.named))
+    (λ found. BeginsList (IsFieldOf old.named) (EndsAt old.end (IsListFault (field_form old.named) old.left.now))
+    old.left.now found new.left.now
+    × (new.named ≡ old.named) × (new.end ≡ old.end))
 
 -- these are the trees inside the group
 abbrev pub AreInside : List TokenTree → Grouped → Type 0
@@ -88,4 +90,6 @@ ListsFields fields.Unit list = list.left.now ≡ []
 abbrev pub GivesVariant : VariantList → Option (Result Variant Fault) → VariantList → Type 0
 GivesVariant old given new =
     MatchOption given ((old.left.now ≡ []) × (new ≡ old))
-    (λ found. BeginsList IsVariantAt IsVariant old.left.now found new.left.now)
+    (λ found. BeginsList IsVariantAt (EndsAt old.end (IsListFault IsVariant old.left.now)) old.left.now found
+    new.left.now
+    × (new.end ≡ old.end))

@@ -4,7 +4,8 @@ use Rattle.std.specs.Borrow.{Bor}
 use Rattle.grammars.specs.Find.{find, front}
 use Rattle.grammars.specs.Grammar.{Event, Nothing}
 use Rattle.pm_stream.specs.declared.stream.TokenTree.{TokenTree}
-use Rattle.declarations.specs.List.{BeginsList}
+use Rattle.declarations.specs.Ending.{EndsAt}
+use Rattle.declarations.specs.List.{BeginsList, IsListFault}
 use Rattle.declarations.specs.Reader.{Finds, Remains, Sticks, classes_in}
 use Rattle.declarations.specs.Reading.{Reads}
 use Rattle.declarations.specs.Signs.{BeginsWith}
@@ -60,7 +61,9 @@ pub record IsParameterAt (trees : List TokenTree) (parameter : Parameter) (rest 
 abbrev pub GivesParameter : Parameters → Option (Result Parameter Fault) → Parameters → Type 0
 GivesParameter old given new =
     MatchOption given ((old.left.now ≡ []) × (new ≡ old))
-    (λ found. BeginsList IsParameterAt (ByRule rule.function_parameter) old.left.now found new.left.now)
+    (λ found. BeginsList IsParameterAt (EndsAt old.end (IsListFault (ByRule rule.function_parameter) old.left.now))
+    old.left.now found new.left.now
+    × (new.end ≡ old.end))
 
 -- ---- how a parameter is read
 

@@ -1,14 +1,15 @@
 //! Checks that the entries of a list have known names, and no name twice.
 ghost use Rattle.std.specs.Prelude.{◌≡◌, ℕ, ◌≤◌, [], IfErr, List, OnOk, length, option_copied};
 ghost use Rattle.std.specs.Fmt.{WritesOnOk};
+ghost use Rattle.declarations.specs.Ending.{closing_of, or_extent};
 ghost use Rattle.declarations.specs.EntryCheck.{HasNames, IsEntryError, known_part, more_known, name_part, next_known};
 ghost use Rattle.declarations.specs.EntryCheck.{number_of, place_of, quoted};
 
 use crate::entry::{Entry, spot_of};
 use crate::entry_list::first_entry;
-use crate::fault::{Fault, are_same};
+use crate::fault::{Fault, are_same, or_span};
 use pm_span::Span;
-use pm_stream::TokenTree;
+use pm_stream::{Group, TokenTree};
 use pm_token::Ident;
 use std::error::Error;
 use std::fmt;
@@ -33,8 +34,9 @@ pub struct EntryError<'a> {
     pub problem: EntryProblem,
     /// The number of trees of the list before the error.
     pub at: usize,
-    /// The span of the first wrong tree, or `None` if the list ends too early. In a group without delimiters it is
-    /// that of a tree inside, as [`parse_entry`](crate::parse_entry) says.
+    /// The span of the first wrong tree, or `None` if the list ends too early, to which [`within`](EntryError::within)
+    /// adds the span of the closing delimiter. In a group without delimiters it is that of a tree inside, as
+    /// [`parse_entry`](crate::parse_entry) says.
     pub span: Option<Span>,
     /// The name of the unknown or repeated entry. It is `None` if the entry is a literal or a path of several segments,
     /// or if there is no entry.
@@ -49,6 +51,24 @@ impl<'a> EntryError<'a> {
         ensures { result ≡ self.now.span }
     {
         self.span
+    }
+
+    /// Returns the error of a list that is the trees in this group.
+    ///
+    /// If the error has no span, because the list ends too early, the result has the span of the group's closing
+    /// delimiter. Otherwise the result is the same error. For the list in `(rename =)` it has the span of `)`.
+    pub fn within(self, group: &Group) -> EntryError<'a>
+        ensures span { result.span ≡ or_extent self.entry.span (closing_of group.now) }
+        ensures kept { (result.problem ≡ self.entry.problem) × (result.at ≡ self.entry.at)
+            × (result.name ≡ self.entry.name) × (result.known ≡ self.entry.known) }
+    {
+        EntryError {
+            problem: self.problem,
+            at: self.at,
+            span: or_span(self.span, Some(group.span_close())),
+            name: self.name,
+            known: self.known,
+        }
     }
 }
 

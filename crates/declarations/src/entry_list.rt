@@ -1,18 +1,21 @@
 //! The entries of an attribute's list, one at a time.
 ghost use Rattle.std.specs.Prelude.{◌≡◌, ◌<◌, IfOk, MatchResult, length};
+ghost use Rattle.declarations.specs.Ending.{closing_of};
 ghost use Rattle.declarations.specs.Entry.{IsEntryAt, IsEntryListFault};
 ghost use Rattle.declarations.specs.List.{AreInside, IsFirst};
 
 use crate::entry::{Entry, parse_entry};
 use crate::fault::Fault;
 use crate::list::{fault_after, past_comma};
+use pm_span::Span;
 use pm_stream::{Group, TokenTree};
 
 /// The entries in a group of an attribute, in order. A `,` is between two entries, and may be after the last.
 ///
 /// The iterator gives each entry as [`parse_entry`] reads it from the remaining trees. At an error it gives a `Fault`,
-/// whose `at` counts from the start of the remaining trees, and then ends. It allocates nothing. For
-/// `(skip, rename = "a")` it gives `skip` and `rename = "a"`.
+/// whose `at` counts from the start of the remaining trees, and then ends. Its span at the end of a group is
+/// that of the closing delimiter. The iterator allocates nothing. For `(skip, rename = "a")` it gives `skip` and
+/// `rename = "a"`.
 ///
 /// ```text
 /// for entry in Entries::new(group) {
@@ -24,15 +27,19 @@ use pm_stream::{Group, TokenTree};
 pub struct Entries<'a> {
     /// The trees that are not yet read.
     pub left: &'a [TokenTree],
+    /// The span of an error at the end of the trees: that of the closing delimiter, or `None` if they are in no group.
+    pub end: Option<Span>,
 }
 
 impl<'a> Entries<'a> {
     /// Returns an iterator over the entries in this group, such as `(a, b)` in `#[name(a, b)]`.
     pub fn new(group: &'a Group) -> Entries<'a>
-        ensures { AreInside result.left.now group.now }
+        ensures inside { AreInside result.left.now group.now }
+        ensures end { result.end ≡ closing_of group.now }
     {
         Entries {
             left: group.stream_ref().trees(),
+            end: Some(group.span_close()),
         }
     }
 }
@@ -48,6 +55,7 @@ impl<'a> Iterator for Entries<'a> {
     // At most as many elements come as trees are left.
     ghost remaining = { λ list. at_most (length list.left.now) };
 
+    #[tactic(auto, using(crate::proofs::EndingLemmas::ends_at))]
     fn next(&mut self) -> Option<Result<Entry<'a>, Fault>> {
         if self.left.is_empty() {
             return None;
@@ -59,7 +67,7 @@ impl<'a> Iterator for Entries<'a> {
             }
             Err(fault) => {
                 self.left = &[];
-                Some(Err(fault))
+                Some(Err(fault.ending_at(self.end)))
             }
         }
     }

@@ -1,11 +1,12 @@
 //! Errors in trees that the grammar does not accept.
 ghost use Rattle.std.specs.Prelude.{◌≡◌};
 ghost use Rattle.std.specs.Option.{option_eq};
+ghost use Rattle.declarations.specs.Ending.{closing_of, ending_at, or_extent};
 ghost use Rattle.declarations.specs.Fault.{first_extent};
 ghost use Rattle.pm_span.specs.Extent.{extent_eq};
 
 use pm_span::Span;
-use pm_stream::TokenTree;
+use pm_stream::{Group, TokenTree};
 use std::error::Error;
 use std::fmt;
 
@@ -16,11 +17,16 @@ use std::fmt;
 /// error is "not expected here" if there is a span, and "the declaration ends too early" if there is none.
 ///
 /// In `struct S { } x` the error is after 3 trees, at `x`. In `struct S` it is after 2 trees, and has no span.
+///
+/// If the trees are those in a group, an error at their end is best reported at the closing delimiter. A call that is
+/// given the group does this, such as `FieldList::named` for the errors of its fields. A call that is given trees does
+/// not know the group, and [`within`](Fault::within) adds the span.
 #[derive(Clone, Copy, Debug)]
 pub struct Fault {
     /// The number of trees before the first sign that does not fit. It is the number of all trees if more are missing.
     pub at: usize,
-    /// The span of the first tree of that sign, or `None` if more trees are missing.
+    /// The span of the first tree of that sign. If more trees are missing, it is that of the closing delimiter of the
+    /// group that they are missing in, or `None` if the call was given no group.
     pub span: Option<Span>,
 }
 
@@ -42,6 +48,27 @@ impl Fault {
         ensures { result ≡ self.now.span }
     {
         self.span
+    }
+
+    /// Returns the error of trees that are those in this group.
+    ///
+    /// If the error has no span, because trees are missing at the end, the result has the span of the group's closing
+    /// delimiter. Otherwise the result is the same error. For the trees `&` in `(&)` the error of `split_type` has no
+    /// span, and within this group it has the span of `)`.
+    pub fn within(self, group: &Group) -> Fault
+        ensures { result ≡ ending_at (closing_of group.now) self }
+    {
+        self.ending_at(Some(group.span_close()))
+    }
+
+    /// The error with this span, if it has none.
+    pub(crate) fn ending_at(self, end: Option<Span>) -> Fault
+        ensures { result ≡ ending_at end self }
+    {
+        Fault {
+            at: self.at,
+            span: or_span(self.span, end),
+        }
     }
 }
 
@@ -65,6 +92,16 @@ impl Eq for Fault {
     ghost use Rattle.std.specs.Cmp.Rules.{comparing};
 
     ghost laws = { Prim.search (comparing, rules) };
+}
+
+/// The span, or this other one if there is none.
+pub(crate) fn or_span(span: Option<Span>, end: Option<Span>) -> Option<Span>
+    ensures { result ≡ or_extent span end }
+{
+    match span {
+        Some(span) => Some(span),
+        None => end,
+    }
 }
 
 /// Whether both are the same span, or both are `None`.

@@ -1,6 +1,7 @@
 //! Lists of fields and of variants, one element at a time.
 ghost use Rattle.std.specs.Prelude.{◌≡◌, ◌-◌, ◌≤◌, ◌<◌, IfErr, IfNone, IfOk, IfSome, List, MatchResult, length, true};
 ghost use Rattle.pm_stream.specs.declared.stream.TokenTree.{TokenTree as Tree};
+ghost use Rattle.declarations.specs.Ending.{closing_fields, closing_of};
 ghost use Rattle.declarations.specs.Fault.{extent_at, first_extent};
 ghost use Rattle.declarations.specs.Forms.{IsVariant};
 ghost use Rattle.declarations.specs.List.{AreInside, IsFirst, IsFieldOf, IsListFault, IsPastComma, ListsFields};
@@ -12,13 +13,15 @@ use crate::fault::Fault;
 use crate::field::{Field, parse_field, parse_tuple_field};
 use crate::item::Fields;
 use crate::variant::{Variant, parse_variant};
+use pm_span::Span;
 use pm_stream::{Group, TokenTree};
 
 /// The fields in braces or parentheses, in order. A `,` is between two fields, and may be after the last.
 ///
 /// The iterator gives each field as [`parse_field`] reads it from the remaining trees, or as [`parse_tuple_field`] does
 /// if the fields have no names. At an error it gives a `Fault`, whose `at` counts from the start of the remaining
-/// trees, and then ends. It allocates nothing. For `a: A, b: B` it gives `a: A` and `b: B`.
+/// trees, and then ends. Its span at the end of a group is that of the closing delimiter. The iterator allocates
+/// nothing. For `a: A, b: B` it gives `a: A` and `b: B`.
 ///
 /// ```text
 /// for field in fields.list() {
@@ -32,17 +35,21 @@ pub struct FieldList<'a> {
     pub named: bool,
     /// The trees that are not yet read.
     pub left: &'a [TokenTree],
+    /// The span of an error at the end of the trees: that of the closing delimiter, or `None` if they are in no group.
+    pub end: Option<Span>,
 }
 
 /// The variants in the braces of an enum, in order. A `,` is between two variants, and may be after the last.
 ///
 /// The iterator gives each variant as [`parse_variant`] reads it from the remaining trees. At an error it gives a
-/// `Fault`, whose `at` counts from the start of the remaining trees, and then ends. It allocates nothing. For
-/// `A, B(u8) = 1` it gives `A` and `B(u8) = 1`.
+/// `Fault`, whose `at` counts from the start of the remaining trees, and then ends. Its span at the end of a group is
+/// that of the closing delimiter. The iterator allocates nothing. For `A, B(u8) = 1` it gives `A` and `B(u8) = 1`.
 #[derive(Clone, Copy, Debug)]
 pub struct VariantList<'a> {
     /// The trees that are not yet read.
     pub left: &'a [TokenTree],
+    /// The span of an error at the end of the trees: that of the closing delimiter, or `None` if they are in no group.
+    pub end: Option<Span>,
 }
 
 impl<'a> FieldList<'a> {
@@ -50,10 +57,12 @@ impl<'a> FieldList<'a> {
     pub fn named(group: &'a Group) -> FieldList<'a>
         ensures named { result.named ≡ true }
         ensures inside { AreInside result.left.now group.now }
+        ensures end { result.end ≡ closing_of group.now }
     {
         FieldList {
             named: true,
             left: group.stream_ref().trees(),
+            end: Some(group.span_close()),
         }
     }
 }
@@ -61,17 +70,20 @@ impl<'a> FieldList<'a> {
 impl<'a> Fields<'a> {
     /// Returns an iterator over the fields.
     pub fn list(&self) -> FieldList<'a>
-        ensures { ListsFields self.now result }
+        ensures lists { ListsFields self.now result }
+        ensures end { result.end ≡ closing_fields self.now }
     {
         match self {
             Fields::Named(group) => FieldList::named(group),
             Fields::Tuple(group) => FieldList {
                 named: false,
                 left: group.stream_ref().trees(),
+                end: Some(group.span_close()),
             },
             Fields::Unit => FieldList {
                 named: true,
                 left: &[],
+                end: None,
             },
         }
     }
@@ -80,10 +92,12 @@ impl<'a> Fields<'a> {
 impl<'a> VariantList<'a> {
     /// Returns an iterator over the variants in these braces.
     pub fn new(group: &'a Group) -> VariantList<'a>
-        ensures { AreInside result.left.now group.now }
+        ensures inside { AreInside result.left.now group.now }
+        ensures end { result.end ≡ closing_of group.now }
     {
         VariantList {
             left: group.stream_ref().trees(),
+            end: Some(group.span_close()),
         }
     }
 }
@@ -99,6 +113,7 @@ impl<'a> Iterator for FieldList<'a> {
     // At most as many fields come as trees are left.
     ghost remaining = { λ list. at_most (length list.left.now) };
 
+    #[tactic(auto, using(crate::proofs::EndingLemmas::ends_at))]
     fn next(&mut self) -> Option<Result<Field<'a>, Fault>> {
         if self.left.is_empty() {
             return None;
@@ -110,7 +125,7 @@ impl<'a> Iterator for FieldList<'a> {
             }
             Err(fault) => {
                 self.left = &[];
-                Some(Err(fault))
+                Some(Err(fault.ending_at(self.end)))
             }
         }
     }
@@ -126,6 +141,7 @@ impl<'a> Iterator for VariantList<'a> {
 
     ghost remaining = { λ list. at_most (length list.left.now) };
 
+    #[tactic(auto, using(crate::proofs::EndingLemmas::ends_at))]
     fn next(&mut self) -> Option<Result<Variant<'a>, Fault>> {
         if self.left.is_empty() {
             return None;
@@ -137,7 +153,7 @@ impl<'a> Iterator for VariantList<'a> {
             }
             Err(fault) => {
                 self.left = &[];
-                Some(Err(fault))
+                Some(Err(fault.ending_at(self.end)))
             }
         }
     }

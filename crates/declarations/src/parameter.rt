@@ -2,6 +2,7 @@
 ghost use Rattle.std.specs.Prelude.{◌≡◌, ◌<◌, ◌||◌, IfErr, IfNone, IfOk, IfSome, MatchResult, false, length, true};
 ghost use Rattle.grammars.specs.First.{heads};
 ghost use Rattle.grammars.specs.Grammar.{perhaps};
+ghost use Rattle.declarations.specs.Ending.{closing_of};
 ghost use Rattle.declarations.specs.Entry.{IsOnlyRest};
 ghost use Rattle.declarations.specs.Fault.{extent_at};
 ghost use Rattle.declarations.specs.List.{AreInside, IsFirst, IsListFault};
@@ -29,6 +30,7 @@ use crate::range::past_range;
 use crate::reader::{begins, begins_mark, is, part, past};
 use crate::signs::first_sign;
 use crate::types::TypeState;
+use pm_span::Span;
 use pm_stream::{Group, TokenTree};
 
 /// The form of a function's parameter.
@@ -554,8 +556,8 @@ pub fn split_pattern(trees: &[TokenTree]) -> Result<(&[TokenTree], &[TokenTree])
 /// The parameters of a function, in order. A `,` is between two parameters, and may be after the last.
 ///
 /// The iterator gives each parameter as [`parse_parameter`] reads it from the remaining trees. At an error it gives a
-/// `Fault`, whose `at` counts from the start of the remaining trees, and then ends. It allocates nothing. For
-/// `(&self, x: u8)` it gives `&self` and `x: u8`.
+/// `Fault`, whose `at` counts from the start of the remaining trees, and then ends. Its span at the end of a group is
+/// that of the closing delimiter. The iterator allocates nothing. For `(&self, x: u8)` it gives `&self` and `x: u8`.
 ///
 /// ```text
 /// for parameter in Parameters::new(group) {
@@ -567,15 +569,19 @@ pub fn split_pattern(trees: &[TokenTree]) -> Result<(&[TokenTree], &[TokenTree])
 pub struct Parameters<'a> {
     /// The trees that are not yet read.
     pub left: &'a [TokenTree],
+    /// The span of an error at the end of the trees: that of the closing delimiter, or `None` if they are in no group.
+    pub end: Option<Span>,
 }
 
 impl<'a> Parameters<'a> {
     /// Returns an iterator over the parameters in these parentheses.
     pub fn new(group: &'a Group) -> Parameters<'a>
-        ensures { AreInside result.left.now group.now }
+        ensures inside { AreInside result.left.now group.now }
+        ensures end { result.end ≡ closing_of group.now }
     {
         Parameters {
             left: group.stream_ref().trees(),
+            end: Some(group.span_close()),
         }
     }
 }
@@ -591,6 +597,7 @@ impl<'a> Iterator for Parameters<'a> {
     // At most as many elements come as trees are left.
     ghost remaining = { λ list. at_most (length list.left.now) };
 
+    #[tactic(auto, using(crate::proofs::EndingLemmas::ends_at))]
     fn next(&mut self) -> Option<Result<Parameter<'a>, Fault>> {
         if self.left.is_empty() {
             return None;
@@ -602,7 +609,7 @@ impl<'a> Iterator for Parameters<'a> {
             }
             Err(fault) => {
                 self.left = &[];
-                Some(Err(fault))
+                Some(Err(fault.ending_at(self.end)))
             }
         }
     }

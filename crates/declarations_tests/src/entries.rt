@@ -32,6 +32,7 @@ fn check(rt: &(impl Abort + AllocGlobal), rows: &[(&str, &[Parts])]) -> Result<(
         let stream = TokenStream::from_str(text, &mut SourceMap::new(rt.alloc()))?;
         let mut list = Entries {
             left: stream.trees(),
+            end: None,
         };
         for one in *wanted {
             match list.next() {
@@ -395,6 +396,7 @@ fn an_entry_in_a_group_without_delimiters_is_read(rt: HostRuntime) -> Result<(),
         let stream = held(&rt, inside, *groups, after)?;
         let mut list = Entries {
             left: stream.trees(),
+            end: None,
         };
         for one in *wanted {
             match list.next() {
@@ -441,6 +443,7 @@ fn a_path_in_a_group_without_delimiters_is_read_in_another(rt: HostRuntime) -> R
         stream.extend_streams([TokenStream::from_str(after, &mut SourceMap::new(rt.alloc()))?])?;
         let mut list = Entries {
             left: stream.trees(),
+            end: None,
         };
         for one in *wanted {
             match list.next() {

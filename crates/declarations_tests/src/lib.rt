@@ -8,6 +8,8 @@ mod attributes;
 #[cfg(test)]
 mod compile_errors;
 #[cfg(test)]
+mod endings;
+#[cfg(test)]
 mod entries;
 #[cfg(test)]
 mod files;

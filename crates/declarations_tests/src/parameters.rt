@@ -31,7 +31,10 @@ fn check_trees(
     text: &str,
     wanted: &[Parts],
 ) -> Result<(), Fail> {
-    let mut list = Parameters { left: trees };
+    let mut list = Parameters {
+        left: trees,
+        end: None,
+    };
     for one in wanted {
         match list.next() {
             Some(Ok(parameter)) => {

@@ -3,9 +3,9 @@
 
 use crate::declarations::entry::{Entry, spot_of};
 use crate::declarations::entry_list::first_entry;
-use crate::declarations::fault::{Fault, are_same};
+use crate::declarations::fault::{Fault, are_same, or_span};
 use crate::pm_span::Span;
-use crate::pm_stream::TokenTree;
+use crate::pm_stream::{Group, TokenTree};
 use crate::pm_token::Ident;
 use crate::shim::fmt;
 use crate::shim::fmt::Display;
@@ -29,8 +29,9 @@ pub struct EntryError<'a> {
     pub problem: EntryProblem,
     /// The number of trees of the list before the error.
     pub at: usize,
-    /// The span of the first wrong tree, or `None` if the list ends too early. In a group without delimiters it is
-    /// that of a tree inside, as [`parse_entry`](crate::declarations::parse_entry) says.
+    /// The span of the first wrong tree, or `None` if the list ends too early, to which [`within`](EntryError::within)
+    /// adds the span of the closing delimiter. In a group without delimiters it is that of a tree inside, as
+    /// [`parse_entry`](crate::declarations::parse_entry) says.
     pub span: Option<Span>,
     /// The name of the unknown or repeated entry. It is `None` if the entry is a literal or a path of several segments,
     /// or if there is no entry.
@@ -48,6 +49,30 @@ impl<'a> EntryError<'a> {
     pub fn span(&self) -> Option<Span>
     {
         self.span
+    }
+
+    /// Returns the error of a list that is the trees in this group.
+    ///
+    /// If the error has no span, because the list ends too early, the result has the span of the group's closing
+    /// delimiter. Otherwise the result is the same error. For the list in `(rename =)` it has the span of `)`.
+    ///
+    /// # Contract
+    ///
+    /// - `ensures span`: <code>result.span ≡ [or_extent] self.entry.span ([closing_of] group.now)</code>
+    /// - `ensures kept`: <code>(result.problem ≡ self.entry.problem) × (result.at ≡ self.entry.at) × (result.name ≡
+    ///   self.entry.name) × (result.known ≡ self.entry.known)</code>
+    ///
+    /// [or_extent]: crate::contracts#declarations.Ending.or_extent
+    /// [closing_of]: crate::contracts#declarations.Ending.closing_of
+    pub fn within(self, group: &Group) -> EntryError<'a>
+    {
+        EntryError {
+            problem: self.problem,
+            at: self.at,
+            span: or_span(self.span, Some(group.span_close())),
+            name: self.name,
+            known: self.known,
+        }
     }
 }
 

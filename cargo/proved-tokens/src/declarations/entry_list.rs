@@ -4,13 +4,15 @@
 use crate::declarations::entry::{Entry, parse_entry};
 use crate::declarations::fault::Fault;
 use crate::declarations::list::{fault_after, past_comma};
+use crate::pm_span::Span;
 use crate::pm_stream::{Group, TokenTree};
 
 /// The entries in a group of an attribute, in order. A `,` is between two entries, and may be after the last.
 ///
 /// The iterator gives each entry as [`parse_entry`] reads it from the remaining trees. At an error it gives a `Fault`,
-/// whose `at` counts from the start of the remaining trees, and then ends. It allocates nothing. For
-/// `(skip, rename = "a")` it gives `skip` and `rename = "a"`.
+/// whose `at` counts from the start of the remaining trees, and then ends. Its span at the end of a group is
+/// that of the closing delimiter. The iterator allocates nothing. For `(skip, rename = "a")` it gives `skip` and
+/// `rename = "a"`.
 ///
 /// ```text
 /// for entry in Entries::new(group) {
@@ -22,6 +24,8 @@ use crate::pm_stream::{Group, TokenTree};
 pub struct Entries<'a> {
     /// The trees that are not yet read.
     pub left: &'a [TokenTree],
+    /// The span of an error at the end of the trees: that of the closing delimiter, or `None` if they are in no group.
+    pub end: Option<Span>,
 }
 
 impl<'a> Entries<'a> {
@@ -29,13 +33,16 @@ impl<'a> Entries<'a> {
     ///
     /// # Contract
     ///
-    /// - `ensures`: <code>[AreInside] result.left.now group.now</code>
+    /// - `ensures inside`: <code>[AreInside] result.left.now group.now</code>
+    /// - `ensures end`: <code>result.end ≡ [closing_of] group.now</code>
     ///
     /// [AreInside]: crate::contracts#declarations.List.AreInside
+    /// [closing_of]: crate::contracts#declarations.Ending.closing_of
     pub fn new(group: &'a Group) -> Entries<'a>
     {
         Entries {
             left: group.stream_ref().trees(),
+            end: Some(group.span_close()),
         }
     }
 }
@@ -56,7 +63,7 @@ impl<'a> Iterator for Entries<'a> {
             }
             Err(fault) => {
                 self.left = &[];
-                Some(Err(fault))
+                Some(Err(fault.ending_at(self.end)))
             }
         }
     }

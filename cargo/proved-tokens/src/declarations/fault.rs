@@ -2,7 +2,7 @@
 //! Errors in trees that the grammar does not accept.
 
 use crate::pm_span::Span;
-use crate::pm_stream::TokenTree;
+use crate::pm_stream::{Group, TokenTree};
 use crate::shim::fmt;
 
 /// An error: where trees do not fit the grammar.
@@ -12,11 +12,16 @@ use crate::shim::fmt;
 /// error is "not expected here" if there is a span, and "the declaration ends too early" if there is none.
 ///
 /// In `struct S { } x` the error is after 3 trees, at `x`. In `struct S` it is after 2 trees, and has no span.
+///
+/// If the trees are those in a group, an error at their end is best reported at the closing delimiter. A call that is
+/// given the group does this, such as `FieldList::named` for the errors of its fields. A call that is given trees does
+/// not know the group, and [`within`](Fault::within) adds the span.
 #[derive(Clone, Copy, Debug)]
 pub struct Fault {
     /// The number of trees before the first sign that does not fit. It is the number of all trees if more are missing.
     pub at: usize,
-    /// The span of the first tree of that sign, or `None` if more trees are missing.
+    /// The span of the first tree of that sign. If more trees are missing, it is that of the closing delimiter of the
+    /// group that they are missing in, or `None` if the call was given no group.
     pub span: Option<Span>,
 }
 
@@ -40,6 +45,32 @@ impl Fault {
     {
         self.span
     }
+
+    /// Returns the error of trees that are those in this group.
+    ///
+    /// If the error has no span, because trees are missing at the end, the result has the span of the group's closing
+    /// delimiter. Otherwise the result is the same error. For the trees `&` in `(&)` the error of `split_type` has no
+    /// span, and within this group it has the span of `)`.
+    ///
+    /// # Contract
+    ///
+    /// - `ensures`: <code>result ≡ [ending_at] ([closing_of] group.now) self</code>
+    ///
+    /// [ending_at]: crate::contracts#declarations.Ending.ending_at
+    /// [closing_of]: crate::contracts#declarations.Ending.closing_of
+    pub fn within(self, group: &Group) -> Fault
+    {
+        self.ending_at(Some(group.span_close()))
+    }
+
+    /// The error with this span, if it has none.
+    pub(crate) fn ending_at(self, end: Option<Span>) -> Fault
+    {
+        Fault {
+            at: self.at,
+            span: or_span(self.span, end),
+        }
+    }
 }
 
 impl PartialEq for Fault {
@@ -50,6 +81,15 @@ impl PartialEq for Fault {
 }
 
 impl Eq for Fault {
+}
+
+/// The span, or this other one if there is none.
+pub(crate) fn or_span(span: Option<Span>, end: Option<Span>) -> Option<Span>
+{
+    match span {
+        Some(span) => Some(span),
+        None => end,
+    }
 }
 
 /// Whether both are the same span, or both are `None`.

@@ -5,13 +5,15 @@ use crate::declarations::fault::Fault;
 use crate::declarations::field::{Field, parse_field, parse_tuple_field};
 use crate::declarations::item::Fields;
 use crate::declarations::variant::{Variant, parse_variant};
+use crate::pm_span::Span;
 use crate::pm_stream::{Group, TokenTree};
 
 /// The fields in braces or parentheses, in order. A `,` is between two fields, and may be after the last.
 ///
 /// The iterator gives each field as [`parse_field`] reads it from the remaining trees, or as [`parse_tuple_field`] does
 /// if the fields have no names. At an error it gives a `Fault`, whose `at` counts from the start of the remaining
-/// trees, and then ends. It allocates nothing. For `a: A, b: B` it gives `a: A` and `b: B`.
+/// trees, and then ends. Its span at the end of a group is that of the closing delimiter. The iterator allocates
+/// nothing. For `a: A, b: B` it gives `a: A` and `b: B`.
 ///
 /// ```text
 /// for field in fields.list() {
@@ -25,17 +27,21 @@ pub struct FieldList<'a> {
     pub named: bool,
     /// The trees that are not yet read.
     pub left: &'a [TokenTree],
+    /// The span of an error at the end of the trees: that of the closing delimiter, or `None` if they are in no group.
+    pub end: Option<Span>,
 }
 
 /// The variants in the braces of an enum, in order. A `,` is between two variants, and may be after the last.
 ///
 /// The iterator gives each variant as [`parse_variant`] reads it from the remaining trees. At an error it gives a
-/// `Fault`, whose `at` counts from the start of the remaining trees, and then ends. It allocates nothing. For
-/// `A, B(u8) = 1` it gives `A` and `B(u8) = 1`.
+/// `Fault`, whose `at` counts from the start of the remaining trees, and then ends. Its span at the end of a group is
+/// that of the closing delimiter. The iterator allocates nothing. For `A, B(u8) = 1` it gives `A` and `B(u8) = 1`.
 #[derive(Clone, Copy, Debug)]
 pub struct VariantList<'a> {
     /// The trees that are not yet read.
     pub left: &'a [TokenTree],
+    /// The span of an error at the end of the trees: that of the closing delimiter, or `None` if they are in no group.
+    pub end: Option<Span>,
 }
 
 impl<'a> FieldList<'a> {
@@ -45,14 +51,17 @@ impl<'a> FieldList<'a> {
     ///
     /// - `ensures named`: <code>result.named ≡ [true]</code>
     /// - `ensures inside`: <code>[AreInside] result.left.now group.now</code>
+    /// - `ensures end`: <code>result.end ≡ [closing_of] group.now</code>
     ///
     /// [true]: crate::contracts#std.true
     /// [AreInside]: crate::contracts#declarations.List.AreInside
+    /// [closing_of]: crate::contracts#declarations.Ending.closing_of
     pub fn named(group: &'a Group) -> FieldList<'a>
     {
         FieldList {
             named: true,
             left: group.stream_ref().trees(),
+            end: Some(group.span_close()),
         }
     }
 }
@@ -62,9 +71,11 @@ impl<'a> Fields<'a> {
     ///
     /// # Contract
     ///
-    /// - `ensures`: <code>[ListsFields] self.now result</code>
+    /// - `ensures lists`: <code>[ListsFields] self.now result</code>
+    /// - `ensures end`: <code>result.end ≡ [closing_fields] self.now</code>
     ///
     /// [ListsFields]: crate::contracts#declarations.List.ListsFields
+    /// [closing_fields]: crate::contracts#declarations.Ending.closing_fields
     pub fn list(&self) -> FieldList<'a>
     {
         match self {
@@ -72,10 +83,12 @@ impl<'a> Fields<'a> {
             Fields::Tuple(group) => FieldList {
                 named: false,
                 left: group.stream_ref().trees(),
+                end: Some(group.span_close()),
             },
             Fields::Unit => FieldList {
                 named: true,
                 left: &[],
+                end: None,
             },
         }
     }
@@ -86,13 +99,16 @@ impl<'a> VariantList<'a> {
     ///
     /// # Contract
     ///
-    /// - `ensures`: <code>[AreInside] result.left.now group.now</code>
+    /// - `ensures inside`: <code>[AreInside] result.left.now group.now</code>
+    /// - `ensures end`: <code>result.end ≡ [closing_of] group.now</code>
     ///
     /// [AreInside]: crate::contracts#declarations.List.AreInside
+    /// [closing_of]: crate::contracts#declarations.Ending.closing_of
     pub fn new(group: &'a Group) -> VariantList<'a>
     {
         VariantList {
             left: group.stream_ref().trees(),
+            end: Some(group.span_close()),
         }
     }
 }
@@ -113,7 +129,7 @@ impl<'a> Iterator for FieldList<'a> {
             }
             Err(fault) => {
                 self.left = &[];
-                Some(Err(fault))
+                Some(Err(fault.ending_at(self.end)))
             }
         }
     }
@@ -133,7 +149,7 @@ impl<'a> Iterator for VariantList<'a> {
             }
             Err(fault) => {
                 self.left = &[];
-                Some(Err(fault))
+                Some(Err(fault.ending_at(self.end)))
             }
         }
     }

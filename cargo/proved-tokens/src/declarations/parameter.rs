@@ -8,6 +8,7 @@ use crate::declarations::range::past_range;
 use crate::declarations::reader::{begins, begins_mark, is, part, past};
 use crate::declarations::signs::first_sign;
 use crate::declarations::types::TypeState;
+use crate::pm_span::Span;
 use crate::pm_stream::{Group, TokenTree};
 
 /// The form of a function's parameter.
@@ -501,8 +502,8 @@ pub fn split_pattern(trees: &[TokenTree]) -> Result<(&[TokenTree], &[TokenTree])
 /// The parameters of a function, in order. A `,` is between two parameters, and may be after the last.
 ///
 /// The iterator gives each parameter as [`parse_parameter`] reads it from the remaining trees. At an error it gives a
-/// `Fault`, whose `at` counts from the start of the remaining trees, and then ends. It allocates nothing. For
-/// `(&self, x: u8)` it gives `&self` and `x: u8`.
+/// `Fault`, whose `at` counts from the start of the remaining trees, and then ends. Its span at the end of a group is
+/// that of the closing delimiter. The iterator allocates nothing. For `(&self, x: u8)` it gives `&self` and `x: u8`.
 ///
 /// ```text
 /// for parameter in Parameters::new(group) {
@@ -514,6 +515,8 @@ pub fn split_pattern(trees: &[TokenTree]) -> Result<(&[TokenTree], &[TokenTree])
 pub struct Parameters<'a> {
     /// The trees that are not yet read.
     pub left: &'a [TokenTree],
+    /// The span of an error at the end of the trees: that of the closing delimiter, or `None` if they are in no group.
+    pub end: Option<Span>,
 }
 
 impl<'a> Parameters<'a> {
@@ -521,13 +524,16 @@ impl<'a> Parameters<'a> {
     ///
     /// # Contract
     ///
-    /// - `ensures`: <code>[AreInside] result.left.now group.now</code>
+    /// - `ensures inside`: <code>[AreInside] result.left.now group.now</code>
+    /// - `ensures end`: <code>result.end ≡ [closing_of] group.now</code>
     ///
     /// [AreInside]: crate::contracts#declarations.List.AreInside
+    /// [closing_of]: crate::contracts#declarations.Ending.closing_of
     pub fn new(group: &'a Group) -> Parameters<'a>
     {
         Parameters {
             left: group.stream_ref().trees(),
+            end: Some(group.span_close()),
         }
     }
 }
@@ -548,7 +554,7 @@ impl<'a> Iterator for Parameters<'a> {
             }
             Err(fault) => {
                 self.left = &[];
-                Some(Err(fault))
+                Some(Err(fault.ending_at(self.end)))
             }
         }
     }

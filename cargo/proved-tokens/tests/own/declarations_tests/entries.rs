@@ -36,6 +36,7 @@ fn check(rt: &(impl Abort + AllocGlobal), rows: &[(&str, &[Parts])]) -> Result<(
         let stream = TokenStream::from_str(text, &mut SourceMap::new())?;
         let mut list = Entries {
             left: stream.trees(),
+            end: None,
         };
         for one in *wanted {
             match list.next() {
@@ -406,6 +407,7 @@ fn an_entry_in_a_group_without_delimiters_is_read() -> Result<(), Fail> {
         let stream = held(&rt, inside, *groups, after)?;
         let mut list = Entries {
             left: stream.trees(),
+            end: None,
         };
         for one in *wanted {
             match list.next() {
@@ -452,6 +454,7 @@ fn a_path_in_a_group_without_delimiters_is_read_in_another() -> Result<(), Fail>
         stream.extend_streams([TokenStream::from_str(after, &mut SourceMap::new())?])?;
         let mut list = Entries {
             left: stream.trees(),
+            end: None,
         };
         for one in *wanted {
             match list.next() {
