@@ -180,6 +180,13 @@ fn calls_in_place_of_syns_on_attributes_parameters_and_errors() -> Outcome {
     let checked = || -> Result<(), CompileError> { Ok(check_entries(trees, known)?) };
     let mut error = checked().err().ok_or("it is known")?;
     assert_eq!(error.to_string(), "unknown entry `c`; known are `skip`, `d`");
+    let stream: TokenStream = "(skip =)".parse()?;
+    let [TokenTree::Group(list)] = stream.trees() else { panic!("it is a group") };
+    let missing = check_entries(list.stream_ref().trees(), known).err().ok_or("it is an entry")?;
+    assert!(missing.span().is_none() && missing.within(list).span().is_some());
+    let body = list;
+    let fault = parse_entry(body.stream_ref().trees()).err().ok_or("it is an entry")?;
+    assert!(fault.span().is_none() && fault.within(body).span().is_some());
 
     let stream: TokenStream = "pub const fn f(&self, x: u8) -> u8 { x }".parse()?;
     let function = parse_function(stream.trees())?;
