@@ -19,7 +19,6 @@ impl<'a> Attribute<'a> {
     /// If a macro by example passed the entry or its path in a group without delimiters, as `$m:meta` or `$p:path`,
     /// the trees inside are read, as by [`parse_entry`](crate::parse_entry). That call also says where an
     /// error inside of such a group is.
-    #[tactic(auto, using(crate::proofs::EndingLemmas::ends_at))]
     pub fn entry(&self) -> Result<Entry<'a>, Fault>
         ensures ok { IfOk result (λ entry. IsEntryAt (trees_of self.now.group.now.stream) entry []) }
         ensures err { IfErr result (EndsAt (closing_of self.now.group.now)

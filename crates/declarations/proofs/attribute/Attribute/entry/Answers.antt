@@ -1,16 +1,16 @@
 use Rattle.std.proofs.Common.{sym, subst, []}
-use Rattle.std.specs.Prelude.{IfErr, IfOk}
 use Rattle.declarations.specs.Entry.{IsEntryAt, IsEntryFault}
 use Rattle.declarations.proofs.AttributeLemmas.{held_trees}
+use Rattle.declarations.proofs.EndingLemmas.{ends_at}
 use Rattle.declarations.proofs.attribute.Attribute.entry.Goals as goal
 
-pub returns-clause-ok : goal.returns-clause-ok
-returns-clause-ok c =
+pub returns-in-Ok-clause-ok : goal.returns-in-Ok-clause-ok
+returns-in-Ok-clause-ok c =
     let held = held_trees c.trees.result.now _ _ c.trees.ensures.value c.stream_ref.ensures.value in
-    subst (λ trees. IfOk c.whole_entry.result (λ entry. IsEntryAt trees entry [])) (sym held) c.whole_entry.ensures.ok
+    subst (λ trees. IsEntryAt trees c.in-Ok.entry []) (sym held) c.in-Ok.ensures.ok
 
-pub returns-clause-err : goal.returns-clause-err
-returns-clause-err c =
+pub returns-in-Err-clause-err : goal.returns-in-Err-clause-err
+returns-in-Err-clause-err c =
     let held = held_trees c.trees.result.now _ _ c.trees.ensures.value c.stream_ref.ensures.value in
-    subst (λ trees. IfErr c.whole_entry.result (λ fault. IsEntryFault trees fault)) (sym held)
-    c.whole_entry.ensures.err
+    ends_at _ _ _ _ (subst (λ trees. IsEntryFault trees c.in-Err.fault) (sym held) c.in-Err.ensures.err)
+    c.within.ensures
