@@ -30,8 +30,9 @@ fn body_span(body: &Body<'_>) -> Option<Span> {
 
 fn fields_span(list: FieldList<'_>) -> Option<Span> {
     for field in list {
-        if let Err(fault) = field {
-            return fault.span;
+        match field {
+            Ok(_) => (),
+            Err(fault) => return fault.span,
         }
     }
     None
@@ -39,8 +40,9 @@ fn fields_span(list: FieldList<'_>) -> Option<Span> {
 
 fn variants_span(list: VariantList<'_>) -> Option<Span> {
     for variant in list {
-        if let Err(fault) = variant {
-            return fault.span;
+        match variant {
+            Ok(_) => (),
+            Err(fault) => return fault.span,
         }
     }
     None
@@ -48,8 +50,9 @@ fn variants_span(list: VariantList<'_>) -> Option<Span> {
 
 fn parameters_span(list: Parameters<'_>) -> Option<Span> {
     for parameter in list {
-        if let Err(fault) = parameter {
-            return fault.span;
+        match parameter {
+            Ok(_) => (),
+            Err(fault) => return fault.span,
         }
     }
     None
@@ -57,8 +60,9 @@ fn parameters_span(list: Parameters<'_>) -> Option<Span> {
 
 fn entries_span(list: Entries<'_>) -> Option<Span> {
     for entry in list {
-        if let Err(fault) = entry {
-            return fault.span;
+        match entry {
+            Ok(_) => (),
+            Err(fault) => return fault.span,
         }
     }
     None
