@@ -156,7 +156,13 @@ fn calls_in_place_of_syns() -> Outcome {
     let (text, span) = ("a", item.name.span());
     assert_eq!(compile_error(text, span)?.to_string(), ":: core :: compile_error ! { \"a\" }");
     let error = parse_type_item(path.trees()).err().ok_or("it is no item")?;
-    assert_eq!(error.to_compile_error()?.to_string(), ":: core :: compile_error ! { \"not expected here\" }");
+    let text = "expected a visibility, an attribute, `enum`, `struct` or another sign";
+    assert_eq!(error.to_compile_error()?.to_string(), format!(":: core :: compile_error ! {{ \"{text}\" }}"));
+
+    let list = TokenStream::from_str("(&)", &mut map)?;
+    let Some(TokenTree::Group(group)) = list.trees().first() else { panic!("it is a group") };
+    let fault = split_type(group.stream_ref().trees()).err().ok_or("it is no type")?;
+    assert!(fault.span.is_none() && fault.within(group).span.is_some());
     Ok(())
 }
 

@@ -8,7 +8,9 @@ use Rattle.pm_stream.specs.declared.stream.TokenTree.{TokenTree}
 use Rattle.declarations.proofs.ListLemmas.{reads_fewer}
 use Rattle.declarations.proofs.ReadingLemmas.{split_only}
 use Rattle.declarations.specs.Fault.{first_extent, extent_at}
-use Rattle.declarations.specs.File.{AreItems, AreItemsBefore, FileFaultAt, IsFile, braces, last_braces}
+use Rattle.declarations.specs.Expected.{Expects}
+use Rattle.declarations.specs.File.{AreItems, AreItemsBefore, FileFaultAt, IsFile, PartExpects, braces, last_braces}
+use Rattle.declarations.specs.declared.expected.Expected.{Expected}
 use Rattle.declarations.specs.Forms.{AreInnerAttributes, IsAnyItem, any_item}
 use Rattle.declarations.specs.Reading.{FaultAt, Reads}
 use Rattle.declarations.specs.Whole.{ReadsAll}
@@ -98,6 +100,20 @@ pub left_fits : (trees items left : List TokenTree) → ReadUpTo trees items lef
 left_fits trees items left up =
     let sum : length trees ≡ length up.front + length left = ap length up.whole ∙ length-append up.front left in
     omega arith
+
+pub part_expects : (trees items left : List TokenTree) (within at : ℕ) (expected : Expected)
+    → ReadUpTo trees items left → Expects IsAnyItem left within expected → at + length left ≡ length trees + within
+    → PartExpects IsAnyItem trees at expected
+part_expects trees items left within at expected up signs counted =
+    let sum : length trees ≡ length up.front + length left = ap length up.whole ∙ length-append up.front left in
+    record {
+      front = up.front;
+      left = left;
+      whole = up.whole;
+      within = within;
+      counted = omega arith;
+      signs = signs;
+    }
 
 pub file_fault : (trees inner items left : List TokenTree) (within at : ℕ) → Reads AreInnerAttributes trees inner items
     → ReadUpTo trees items left → 0 < length left → FaultAt IsAnyItem left within

@@ -47,3 +47,13 @@ pub mod TreeLemmas
 pub mod GenericArgumentLemmas
 pub mod ListedLemmas
 pub mod TypePathLemmas
+pub mod ExpectedLemmas
+pub mod MoveLemmas
+pub mod ExploreLemmas
+pub mod ExploreJoinLemmas
+pub mod ExploreLoopLemmas
+pub mod ExpectsLemmas
+pub mod ExpectedTextLemmas
+pub mod FaultLemmas
+pub mod ListExpectedLemmas
+pub mod SyntaxLemmas

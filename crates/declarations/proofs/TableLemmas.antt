@@ -66,14 +66,14 @@ place_agrees place c = state_agrees place.state place.depth place.item place.rul
 
 -- ---- walks
 
-step_lifted : (place : Place) (k : List G) → left_at place ≡ Some k → (c : Class)
+pub step_lifted : (place : Place) (k : List G) → left_at place ≡ Some k → (c : Class)
     → lifted (step place c) ≡ reached (move rules k c)
 step_lifted place k e c = subst (λ o. Agrees o (step place c) c) e (place_agrees place c)
 
-ends_same : (place : Place) (k : List G) → left_at place ≡ Some k → ends place ≡ machine.ends k
+pub ends_same : (place : Place) (k : List G) → left_at place ≡ Some k → ends place ≡ machine.ends k
 ends_same place k e = subst (λ o. EndsAgree o place) e (ends_agree place)
 
-walk_lifted : (place : Place) (k : List G) → left_at place ≡ Some k → (signs : List Class)
+pub walk_lifted : (place : Place) (k : List G) → left_at place ≡ Some k → (signs : List Class)
     → lifted (walk step place signs) ≡ reached (moves rules k signs)
 walk_lifted place k e [] = ap Some e
 walk_lifted place k e (c ∷ signs) =

@@ -28,7 +28,7 @@ front_none : (f : Found Class Label) → f ≡ front [] f
 front_none (Past e r) = refl
 front_none (Stuck l) = refl
 
-scan_walk : (k : List G) (cs left : List Class) (taken : List (Event Class Label) × List G)
+pub scan_walk : (k : List G) (cs left : List Class) (taken : List (Event Class Label) × List G)
     → machine.walk rules k cs ≡ Some taken
     → scan rules k (cs ++ left) ≡ front taken.0 (scan rules taken.1 left)
 scan_walk k [] left taken e =
@@ -64,7 +64,7 @@ scan_walk k (c ∷ cs) left taken e = go (machine.step rules k c) refl e (λ j t
     go (Some t) s e f = later t s (machine.walk rules t.1 cs) refl e (f t.1)
 
 -- what the machine finds where the walk stops
-scan_stops : (k : List G) (left : List Class) (ended : Bool) → machine.ends k ≡ ended
+pub scan_stops : (k : List G) (left : List Class) (ended : Bool) → machine.ends k ≡ ended
     → ((c : Class) (more : List Class) → left ≡ c ∷ more → machine.step rules k c ≡ None)
     → scan rules k left ≡ (if ended then Past (machine.closing k) left else Stuck left)
 scan_stops k [] ended e f = ap (λ b. if b then Past (machine.closing k) [] else Stuck []) e

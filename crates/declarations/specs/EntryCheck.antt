@@ -16,6 +16,7 @@ use Rattle.declarations.specs.declared.entry.Entry.{Entry}
 use Rattle.declarations.specs.declared.entry_check.EntryError.{EntryError}
 use Rattle.declarations.specs.declared.entry_check.EntryProblem.{EntryProblem}
 use Rattle.declarations.specs.declared.entry_check.EntryProblem.TheVariants as problems
+use Rattle.declarations.specs.declared.expected.Expected.{Expected}
 use Rattle.declarations.specs.declared.fault.Fault.{Fault}
 
 -- the names that entries may have
@@ -44,6 +45,8 @@ pub record IsNoEntry (list left : List TokenTree) (error : EntryError) : Type 0 
   pub stands : IsEntryListFault left fault
   pub counted : error.at ≡ length list - length left + fault.at
   pub span : error.span ≡ fault.span
+  pub expected : error.expected ≡ fault.expected
+  pub signs : Expects (ByRule entries) left fault.at fault.expected
   pub unnamed : error.name ≡ None
 
 -- the error is just before the left trees, which begin with this entry
@@ -115,10 +118,10 @@ known_part [] = codes "; no names are known"
 known_part (word ∷ words) = codes "; known are " ++ (quoted word.now ++ more_known words)
 
 -- the message of an error
-abbrev pub error_text : EntryProblem → Option Name → Names → List ℕ
-error_text problems.NoEntry name known = codes "not expected here"
-error_text problems.Unknown name known = codes "unknown entry" ++ (name_part name ++ known_part known)
-error_text problems.Repeated name known = codes "a second entry" ++ name_part name
+abbrev pub error_text : EntryProblem → Expected → Option Name → Names → List ℕ
+error_text problems.NoEntry expected name known = expected_text expected
+error_text problems.Unknown expected name known = codes "unknown entry" ++ (name_part name ++ known_part known)
+error_text problems.Repeated expected name known = codes "a second entry" ++ name_part name
 
 -- the number of an error's kind. No two kinds have the same number
 abbrev pub number_of : EntryProblem → ℕ

@@ -1,7 +1,9 @@
 -- Where an error is, and its message.
-use Rattle.std.specs.Prelude.{ℕ, Bool, ◌==◌, List, [], ◌∷◌, Option, Some, None, codes, drop}
+use Rattle.std.specs.Prelude.{ℕ, Bool, ◌==◌, List, [], ◌∷◌, ◌++◌, Option, Some, None, codes, drop}
 use Rattle.std.specs.Option.{option_eq}
 use Rattle.std.specs.Ordering.{eq_of_both, on}
+use Rattle.declarations.specs.ExpectedText.{expected_text}
+use Rattle.declarations.specs.declared.expected.Expected.{Expected}
 use Rattle.declarations.specs.declared.fault.Fault.{Fault}
 use Rattle.pm_span.specs.Extent.{Extent, extent_eq}
 use Rattle.pm_stream.specs.TreeSpan.{extent_of}
@@ -16,10 +18,15 @@ first_extent (tree ∷ left) = Some (extent_of tree)
 abbrev pub extent_at : List TokenTree → ℕ → Option Extent
 extent_at trees at = first_extent (drop at trees)
 
+-- the span, or the other one if there is none
+abbrev pub or_extent : Option Extent → Option Extent → Option Extent
+or_extent None other = other
+or_extent (Some extent) other = Some extent
+
 -- the message of an error at a tree with this span, or at the end of the trees
-abbrev pub fault_text : Option Extent → List ℕ
-fault_text None = codes "the declaration ends too early"
-fault_text (Some extent) = codes "not expected here"
+abbrev pub fault_text : Option Extent → Expected → List ℕ
+fault_text None expected = codes "the declaration ends too early: " ++ expected_text expected
+fault_text (Some extent) expected = expected_text expected
 
 -- whether both errors have the same number of trees before them, and the same span or none
 abbrev pub fault_eq : Fault → Fault → Bool

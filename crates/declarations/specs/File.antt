@@ -7,6 +7,7 @@ use Rattle.pm_token.specs.declared.delimiters.Delimiter.TheVariants as delimiter
 use Rattle.pm_stream.specs.declared.stream.Group.{Group as Grouped}
 use Rattle.pm_stream.specs.declared.stream.TokenTree.{TokenTree}
 use Rattle.pm_stream.specs.declared.stream.TokenTree.TheVariants.{Group}
+use Rattle.declarations.specs.Expected.{Expects}
 use Rattle.declarations.specs.Fault.{extent_at}
 use Rattle.declarations.specs.Forms.{AreInnerAttributes, IsAnyItem}
 use Rattle.declarations.specs.Kind.{Tells}
@@ -14,6 +15,8 @@ use Rattle.declarations.specs.Reading.{FaultAt, Reads}
 use Rattle.declarations.specs.declared.any_item.AnyItem.{AnyItem}
 use Rattle.declarations.specs.declared.any_item.ItemKind.{ItemKind}
 use Rattle.declarations.specs.declared.any_item.ItemKind.TheVariants as kinds
+use Rattle.declarations.specs.declared.class.Class.{Class}
+use Rattle.declarations.specs.declared.expected.Expected.{Expected}
 use Rattle.declarations.specs.declared.fault.Fault.{Fault}
 use Rattle.declarations.specs.declared.file.Items.{Items}
 
@@ -51,6 +54,20 @@ pub record ItemFaultAt (trees : List TokenTree) (at : ℕ) : Type 0 where
 abbrev pub FileFaultAt : List TokenTree → ℕ → Type 0
 FileFaultAt trees at = FaultAt AreInnerAttributes trees at ⊎ ItemFaultAt trees at
 
+-- the trees go on with a part after their first ones, and the set has the signs that could come at the error in it
+pub record PartExpects (form : List Class → List Class → Type 0) (trees : List TokenTree) (at : ℕ) (expected : Expected)
+    : Type 0 where
+  pub front : List TokenTree
+  pub left : List TokenTree
+  pub whole : trees ≡ front ++ left
+  pub within : ℕ
+  pub counted : at ≡ length front + within
+  pub signs : Expects form left within expected
+
+-- the set has the signs that could come at the error: in the inner attributes, or in the item that cannot be read
+abbrev pub FileExpects : List TokenTree → ℕ → Expected → Type 0
+FileExpects trees at expected = Expects AreInnerAttributes trees at expected ⊎ PartExpects IsAnyItem trees at expected
+
 -- the item has the kind and the name that the walk over its signs finds
 abbrev pub TellsOf : List TokenTree → List TokenTree → AnyItem → Type 0
 TellsOf trees rest item =
@@ -64,6 +81,7 @@ GivesItem old given new =
     (λ found. MatchResult found
     (λ item. Reads IsAnyItem old.left.now item.trees.now new.left.now × TellsOf old.left.now new.left.now item)
     (λ fault. FaultAt IsAnyItem old.left.now fault.at × (fault.span ≡ extent_at old.left.now fault.at)
+    × Expects IsAnyItem old.left.now fault.at fault.expected
     × (new.left.now ≡ [])))
 
 -- ---- the braces that an item ends with

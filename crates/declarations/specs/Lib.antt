@@ -31,4 +31,9 @@ pub mod Function
 pub mod GenericArgument
 pub mod TypePath
 pub mod CompileError
+pub mod Expected
+pub mod Syntax
+pub mod Explore
+pub mod ListExpected
+pub mod ExpectedText
 pub mod rules

@@ -6,6 +6,7 @@ use Rattle.pm_stream.specs.declared.stream.Group.{Group as Grouped}
 use Rattle.pm_stream.specs.declared.stream.TokenTree.{TokenTree}
 use Rattle.pm_stream.specs.declared.stream.TokenTree.TheVariants.{Punct}
 use Rattle.declarations.specs.Ending.{EndsAt}
+use Rattle.declarations.specs.Expected.{Expects}
 use Rattle.declarations.specs.Fault.{extent_at}
 use Rattle.declarations.specs.Field.{IsFieldAt, HasFieldParts, HasTypeParts}
 use Rattle.declarations.specs.Forms.{IsField, IsTupleField, IsVariant}
@@ -19,6 +20,9 @@ use Rattle.declarations.specs.declared.item.Fields.TheVariants as fields
 use Rattle.declarations.specs.declared.list.FieldList.{FieldList}
 use Rattle.declarations.specs.declared.list.VariantList.{VariantList}
 use Rattle.declarations.specs.declared.variant.Variant.{Variant}
+use Rattle.declarations.specs.rules.Names.{G, listed}
+use Rattle.declarations.specs.rules.Parts.{field, tuple_field, variants}
+use Rattle.declarations.specs.rules.Pieces.{ByRule}
 
 -- the trees are `,` (44) and then the left trees, or both are empty
 abbrev pub IsPastComma : List TokenTree → List TokenTree → Type 0
@@ -66,6 +70,15 @@ IsFieldOf false = IsFieldAt IsTupleField HasTypeParts
 abbrev pub field_form : Bool → List Class → List Class → Type 0
 field_form true = IsField
 field_form false = IsTupleField
+
+-- the rule of a field
+abbrev pub field_rule : Bool → G
+field_rule true = field
+field_rule false = tuple_field
+
+-- the form of a list of fields
+abbrev pub fields_form : Bool → List Class → List Class → Type 0
+fields_form named = ByRule (listed (field_rule named))
 
 -- a call of `next` gives the next field or an error, and nothing if no trees are left
 abbrev pub GivesField : FieldList → Option (Result Field Fault) → FieldList → Type 0

@@ -13,6 +13,7 @@ ghost use Rattle.declarations.specs.Entry.{IsNearFault, IsNoEntry, IsOnlyPlainRe
 ghost use Rattle.declarations.specs.Entry.{IsPlainEntryFault, IsPlainFault, ReadsEntry};
 ghost use Rattle.declarations.specs.Entry.{entry_extent, entry_spot, only_name, sole_name, span_or};
 ghost use Rattle.declarations.specs.Fault.{extent_at, first_extent};
+ghost use Rattle.declarations.specs.ListExpected.{RuleSigns};
 ghost use Rattle.declarations.specs.Reader.{Finds, ReadsRule, Sticks, classes_in};
 ghost use Rattle.declarations.specs.rules.Entries.{continues, entry, entry_list, entry_literal, entry_path};
 ghost use Rattle.declarations.specs.rules.Entries.{entry_rest, entry_value, is_entry_segment, is_literal};
@@ -25,11 +26,14 @@ ghost use Rattle.declarations.specs.declared.class.Class.TheVariants as signs;
 use crate::attribute::is_named;
 use crate::bare::{bared, has_no_delimiters, inside_of};
 use crate::class::Class;
+use crate::expected::Expected;
+use crate::explore::rule_signs;
 use crate::fault::Fault;
 use crate::item::split_group;
 use crate::place::{Item, Place, Rule, Spot, State};
 use crate::reader::{begins, is, part, past};
 use crate::signs::first_sign;
+use crate::syntax::{ENTRY, ENTRY_REST};
 use crate::walk::walk_past;
 use pm_span::Span;
 use pm_stream::{Group, TokenTree};
@@ -94,7 +98,7 @@ fn plain_entry(trees: &[TokenTree]) -> Result<(Entry<'_>, &[TokenTree]), Fault>
 {
     match entry_of(trees) {
         Ok((entry, rest)) => Ok((entry, rest)),
-        Err(left) => Err(Fault::ahead_of(trees.len() - left.len(), left)),
+        Err(left) => Err(Fault::ahead_of(trees.len() - left.len(), left, entry_signs(trees))),
     }
 }
 
@@ -154,10 +158,12 @@ fn near_held<'a>(
 fn fault_within(group: &Group, inner: Fault) -> Fault
     ensures at { result.at ≡ 0 }
     ensures span { result.span ≡ Some (span_or inner.span group.now.span) }
+    ensures expected { result.expected ≡ inner.expected }
 {
     Fault {
         at: 0,
         span: Some(span_or(inner.span, group.span())),
+        expected: inner.expected,
     }
 }
 
@@ -182,7 +188,10 @@ fn go_on<'a>(
 {
     match args_of(after) {
         Ok((kind, rest)) => Ok((Entry { path, kind }, rest)),
-        Err(left) => Err(Fault::ahead_of(1 + (after.len() - left.len()), left)),
+        Err(left) => {
+            let signs = rule_signs(&ENTRY_REST, after);
+            Err(Fault::ahead_of(1 + (after.len() - left.len()), left, signs))
+        }
     }
 }
 
@@ -256,17 +265,26 @@ fn first_span(trees: &[TokenTree]) -> Option<Span>
     }
 }
 
+/// The signs that could come next where the trees are no entry, or after the entry.
+#[cold]
+fn entry_signs(trees: &[TokenTree]) -> Expected
+    ensures { RuleSigns entry trees.now result }
+{
+    rule_signs(&ENTRY, trees)
+}
+
 /// The entry that all of the trees are.
 pub(crate) fn whole_entry(trees: &[TokenTree]) -> Result<Entry<'_>, Fault>
     ensures ok { IfOk result (λ entry. IsEntryAt trees.now entry []) }
     ensures err { IfErr result (λ fault. IsEntryFault trees.now fault) }
+    ensures expected { IfErr result (λ fault. Expects (ByRule entry) trees.now fault.at fault.expected) }
 {
     match parse_entry(trees) {
         Ok((entry, rest)) => {
             if rest.is_empty() {
                 Ok(entry)
             } else {
-                Err(Fault::ahead_of(trees.len() - rest.len(), rest))
+                Err(Fault::ahead_of(trees.len() - rest.len(), rest, entry_signs(trees)))
             }
         }
         Err(fault) => Err(fault),
@@ -283,7 +301,7 @@ fn whole_near_entry(trees: &[TokenTree]) -> Result<Entry<'_>, Fault>
             if after.is_empty() {
                 Ok(entry)
             } else {
-                Err(Fault::ahead_of(trees.len() - after.len(), after))
+                Err(Fault::ahead_of(trees.len() - after.len(), after, entry_signs(trees)))
             }
         }
         Err(fault) => Err(fault),
@@ -300,14 +318,14 @@ fn whole_plain_entry(trees: &[TokenTree]) -> Result<Entry<'_>, Fault>
             if left.is_empty() {
                 Ok(entry)
             } else {
-                Err(Fault::ahead_of(trees.len() - left.len(), left))
+                Err(Fault::ahead_of(trees.len() - left.len(), left, entry_signs(trees)))
             }
         }
         Err(fault) => Err(fault),
     }
 }
 
-fn is_segment(class: Class) -> bool
+pub(crate) fn is_segment(class: Class) -> bool
     ensures { result ≡ is_entry_segment class }
 {
     match class {
@@ -385,7 +403,7 @@ fn entry_path(trees: &[TokenTree]) -> Result<&[TokenTree], &[TokenTree]>
     segments(separator(trees)?)
 }
 
-fn is_literal(class: Class) -> bool
+pub(crate) fn is_literal(class: Class) -> bool
     ensures { result ≡ is_literal class }
 {
     match class {
@@ -438,7 +456,7 @@ fn past_expression(trees: &[TokenTree]) -> Result<&[TokenTree], &[TokenTree]>
 }
 
 /// Whether the sign can go on after an operand but can begin no value: `=`, `>` or `->`.
-fn continues(class: Class) -> bool
+pub(crate) fn continues(class: Class) -> bool
     ensures { result ≡ continues class }
 {
     match class {

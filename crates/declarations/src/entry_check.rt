@@ -7,6 +7,8 @@ ghost use Rattle.declarations.specs.EntryCheck.{number_of, place_of, quoted};
 
 use crate::entry::{Entry, spot_of};
 use crate::entry_list::first_entry;
+use crate::expected::Expected;
+use crate::expected_text::write_expected;
 use crate::fault::{Fault, are_same, or_span};
 use pm_span::Span;
 use pm_stream::{Group, TokenTree};
@@ -38,6 +40,8 @@ pub struct EntryError<'a> {
     /// adds the span of the closing delimiter. In a group without delimiters it is that of a tree inside, as
     /// [`parse_entry`](crate::parse_entry) says.
     pub span: Option<Span>,
+    /// The signs that could come next, if there is no entry. Otherwise it is empty.
+    pub expected: Expected,
     /// The name of the unknown or repeated entry. It is `None` if the entry is a literal or a path of several segments,
     /// or if there is no entry.
     pub name: Option<&'a Ident>,
@@ -66,6 +70,7 @@ impl<'a> EntryError<'a> {
             problem: self.problem,
             at: self.at,
             span: or_span(self.span, Some(group.span_close())),
+            expected: self.expected,
             name: self.name,
             known: self.known,
         }
@@ -97,6 +102,7 @@ pub fn check_entries<'a>(list: &'a [TokenTree], known: &'a [&'a str]) -> Result<
                     let fault = Fault {
                         at: before,
                         span: spot_of(left, &entry),
+                        expected: Expected::nothing(),
                     };
                     return Err(wrong(EntryProblem::Unknown, fault, entry.name(), known));
                 }
@@ -104,6 +110,7 @@ pub fn check_entries<'a>(list: &'a [TokenTree], known: &'a [&'a str]) -> Result<
                     let fault = Fault {
                         at: before,
                         span: spot_of(left, &entry),
+                        expected: Expected::nothing(),
                     };
                     return Err(wrong(EntryProblem::Repeated, fault, entry.name(), known));
                 }
@@ -112,8 +119,12 @@ pub fn check_entries<'a>(list: &'a [TokenTree], known: &'a [&'a str]) -> Result<
             }
             Err(fault) => {
                 let at = before + fault.at;
-                let span = fault.span;
-                return Err(wrong(EntryProblem::NoEntry, Fault { at, span }, None, known));
+                let fault = Fault {
+                    at,
+                    span: fault.span,
+                    expected: fault.expected,
+                };
+                return Err(wrong(EntryProblem::NoEntry, fault, None, known));
             }
         }
     }
@@ -129,6 +140,7 @@ fn wrong<'a>(
     ensures problem { result.problem ≡ problem }
     ensures at { result.at ≡ fault.at }
     ensures span { result.span ≡ fault.span }
+    ensures expected { result.expected ≡ fault.expected }
     ensures name { result.name ≡ name.entry }
     ensures known { result.known.now ≡ known.now }
 {
@@ -136,6 +148,7 @@ fn wrong<'a>(
         problem,
         at: fault.at,
         span: fault.span,
+        expected: fault.expected,
         name,
         known,
     }
@@ -248,11 +261,12 @@ impl<'a> Display for EntryError<'a> {
     ghost use Rattle.std.specs.Prelude.{Some, option_copied};
     ghost use Rattle.declarations.specs.EntryCheck.{error_text};
 
-    ghost output = { λ error. Some (error_text error.problem (option_copied error.name) error.known.now) };
+    ghost output = { λ error.
+        Some (error_text error.problem error.expected (option_copied error.name) error.known.now) };
 
     fn fmt<W: fmt::Write>(&self, f: &mut fmt::Formatter<W>) -> fmt::Result {
         match self.problem {
-            EntryProblem::NoEntry => f.write_str("not expected here"),
+            EntryProblem::NoEntry => write_expected(self.expected, f),
             EntryProblem::Unknown => {
                 f.write_str("unknown entry")?;
                 write_name(self.name, f)?;

@@ -5,8 +5,11 @@ ghost use Rattle.declarations.specs.Entry.{IsEntryAt, IsEntryListFault};
 ghost use Rattle.declarations.specs.List.{AreInside, IsFirst};
 
 use crate::entry::{Entry, parse_entry};
+use crate::expected::Expected;
+use crate::explore::list_signs;
 use crate::fault::Fault;
 use crate::list::{fault_after, past_comma};
+use crate::syntax::ENTRY;
 use pm_span::Span;
 use pm_stream::{Group, TokenTree};
 
@@ -73,6 +76,14 @@ impl<'a> Iterator for Entries<'a> {
     }
 }
 
+/// The signs that could come next in a list of entries, at its error.
+#[cold]
+fn entries_signs(trees: &[TokenTree]) -> Expected
+    ensures { ListsSigns entry trees.now result }
+{
+    list_signs(&ENTRY, trees)
+}
+
 /// The first entry of a list, and the trees after its comma.
 pub(crate) fn first_entry(trees: &[TokenTree]) -> Result<(Entry<'_>, &[TokenTree]), Fault>
     ensures given { MatchResult result (λ found. IsFirst IsEntryAt trees.now found.0 found.1.now)
@@ -82,8 +93,12 @@ pub(crate) fn first_entry(trees: &[TokenTree]) -> Result<(Entry<'_>, &[TokenTree
     match parse_entry(trees) {
         Ok((entry, rest)) => match past_comma(rest) {
             Some(left) => Ok((entry, left)),
-            None => Err(fault_after(trees, rest)),
+            None => Err(fault_after(trees, rest, entries_signs(trees))),
         },
-        Err(fault) => Err(fault),
+        Err(fault) => Err(Fault {
+            at: fault.at,
+            span: fault.span,
+            expected: entries_signs(trees),
+        }),
     }
 }

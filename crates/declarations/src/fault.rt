@@ -1,10 +1,13 @@
 //! Errors in trees that the grammar does not accept.
-ghost use Rattle.std.specs.Prelude.{◌≡◌};
+ghost use Rattle.std.specs.Prelude.{◌≡◌, Some};
 ghost use Rattle.std.specs.Option.{option_eq};
 ghost use Rattle.declarations.specs.Ending.{closing_of, ending_at, or_extent};
 ghost use Rattle.declarations.specs.Fault.{first_extent};
 ghost use Rattle.pm_span.specs.Extent.{extent_eq};
+ghost use Rattle.pm_stream.specs.DelimSpan.{closing_span};
 
+use crate::expected::Expected;
+use crate::expected_text::write_expected;
 use pm_span::Span;
 use pm_stream::{Group, TokenTree};
 use std::error::Error;
@@ -28,19 +31,23 @@ pub struct Fault {
     /// The span of the first tree of that sign. If more trees are missing, it is that of the closing delimiter of the
     /// group that they are missing in, or `None` if the call was given no group.
     pub span: Option<Span>,
+    /// The signs that could come next: those that can come after the trees before the error, so that more trees can
+    /// complete what is read. The end is among them if nothing more need come.
+    pub expected: Expected,
 }
 
 impl Fault {
     /// The error after `at` trees, where `left` are the trees that remain.
-    pub(crate) fn ahead_of(at: usize, left: &[TokenTree]) -> Fault
+    pub(crate) fn ahead_of(at: usize, left: &[TokenTree], expected: Expected) -> Fault
         ensures at { result.at ≡ at }
         ensures span { result.span ≡ first_extent left.now }
+        ensures expected { result.expected ≡ expected }
     {
         let span = match left.split_first() {
             Some((tree, _)) => Some(tree.span()),
             None => None,
         };
-        Fault { at, span }
+        Fault { at, span, expected }
     }
 
     /// Returns the field [`span`](Fault::span): the span of the first tree that does not fit.
@@ -68,6 +75,7 @@ impl Fault {
         Fault {
             at: self.at,
             span: or_span(self.span, end),
+            expected: self.expected,
         }
     }
 }
@@ -81,7 +89,8 @@ impl PartialEq for Fault {
 
     ghost laws = { Prim.search (comparing, rules) };
 
-    /// Whether both errors have the same number of trees before them, and the same span or none.
+    /// Whether both errors have the same number of trees before them, and the same span or none. What is expected does
+    /// not matter.
     fn eq(&self, other: &Fault) -> bool {
         self.at == other.at && are_same(self.span, other.span)
     }
@@ -119,12 +128,15 @@ impl fmt::Display for Fault {
     ghost use Rattle.std.specs.Prelude.{Some};
     ghost use Rattle.declarations.specs.Fault.{fault_text};
 
-    ghost output = { λ fault. Some (fault_text fault.span) };
+    ghost output = { λ fault. Some (fault_text fault.span fault.expected) };
 
     fn fmt<W: fmt::Write>(&self, f: &mut fmt::Formatter<W>) -> fmt::Result {
         match self.span {
-            Some(_) => f.write_str("not expected here"),
-            None => f.write_str("the declaration ends too early"),
+            Some(_) => write_expected(self.expected, f),
+            None => {
+                f.write_str("the declaration ends too early: ")?;
+                write_expected(self.expected, f)
+            }
         }
     }
 }

@@ -2,8 +2,9 @@
 ghost use Rattle.std.specs.Prelude.{◌≡◌, [], IfErr, IfOk, List, MatchOption, None, Option, Some, length};
 ghost use Rattle.pm_stream.specs.declared.stream.TokenTree.{TokenTree as Tree};
 ghost use Rattle.pm_token.specs.Leaf.{Name};
+ghost use Rattle.declarations.specs.Expected.{Expects};
 ghost use Rattle.declarations.specs.Fault.{extent_at};
-ghost use Rattle.declarations.specs.File.{FileFaultAt, IsFile, body_of, braces, last_braces};
+ghost use Rattle.declarations.specs.File.{FileExpects, FileFaultAt, IsFile, body_of, braces, last_braces};
 ghost use Rattle.declarations.specs.Forms.{IsAnyItem};
 ghost use Rattle.declarations.specs.Kind.{Tells};
 ghost use Rattle.declarations.specs.Reading.{FaultAt};
@@ -48,6 +49,7 @@ pub fn parse_file(trees: &[TokenTree]) -> Result<File<'_>, Fault>
     ensures ok { IfOk result (λ file. IsFile trees.now file.inner.now file.items.left.now) }
     ensures fault { IfErr result (λ fault. FileFaultAt trees.now fault.at) }
     ensures span { IfErr result (λ fault. fault.span ≡ extent_at trees.now fault.at) }
+    ensures expected { IfErr result (λ fault. FileExpects trees.now fault.at fault.expected) }
     ensures none { IfErr result (λ fault. (inner : List Tree) → (items : List Tree) → IsFile trees.now inner items
         → ⊥) }
 {
@@ -61,6 +63,7 @@ pub fn parse_file(trees: &[TokenTree]) -> Result<File<'_>, Fault>
                 return Err(Fault {
                     at,
                     span: fault.span,
+                    expected: fault.expected,
                 });
             }
         }
@@ -83,6 +86,7 @@ pub fn parse_item(trees: &[TokenTree]) -> Result<AnyItem<'_>, Fault>
         × MatchOption item.name (name ≡ None) (λ ident. name ≡ Some ident.now)) }
     ensures fault { IfErr result (λ fault. FaultAt (IsWhole IsAnyItem) trees.now fault.at) }
     ensures span { IfErr result (λ fault. fault.span ≡ extent_at trees.now fault.at) }
+    ensures expected { IfErr result (λ fault. Expects IsAnyItem trees.now fault.at fault.expected) }
 {
     let start = Place {
         item: Item::Alone,

@@ -4,9 +4,11 @@ ghost use Rattle.grammars.specs.Grammar.{Sign, perhaps};
 ghost use Rattle.pm_stream.specs.declared.stream.Group.{Group as Grouped};
 ghost use Rattle.pm_stream.specs.declared.stream.TokenTree.{TokenTree as Tree};
 ghost use Rattle.pm_stream.specs.declared.stream.TokenTree.TheVariants as trees_are;
+ghost use Rattle.declarations.specs.Expected.{Expects};
 ghost use Rattle.declarations.specs.Fault.{extent_at};
 ghost use Rattle.declarations.specs.Function.{AreParentheses, HasBody, HasEnd, HasFunctionParts, HasReturn};
 ghost use Rattle.declarations.specs.Function.{IsFunction, IsNameAt};
+ghost use Rattle.declarations.specs.ListExpected.{RuleSigns};
 ghost use Rattle.declarations.specs.Reader.{Finds, ReadsRule, Sticks};
 ghost use Rattle.declarations.specs.Reading.{FaultAt};
 ghost use Rattle.declarations.specs.Whole.{IsWhole};
@@ -19,12 +21,15 @@ ghost use Rattle.declarations.specs.rules.Parts.{generics, visibility, where_cla
 ghost use Rattle.declarations.specs.rules.Pieces.{ByRule};
 
 use crate::class::{Class, Keyword, Word};
+use crate::expected::Expected;
+use crate::explore::rule_signs;
 use crate::fault::Fault;
 use crate::item::{split_group, split_name, split_parentheses};
 use crate::parameter::{past_attributes, past_type};
 use crate::place::{Item, Place, Rule, Spot, State};
 use crate::reader::{begins_identifier, begins_mark, is, part, past};
 use crate::signs::{first_sign, name_class};
+use crate::syntax::FUNCTION;
 use crate::walk::walk_past;
 use pm_stream::{Group, TokenTree};
 use pm_token::{Delimiter, Ident};
@@ -73,17 +78,26 @@ pub fn parse_function(trees: &[TokenTree]) -> Result<Function<'_>, Fault>
     ensures ok { IfOk result (λ function. IsFunction trees.now function) }
     ensures fault { IfErr result (λ fault. FaultAt (IsWhole (ByRule function_item)) trees.now fault.at) }
     ensures span { IfErr result (λ fault. fault.span ≡ extent_at trees.now fault.at) }
+    ensures expected { IfErr result (λ fault. Expects (ByRule function_item) trees.now fault.at fault.expected) }
 {
     match function_of(trees) {
         Ok((function, rest)) => {
             if rest.is_empty() {
                 Ok(function)
             } else {
-                Err(Fault::ahead_of(trees.len() - rest.len(), rest))
+                Err(Fault::ahead_of(trees.len() - rest.len(), rest, function_signs(trees)))
             }
         }
-        Err(left) => Err(Fault::ahead_of(trees.len() - left.len(), left)),
+        Err(left) => Err(Fault::ahead_of(trees.len() - left.len(), left, function_signs(trees))),
     }
+}
+
+/// The signs that could come next where the trees are no function, or after the function.
+#[cold]
+fn function_signs(trees: &[TokenTree]) -> Expected
+    ensures { RuleSigns function_item trees.now result }
+{
+    rule_signs(&FUNCTION, trees)
 }
 
 /// Reads the function at the start of the trees. Returns it and the trees after it, or the trees from the error on.
@@ -198,7 +212,7 @@ fn may(trees: &[TokenTree], class: Class) -> &[TokenTree]
 }
 
 /// Whether the sign is `unsafe` or `safe`.
-fn is_safe(class: Class) -> bool
+pub(crate) fn is_safe(class: Class) -> bool
     ensures { result ≡ is_safe class }
 {
     match class {
@@ -249,7 +263,7 @@ fn past_qualifiers(trees: &[TokenTree]) -> &[TokenTree]
 // ---- the name and the parameters
 
 /// Whether the sign can name a function. A keyword cannot.
-fn is_name(class: Class) -> bool
+pub(crate) fn is_name(class: Class) -> bool
     ensures { result ≡ is_word class }
 {
     match class {

@@ -17,12 +17,14 @@ ghost use Rattle.declarations.specs.rules.Types.{bounds, type};
 ghost use Rattle.declarations.specs.declared.class.Class.TheVariants as signs;
 
 use crate::class::Class;
+use crate::explore::{list_signs, rule_signs};
 use crate::fault::Fault;
 use crate::list::{fault_after, past_comma};
 use crate::parameter::past_type;
 use crate::range::past_range;
 use crate::reader::{begins, is, part, past};
 use crate::signs::first_sign;
+use crate::syntax::ARGUMENT;
 use crate::types::TypeState;
 use pm_stream::TokenTree;
 
@@ -72,7 +74,10 @@ pub fn parse_generic_argument(
 {
     match argument_of(trees) {
         Ok((argument, rest)) => Ok((argument, rest)),
-        Err(left) => Err(Fault::ahead_of(trees.len() - left.len(), left)),
+        Err(left) => {
+            let signs = rule_signs(&ARGUMENT, trees);
+            Err(Fault::ahead_of(trees.len() - left.len(), left, signs))
+        }
     }
 }
 
@@ -140,9 +145,13 @@ fn first_argument(trees: &[TokenTree]) -> Result<(GenericArgument<'_>, &[TokenTr
     match parse_generic_argument(trees) {
         Ok((argument, rest)) => match past_comma(rest) {
             Some(left) => Ok((argument, left)),
-            None => Err(fault_after(trees, rest)),
+            None => Err(fault_after(trees, rest, list_signs(&ARGUMENT, trees))),
         },
-        Err(fault) => Err(fault),
+        Err(fault) => Err(Fault {
+            at: fault.at,
+            span: fault.span,
+            expected: list_signs(&ARGUMENT, trees),
+        }),
     }
 }
 

@@ -1,13 +1,24 @@
 //! Generic parameters and the predicates of where clauses, one at a time.
-ghost use Rattle.std.specs.Prelude.{◌≡◌, ◌<◌, ◌≤◌, IfErr, IfOk, List, length};
+ghost use Rattle.std.specs.Prelude.{◌≡◌, ◌<◌, ◌≤◌, ◌||◌, false, true, IfErr, IfOk, List, length};
 ghost use Rattle.pm_stream.specs.declared.stream.TokenTree.{TokenTree as Tree};
+ghost use Rattle.declarations.specs.Expected.{Expects, HasSigns};
 ghost use Rattle.declarations.specs.Fault.{extent_at};
 ghost use Rattle.declarations.specs.Param.{IsAfterWhere, IsOnlyParam, IsOnlyPredicate, IsParamAt, IsPredicateAt};
 ghost use Rattle.declarations.specs.Param.{IsWithin, ParamTrees, PredicateTrees, is_mark_of, param_trees};
 ghost use Rattle.declarations.specs.Param.{predicate_trees};
+ghost use Rattle.declarations.specs.rules.Classes.{is};
+ghost use Rattle.declarations.specs.rules.Names.{listed};
+ghost use Rattle.declarations.specs.rules.Parts.{parameters, predicate};
+ghost use Rattle.declarations.specs.rules.Pieces.{ByRule};
+ghost use Rattle.declarations.specs.declared.class.Class.TheVariants as signs;
+ghost use Rattle.declarations.specs.declared.class.Keyword.TheVariants as keywords;
 
+use crate::class::{Class, Keyword};
+use crate::expected::Expected;
+use crate::explore::explore;
 use crate::fault::Fault;
 use crate::param_parts::{param_of, predicate_of};
+use crate::syntax::{GENERIC, PREDICATE, Syntax};
 use pm_stream::TokenTree;
 
 /// The kind of a generic parameter.
@@ -58,12 +69,37 @@ pub fn within_generics(generics: &[TokenTree]) -> Result<&[TokenTree], Fault>
         return Ok(generics);
     };
     if !is_mark_of('<', open) {
-        return Err(Fault::ahead_of(0, generics));
+        return Err(Fault::ahead_of(0, generics, opening()));
     }
     match rest.split_last() {
         Some((close, inside)) if is_mark_of('>', close) => Ok(inside),
-        _ => Err(Fault::ahead_of(generics.len(), generics.split_at(generics.len()).1)),
+        _ => Err(Fault::ahead_of(
+            generics.len(),
+            generics.split_at(generics.len()).1,
+            Expected::nothing().with(Class::Greater),
+        )),
     }
+}
+
+/// `<` or the end.
+#[cold]
+fn opening() -> Expected
+    ensures { HasSigns result (λ class. is signs.LessJoint class || (is signs.Less class || false)) true }
+{
+    Expected::nothing()
+        .with(Class::Less)
+        .with(Class::LessJoint)
+        .with_end()
+}
+
+/// `where` or the end.
+#[cold]
+fn clause_start() -> Expected
+    ensures { HasSigns result (λ class. is (signs.Keyword keywords.Where) class || false) true }
+{
+    Expected::nothing()
+        .with(Class::Keyword(Keyword::Where))
+        .with_end()
 }
 
 /// Returns the trees after the `where` of an item's where clause.
@@ -78,8 +114,30 @@ pub fn after_where(where_clause: &[TokenTree]) -> Result<&[TokenTree], Fault>
     match where_clause.split_first() {
         None => Ok(where_clause),
         Some((TokenTree::Ident(word), rest)) if word.eq_str("where") => Ok(rest),
-        Some(_) => Err(Fault::ahead_of(0, where_clause)),
+        Some(_) => Err(Fault::ahead_of(0, where_clause, clause_start())),
     }
+}
+
+/// The error of a list of generic parameters.
+#[cold]
+fn params_fault(trees: &[TokenTree]) -> Fault
+    ensures within { result.at ≤ length trees.now }
+    ensures span { result.span ≡ extent_at trees.now result.at }
+    ensures expected { Expects (ByRule parameters) trees.now result.at result.expected }
+{
+    let seen = explore(&Syntax::List(&GENERIC), trees);
+    Fault::ahead_of(trees.len() - seen.left.len(), seen.left, seen.next)
+}
+
+/// The error of a list of predicates.
+#[cold]
+fn predicates_fault(trees: &[TokenTree]) -> Fault
+    ensures within { result.at ≤ length trees.now }
+    ensures span { result.span ≡ extent_at trees.now result.at }
+    ensures expected { Expects (ByRule (listed predicate)) trees.now result.at result.expected }
+{
+    let seen = explore(&Syntax::List(&PREDICATE), trees);
+    Fault::ahead_of(trees.len() - seen.left.len(), seen.left, seen.next)
 }
 
 /// Returns the parts of the generic parameter at the start of the trees, and the trees after its `,`.
@@ -100,10 +158,11 @@ pub fn parse_param(trees: &[TokenTree]) -> Result<(Param<'_>, &[TokenTree]), Fau
         → IsParamAt trees.now param rest → ⊥) }
     ensures within { IfErr result (λ fault. fault.at ≤ length trees.now) }
     ensures span { IfErr result (λ fault. fault.span ≡ extent_at trees.now fault.at) }
+    ensures expected { IfErr result (λ fault. Expects (ByRule parameters) trees.now fault.at fault.expected) }
 {
     match param_of(trees) {
         Ok(found) => Ok(found),
-        Err(left) => Err(Fault::ahead_of(trees.len() - left.len(), left)),
+        Err(_) => Err(params_fault(trees)),
     }
 }
 
@@ -120,10 +179,11 @@ pub fn parse_predicate(trees: &[TokenTree]) -> Result<(Predicate<'_>, &[TokenTre
         → IsPredicateAt trees.now predicate rest → ⊥) }
     ensures within { IfErr result (λ fault. fault.at ≤ length trees.now) }
     ensures span { IfErr result (λ fault. fault.span ≡ extent_at trees.now fault.at) }
+    ensures expected { IfErr result (λ fault. Expects (ByRule (listed predicate)) trees.now fault.at fault.expected) }
 {
     match predicate_of(trees) {
         Ok(found) => Ok(found),
-        Err(left) => Err(Fault::ahead_of(trees.len() - left.len(), left)),
+        Err(_) => Err(predicates_fault(trees)),
     }
 }
 

@@ -4,6 +4,7 @@ ghost use Rattle.pm_stream.specs.declared.stream.Group.{Group as Grouped};
 ghost use Rattle.pm_stream.specs.declared.stream.TokenTree.{TokenTree as Tree};
 ghost use Rattle.pm_stream.specs.declared.stream.TokenTree.TheVariants as trees_are;
 ghost use Rattle.pm_token.specs.Leaf.{Name};
+ghost use Rattle.declarations.specs.Expected.{Expects};
 ghost use Rattle.declarations.specs.Fault.{extent_at};
 ghost use Rattle.declarations.specs.Forms.{IsFrom, IsItem};
 ghost use Rattle.declarations.specs.Item.{AreBracesLeft, HasBraces, HasEnding, IsLeft, IsTypeItem, behind_generics};
@@ -14,6 +15,7 @@ ghost use Rattle.declarations.specs.declared.class.Keyword.TheVariants as keywor
 ghost use Rattle.declarations.specs.declared.place.Item.TheVariants as items;
 
 use crate::class::{Class, Keyword};
+use crate::expected::Expected;
 use crate::fault::Fault;
 use crate::parts::{split_attributes, split_generics, split_visibility, split_where};
 use crate::place::{Item, Part, Place, Rule, Spot, State};
@@ -82,6 +84,7 @@ pub fn parse_type_item(trees: &[TokenTree]) -> Result<TypeItem<'_>, Fault>
     ensures ok { IfOk result (λ item. IsTypeItem trees.now item) }
     ensures fault { IfErr result (λ fault. FaultAt (IsWhole IsItem) trees.now fault.at) }
     ensures span { IfErr result (λ fault. fault.span ≡ extent_at trees.now fault.at) }
+    ensures expected { IfErr result (λ fault. Expects IsItem trees.now fault.at fault.expected) }
 {
     let start = Place {
         item: Item::Alone,
@@ -201,7 +204,7 @@ fn braces_of(trees: &[TokenTree]) -> Result<(&[TokenTree], &Group, &[TokenTree])
     let (where_clause, rest) = split_where(trees)?;
     match split_group(rest) {
         Some((group, after)) => Ok((where_clause, group, after)),
-        None => Err(Fault::ahead_of(0, rest)),
+        None => Err(Fault::ahead_of(0, rest, Expected::nothing())),
     }
 }
 
@@ -213,7 +216,7 @@ pub(crate) fn split_name(trees: &[TokenTree]) -> Result<(&Ident, &[TokenTree]), 
 {
     match trees.split_first() {
         Some((TokenTree::Ident(name), rest)) => Ok((name, rest)),
-        _ => Err(Fault::ahead_of(0, trees)),
+        _ => Err(Fault::ahead_of(0, trees, Expected::nothing())),
     }
 }
 

@@ -2,16 +2,23 @@
 ghost use Rattle.std.specs.Prelude.{◌≡◌, ◌-◌, ◌≤◌, ◌<◌, IfErr, IfNone, IfOk, IfSome, List, MatchResult, length, true};
 ghost use Rattle.pm_stream.specs.declared.stream.TokenTree.{TokenTree as Tree};
 ghost use Rattle.declarations.specs.Ending.{closing_fields, closing_of};
+ghost use Rattle.declarations.specs.Expected.{Expects};
 ghost use Rattle.declarations.specs.Fault.{extent_at, first_extent};
 ghost use Rattle.declarations.specs.Forms.{IsVariant};
 ghost use Rattle.declarations.specs.List.{AreInside, IsFirst, IsFieldOf, IsListFault, IsPastComma, ListsFields};
-ghost use Rattle.declarations.specs.List.{field_form};
+ghost use Rattle.declarations.specs.List.{field_form, field_rule, fields_form};
+ghost use Rattle.declarations.specs.ListExpected.{ListsSigns};
 ghost use Rattle.declarations.specs.Reading.{FaultAt};
 ghost use Rattle.declarations.specs.Variant.{IsVariantAt};
+ghost use Rattle.declarations.specs.rules.Parts.{variant, variants};
+ghost use Rattle.declarations.specs.rules.Pieces.{ByRule};
 
+use crate::expected::Expected;
+use crate::explore::list_signs;
 use crate::fault::Fault;
 use crate::field::{Field, parse_field, parse_tuple_field};
 use crate::item::Fields;
+use crate::syntax::{Syntax, Table};
 use crate::variant::{Variant, parse_variant};
 use pm_span::Span;
 use pm_stream::{Group, TokenTree};
@@ -159,18 +166,43 @@ impl<'a> Iterator for VariantList<'a> {
     }
 }
 
+/// The signs that could come next in a list of fields, at its error.
+#[cold]
+fn fields_signs(named: bool, trees: &[TokenTree]) -> Expected
+    ensures { ListsSigns (field_rule named) trees.now result }
+{
+    if named {
+        list_signs(&Syntax::Table(Table::Field), trees)
+    } else {
+        list_signs(&Syntax::Table(Table::TupleField), trees)
+    }
+}
+
+/// The signs that could come next in a list of variants, at its error.
+#[cold]
+fn variants_signs(trees: &[TokenTree]) -> Expected
+    ensures { ListsSigns variant trees.now result }
+{
+    list_signs(&Syntax::Table(Table::Variant), trees)
+}
+
 /// The first field of a list, and the trees after its comma.
 fn first_field(named: bool, trees: &[TokenTree]) -> Result<(Field<'_>, &[TokenTree]), Fault>
     ensures given { MatchResult result (λ found. IsFirst (IsFieldOf named) trees.now found.0 found.1.now)
         (λ fault. IsListFault (field_form named) trees.now fault) }
+    ensures expected { IfErr result (λ fault. Expects (fields_form named) trees.now fault.at fault.expected) }
     ensures fewer { IfOk result (λ found. length found.1.now < length trees.now) }
 {
     match field_at(named, trees) {
         Ok((field, rest)) => match past_comma(rest) {
             Some(left) => Ok((field, left)),
-            None => Err(fault_after(trees, rest)),
+            None => Err(fault_after(trees, rest, fields_signs(named, trees))),
         },
-        Err(fault) => Err(fault),
+        Err(fault) => Err(Fault {
+            at: fault.at,
+            span: fault.span,
+            expected: fields_signs(named, trees),
+        }),
     }
 }
 
@@ -191,24 +223,30 @@ fn field_at(named: bool, trees: &[TokenTree]) -> Result<(Field<'_>, &[TokenTree]
 fn first_variant(trees: &[TokenTree]) -> Result<(Variant<'_>, &[TokenTree]), Fault>
     ensures given { MatchResult result (λ found. IsFirst IsVariantAt trees.now found.0 found.1.now)
         (λ fault. IsListFault IsVariant trees.now fault) }
+    ensures expected { IfErr result (λ fault. Expects (ByRule variants) trees.now fault.at fault.expected) }
     ensures fewer { IfOk result (λ found. length found.1.now < length trees.now) }
 {
     match parse_variant(trees) {
         Ok((variant, rest)) => match past_comma(rest) {
             Some(left) => Ok((variant, left)),
-            None => Err(fault_after(trees, rest)),
+            None => Err(fault_after(trees, rest, variants_signs(trees))),
         },
-        Err(fault) => Err(fault),
+        Err(fault) => Err(Fault {
+            at: fault.at,
+            span: fault.span,
+            expected: variants_signs(trees),
+        }),
     }
 }
 
 /// The error before `rest`, which are the last of the trees.
-pub(crate) fn fault_after(trees: &[TokenTree], rest: &[TokenTree]) -> Fault
+pub(crate) fn fault_after(trees: &[TokenTree], rest: &[TokenTree], expected: Expected) -> Fault
     requires { length rest.now ≤ length trees.now }
     ensures at { result.at ≡ length trees.now - length rest.now }
     ensures span { result.span ≡ first_extent rest.now }
+    ensures expected { result.expected ≡ expected }
 {
-    Fault::ahead_of(trees.len() - rest.len(), rest)
+    Fault::ahead_of(trees.len() - rest.len(), rest, expected)
 }
 
 /// The trees after the comma that they begin with, or no trees if there are none.

@@ -13,18 +13,21 @@ use pm_token::{Delimiter, Spacing};
 use std::alloc::{AllocError, Global};
 
 impl Fault {
-    /// Returns code that makes the compiler report this error: `::core::compile_error! { "not expected here" }`.
+    /// Returns code that makes the compiler report this error: `::core::compile_error! { "expected `:`" }`.
     ///
     /// The text is that of `Display`. Each tree of the code has the span of the error, or the call site if trees are
     /// missing. Fails if it runs out of memory.
     pub fn to_compile_error(&self, alloc: Global) -> Result<TokenStream, AllocError>
         ensures { IfOk result (λ stream.
-            stream ≡ forest (compile_error (fault_text self.now.span) (told_at self.now.span))) }
+            stream ≡ forest
+            (compile_error (chars (fault_text self.now.span self.now.expected)) (told_at self.now.span))) }
     {
-        match self.span {
-            Some(span) => compile_error(alloc, "not expected here", span),
-            None => compile_error(alloc, "the declaration ends too early", Span::call_site()),
-        }
+        let span = match self.span {
+            Some(span) => span,
+            None => Span::call_site(),
+        };
+        let text = format!(in alloc; "{self}")?;
+        compile_error(alloc, text.as_str(), span)
     }
 }
 

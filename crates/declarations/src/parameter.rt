@@ -4,8 +4,10 @@ ghost use Rattle.grammars.specs.First.{heads};
 ghost use Rattle.grammars.specs.Grammar.{perhaps};
 ghost use Rattle.declarations.specs.Ending.{closing_of};
 ghost use Rattle.declarations.specs.Entry.{IsOnlyRest};
+ghost use Rattle.declarations.specs.Expected.{Expects};
 ghost use Rattle.declarations.specs.Fault.{extent_at};
 ghost use Rattle.declarations.specs.List.{AreInside, IsFirst, IsListFault};
+ghost use Rattle.declarations.specs.ListExpected.{ListsSigns, RuleSigns};
 ghost use Rattle.declarations.specs.Parameter.{IsParameterAt, ReadsEnd, ReadsFront, ReadsNamed, ReadsParameter};
 ghost use Rattle.declarations.specs.Parameter.{ReadsPattern, ReadsTyped, left_of};
 ghost use Rattle.declarations.specs.Reader.{Finds, ReadsRule, classes_in};
@@ -13,7 +15,8 @@ ghost use Rattle.declarations.specs.Reading.{FaultAt, IsOnly, Reads};
 ghost use Rattle.declarations.specs.rules.Classes.{opens};
 ghost use Rattle.declarations.specs.rules.Names.{one};
 ghost use Rattle.declarations.specs.rules.Parameters.{after_and, after_and_mut, after_mut, continues, dots};
-ghost use Rattle.declarations.specs.rules.Parameters.{function_parameter, is_pattern, may_mutate, named_parameter};
+ghost use Rattle.declarations.specs.rules.Parameters.{function_parameter, function_parameters, is_pattern};
+ghost use Rattle.declarations.specs.rules.Parameters.{may_mutate, named_parameter};
 ghost use Rattle.declarations.specs.rules.Parameters.{parameter_rest, pattern, pattern_angle, pattern_rest};
 ghost use Rattle.declarations.specs.rules.Parameters.{pattern_sign, pattern_signs, receiver, referred};
 ghost use Rattle.declarations.specs.rules.Parameters.{self_type, two_dots, typed};
@@ -24,11 +27,14 @@ ghost use Rattle.declarations.specs.declared.class.Class.TheVariants as signs;
 ghost use Rattle.declarations.specs.declared.parameter.Shape.TheVariants as shapes;
 
 use crate::class::{Class, Keyword};
+use crate::expected::Expected;
+use crate::explore::{list_signs, rule_signs};
 use crate::fault::Fault;
 use crate::list::{fault_after, past_comma};
 use crate::range::past_range;
 use crate::reader::{begins, begins_mark, is, part, past};
 use crate::signs::first_sign;
+use crate::syntax::{PARAMETER, PATTERN};
 use crate::types::TypeState;
 use pm_span::Span;
 use pm_stream::{Group, TokenTree};
@@ -69,7 +75,7 @@ pub enum Shape {
 }
 
 /// Whether a pattern can begin with the sign, apart from angle brackets.
-fn is_pattern(class: Class) -> bool
+pub(crate) fn is_pattern(class: Class) -> bool
     ensures { result ≡ is_pattern class }
 {
     match class {
@@ -83,7 +89,7 @@ fn is_pattern(class: Class) -> bool
 }
 
 /// Whether the sign can be in a pattern after its first sign.
-fn continues(class: Class) -> bool
+pub(crate) fn continues(class: Class) -> bool
     ensures { result ≡ continues class }
 {
     match class {
@@ -92,7 +98,7 @@ fn continues(class: Class) -> bool
     }
 }
 
-fn opens(class: Class) -> bool
+pub(crate) fn opens(class: Class) -> bool
     ensures { result ≡ opens class }
 {
     match class {
@@ -512,6 +518,30 @@ fn parameter_of(trees: &[TokenTree]) -> Result<(Parameter<'_>, &[TokenTree]), &[
     }
 }
 
+/// The signs that could come next where the trees begin with no parameter.
+#[cold]
+fn parameter_signs(trees: &[TokenTree]) -> Expected
+    ensures { RuleSigns function_parameter trees.now result }
+{
+    rule_signs(&PARAMETER, trees)
+}
+
+/// The signs that could come next where the trees begin with no pattern.
+#[cold]
+fn pattern_signs_at(trees: &[TokenTree]) -> Expected
+    ensures { RuleSigns pattern trees.now result }
+{
+    rule_signs(&PATTERN, trees)
+}
+
+/// The signs that could come next in a list of parameters, at its error.
+#[cold]
+fn parameters_signs(trees: &[TokenTree]) -> Expected
+    ensures { ListsSigns function_parameter trees.now result }
+{
+    list_signs(&PARAMETER, trees)
+}
+
 /// Returns the parameter of a function at the start of the trees, and the trees after it.
 ///
 /// Pass the trees in the parentheses of a function, or the rest that an earlier call returned. A parameter has
@@ -527,10 +557,11 @@ pub fn parse_parameter(trees: &[TokenTree]) -> Result<(Parameter<'_>, &[TokenTre
     ensures fewer { IfOk result (λ found. length found.1.now < length trees.now) }
     ensures fault { IfErr result (λ fault. FaultAt (ByRule function_parameter) trees.now fault.at) }
     ensures span { IfErr result (λ fault. fault.span ≡ extent_at trees.now fault.at) }
+    ensures expected { IfErr result (λ fault. Expects (ByRule function_parameter) trees.now fault.at fault.expected) }
 {
     match parameter_of(trees) {
         Ok((parameter, rest)) => Ok((parameter, rest)),
-        Err(left) => Err(Fault::ahead_of(trees.len() - left.len(), left)),
+        Err(left) => Err(Fault::ahead_of(trees.len() - left.len(), left, parameter_signs(trees))),
     }
 }
 
@@ -546,10 +577,11 @@ pub fn split_pattern(trees: &[TokenTree]) -> Result<(&[TokenTree], &[TokenTree])
     ensures only { IfOk result (λ found. IsOnly (ByRule pattern) trees.now found.0.now found.1.now) }
     ensures fault { IfErr result (λ fault. FaultAt (ByRule pattern) trees.now fault.at) }
     ensures span { IfErr result (λ fault. fault.span ≡ extent_at trees.now fault.at) }
+    ensures expected { IfErr result (λ fault. Expects (ByRule pattern) trees.now fault.at fault.expected) }
 {
     match past_pattern(trees) {
         Ok(rest) => Ok((part(trees, rest), rest)),
-        Err(left) => Err(Fault::ahead_of(trees.len() - left.len(), left)),
+        Err(left) => Err(Fault::ahead_of(trees.len() - left.len(), left, pattern_signs_at(trees))),
     }
 }
 
@@ -619,13 +651,18 @@ impl<'a> Iterator for Parameters<'a> {
 fn first_parameter(trees: &[TokenTree]) -> Result<(Parameter<'_>, &[TokenTree]), Fault>
     ensures given { MatchResult result (λ found. IsFirst IsParameterAt trees.now found.0 found.1.now)
         (λ fault. IsListFault (ByRule function_parameter) trees.now fault) }
+    ensures expected { IfErr result (λ fault. Expects (ByRule function_parameters) trees.now fault.at fault.expected) }
     ensures fewer { IfOk result (λ found. length found.1.now < length trees.now) }
 {
     match parse_parameter(trees) {
         Ok((parameter, rest)) => match past_comma(rest) {
             Some(left) => Ok((parameter, left)),
-            None => Err(fault_after(trees, rest)),
+            None => Err(fault_after(trees, rest, parameters_signs(trees))),
         },
-        Err(fault) => Err(fault),
+        Err(fault) => Err(Fault {
+            at: fault.at,
+            span: fault.span,
+            expected: parameters_signs(trees),
+        }),
     }
 }

@@ -1,16 +1,19 @@
 //! Calls that split a part of a declaration off the start of trees.
 ghost use Rattle.std.specs.Prelude.{◌≡◌, IfErr, IfOk};
+ghost use Rattle.declarations.specs.Expected.{Expects};
 ghost use Rattle.declarations.specs.Fault.{extent_at};
 ghost use Rattle.declarations.specs.Forms.{AreAttributes, AreBounds, AreFields, AreGenerics, AreTupleFields, IsField};
 ghost use Rattle.declarations.specs.Forms.{IsItem, IsTupleField, IsType, IsVisibility, IsWhere};
 ghost use Rattle.declarations.specs.Forms.{AreInnerAttributes, AreVariants, IsExpression, IsFrom, IsVariant, start};
 ghost use Rattle.declarations.specs.Reading.{FaultAt, IsOnly, Reads};
 
+use crate::explore::rule_signs;
 use crate::fault::Fault;
 use crate::function::{past_generics, past_visibility, past_where};
 use crate::parameter::past_attributes;
 use crate::place::{Item, Part, Place, Rule, Spot, State};
 use crate::reader::part;
+use crate::syntax::{Syntax, Table};
 use crate::types::TypeState;
 use crate::walk::split_from;
 use pm_stream::TokenTree;
@@ -25,6 +28,7 @@ fn split_alone<'a>(
     ensures only { IfOk result (λ found. IsOnly (IsFrom (start rule state)) trees.now found.0.now found.1.now) }
     ensures fault { IfErr result (λ fault. FaultAt (IsFrom (start rule state)) trees.now fault.at) }
     ensures span { IfErr result (λ fault. fault.span ≡ extent_at trees.now fault.at) }
+    ensures expected { IfErr result (λ fault. Expects (IsFrom (start rule state)) trees.now fault.at fault.expected) }
 {
     let start = Place {
         item: Item::Alone,
@@ -44,6 +48,7 @@ fn split_pair<'a>(
     ensures only { IfOk result (λ found. IsOnly (IsFrom start) trees.now found.0.now found.1.now) }
     ensures fault { IfErr result (λ fault. FaultAt (IsFrom start) trees.now fault.at) }
     ensures span { IfErr result (λ fault. fault.span ≡ extent_at trees.now fault.at) }
+    ensures expected { IfErr result (λ fault. Expects (IsFrom start) trees.now fault.at fault.expected) }
 {
     let split = split_from(trees, start)?;
     Ok((split.part, split.rest))
@@ -58,6 +63,7 @@ pub fn split_type(trees: &[TokenTree]) -> Result<(&[TokenTree], &[TokenTree]), F
     ensures only { IfOk result (λ found. IsOnly IsType trees.now found.0.now found.1.now) }
     ensures fault { IfErr result (λ fault. FaultAt IsType trees.now fault.at) }
     ensures span { IfErr result (λ fault. fault.span ≡ extent_at trees.now fault.at) }
+    ensures expected { IfErr result (λ fault. Expects IsType trees.now fault.at fault.expected) }
 {
     split_alone(trees, Rule::Alone, State::Range(TypeState::Wanted))
 }
@@ -70,6 +76,7 @@ pub fn split_bounds(trees: &[TokenTree]) -> Result<(&[TokenTree], &[TokenTree]),
     ensures only { IfOk result (λ found. IsOnly AreBounds trees.now found.0.now found.1.now) }
     ensures fault { IfErr result (λ fault. FaultAt AreBounds trees.now fault.at) }
     ensures span { IfErr result (λ fault. fault.span ≡ extent_at trees.now fault.at) }
+    ensures expected { IfErr result (λ fault. Expects AreBounds trees.now fault.at fault.expected) }
 {
     split_alone(trees, Rule::Alone, State::Range(TypeState::Bound))
 }
@@ -83,10 +90,15 @@ pub fn split_attributes(trees: &[TokenTree]) -> Result<(&[TokenTree], &[TokenTre
     ensures only { IfOk result (λ found. IsOnly AreAttributes trees.now found.0.now found.1.now) }
     ensures fault { IfErr result (λ fault. FaultAt AreAttributes trees.now fault.at) }
     ensures span { IfErr result (λ fault. fault.span ≡ extent_at trees.now fault.at) }
+    ensures expected { IfErr result (λ fault. Expects AreAttributes trees.now fault.at fault.expected) }
 {
     match past_attributes(trees) {
         Ok(rest) => Ok((part(trees, rest), rest)),
-        Err(left) => Err(Fault::ahead_of(trees.len() - left.len(), left)),
+        Err(left) => Err(Fault::ahead_of(
+            trees.len() - left.len(),
+            left,
+            rule_signs(&Syntax::Table(Table::Attributes), trees),
+        )),
     }
 }
 
@@ -100,10 +112,15 @@ pub fn split_visibility(trees: &[TokenTree]) -> Result<(&[TokenTree], &[TokenTre
     ensures only { IfOk result (λ found. IsOnly IsVisibility trees.now found.0.now found.1.now) }
     ensures fault { IfErr result (λ fault. FaultAt IsVisibility trees.now fault.at) }
     ensures span { IfErr result (λ fault. fault.span ≡ extent_at trees.now fault.at) }
+    ensures expected { IfErr result (λ fault. Expects IsVisibility trees.now fault.at fault.expected) }
 {
     match past_visibility(trees) {
         Ok(rest) => Ok((part(trees, rest), rest)),
-        Err(left) => Err(Fault::ahead_of(trees.len() - left.len(), left)),
+        Err(left) => Err(Fault::ahead_of(
+            trees.len() - left.len(),
+            left,
+            rule_signs(&Syntax::Table(Table::Visibility), trees),
+        )),
     }
 }
 
@@ -115,6 +132,7 @@ pub fn split_field(trees: &[TokenTree]) -> Result<(&[TokenTree], &[TokenTree]), 
     ensures only { IfOk result (λ found. IsOnly IsField trees.now found.0.now found.1.now) }
     ensures fault { IfErr result (λ fault. FaultAt IsField trees.now fault.at) }
     ensures span { IfErr result (λ fault. fault.span ≡ extent_at trees.now fault.at) }
+    ensures expected { IfErr result (λ fault. Expects IsField trees.now fault.at fault.expected) }
 {
     split_alone(trees, Rule::Alone, State::At(Spot::Before(Part::Field)))
 }
@@ -127,6 +145,7 @@ pub fn split_tuple_field(trees: &[TokenTree]) -> Result<(&[TokenTree], &[TokenTr
     ensures only { IfOk result (λ found. IsOnly IsTupleField trees.now found.0.now found.1.now) }
     ensures fault { IfErr result (λ fault. FaultAt IsTupleField trees.now fault.at) }
     ensures span { IfErr result (λ fault. fault.span ≡ extent_at trees.now fault.at) }
+    ensures expected { IfErr result (λ fault. Expects IsTupleField trees.now fault.at fault.expected) }
 {
     split_alone(
         trees,
@@ -144,6 +163,7 @@ pub fn split_fields(trees: &[TokenTree]) -> Result<(&[TokenTree], &[TokenTree]),
     ensures only { IfOk result (λ found. IsOnly AreFields trees.now found.0.now found.1.now) }
     ensures fault { IfErr result (λ fault. FaultAt AreFields trees.now fault.at) }
     ensures span { IfErr result (λ fault. fault.span ≡ extent_at trees.now fault.at) }
+    ensures expected { IfErr result (λ fault. Expects AreFields trees.now fault.at fault.expected) }
 {
     split_alone(trees, Rule::Fields, State::At(Spot::Before(Part::Field)))
 }
@@ -156,6 +176,7 @@ pub fn split_tuple_fields(trees: &[TokenTree]) -> Result<(&[TokenTree], &[TokenT
     ensures only { IfOk result (λ found. IsOnly AreTupleFields trees.now found.0.now found.1.now) }
     ensures fault { IfErr result (λ fault. FaultAt AreTupleFields trees.now fault.at) }
     ensures span { IfErr result (λ fault. fault.span ≡ extent_at trees.now fault.at) }
+    ensures expected { IfErr result (λ fault. Expects AreTupleFields trees.now fault.at fault.expected) }
 {
     split_alone(
         trees,
@@ -173,6 +194,7 @@ pub fn split_variant(trees: &[TokenTree]) -> Result<(&[TokenTree], &[TokenTree])
     ensures only { IfOk result (λ found. IsOnly IsVariant trees.now found.0.now found.1.now) }
     ensures fault { IfErr result (λ fault. FaultAt IsVariant trees.now fault.at) }
     ensures span { IfErr result (λ fault. fault.span ≡ extent_at trees.now fault.at) }
+    ensures expected { IfErr result (λ fault. Expects IsVariant trees.now fault.at fault.expected) }
 {
     split_alone(trees, Rule::Alone, State::At(Spot::Before(Part::Variant)))
 }
@@ -186,6 +208,7 @@ pub fn split_variants(trees: &[TokenTree]) -> Result<(&[TokenTree], &[TokenTree]
     ensures only { IfOk result (λ found. IsOnly AreVariants trees.now found.0.now found.1.now) }
     ensures fault { IfErr result (λ fault. FaultAt AreVariants trees.now fault.at) }
     ensures span { IfErr result (λ fault. fault.span ≡ extent_at trees.now fault.at) }
+    ensures expected { IfErr result (λ fault. Expects AreVariants trees.now fault.at fault.expected) }
 {
     let start = Place {
         item: Item::Variants,
@@ -205,6 +228,7 @@ pub fn split_expression(trees: &[TokenTree]) -> Result<(&[TokenTree], &[TokenTre
     ensures only { IfOk result (λ found. IsOnly IsExpression trees.now found.0.now found.1.now) }
     ensures fault { IfErr result (λ fault. FaultAt IsExpression trees.now fault.at) }
     ensures span { IfErr result (λ fault. fault.span ≡ extent_at trees.now fault.at) }
+    ensures expected { IfErr result (λ fault. Expects IsExpression trees.now fault.at fault.expected) }
 {
     split_alone(trees, Rule::Alone, State::At(Spot::Expression))
 }
@@ -219,10 +243,15 @@ pub fn split_generics(trees: &[TokenTree]) -> Result<(&[TokenTree], &[TokenTree]
     ensures only { IfOk result (λ found. IsOnly AreGenerics trees.now found.0.now found.1.now) }
     ensures fault { IfErr result (λ fault. FaultAt AreGenerics trees.now fault.at) }
     ensures span { IfErr result (λ fault. fault.span ≡ extent_at trees.now fault.at) }
+    ensures expected { IfErr result (λ fault. Expects AreGenerics trees.now fault.at fault.expected) }
 {
     match past_generics(trees) {
         Ok(rest) => Ok((part(trees, rest), rest)),
-        Err(left) => Err(Fault::ahead_of(trees.len() - left.len(), left)),
+        Err(left) => Err(Fault::ahead_of(
+            trees.len() - left.len(),
+            left,
+            rule_signs(&Syntax::Table(Table::Generics), trees),
+        )),
     }
 }
 
@@ -235,10 +264,15 @@ pub fn split_where(trees: &[TokenTree]) -> Result<(&[TokenTree], &[TokenTree]), 
     ensures only { IfOk result (λ found. IsOnly IsWhere trees.now found.0.now found.1.now) }
     ensures fault { IfErr result (λ fault. FaultAt IsWhere trees.now fault.at) }
     ensures span { IfErr result (λ fault. fault.span ≡ extent_at trees.now fault.at) }
+    ensures expected { IfErr result (λ fault. Expects IsWhere trees.now fault.at fault.expected) }
 {
     match past_where(trees) {
         Ok(rest) => Ok((part(trees, rest), rest)),
-        Err(left) => Err(Fault::ahead_of(trees.len() - left.len(), left)),
+        Err(left) => Err(Fault::ahead_of(
+            trees.len() - left.len(),
+            left,
+            rule_signs(&Syntax::Table(Table::Where), trees),
+        )),
     }
 }
 
@@ -251,6 +285,7 @@ pub fn split_item(trees: &[TokenTree]) -> Result<(&[TokenTree], &[TokenTree]), F
     ensures only { IfOk result (λ found. IsOnly IsItem trees.now found.0.now found.1.now) }
     ensures fault { IfErr result (λ fault. FaultAt IsItem trees.now fault.at) }
     ensures span { IfErr result (λ fault. fault.span ≡ extent_at trees.now fault.at) }
+    ensures expected { IfErr result (λ fault. Expects IsItem trees.now fault.at fault.expected) }
 {
     split_alone(trees, Rule::Alone, State::At(Spot::Before(Part::TypeItem)))
 }
@@ -263,6 +298,7 @@ pub fn split_inner_attributes(trees: &[TokenTree]) -> Result<(&[TokenTree], &[To
     ensures only { IfOk result (λ found. IsOnly AreInnerAttributes trees.now found.0.now found.1.now) }
     ensures fault { IfErr result (λ fault. FaultAt AreInnerAttributes trees.now fault.at) }
     ensures span { IfErr result (λ fault. fault.span ≡ extent_at trees.now fault.at) }
+    ensures expected { IfErr result (λ fault. Expects AreInnerAttributes trees.now fault.at fault.expected) }
 {
     split_alone(trees, Rule::Alone, State::At(Spot::Inner))
 }

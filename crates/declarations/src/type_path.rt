@@ -19,6 +19,7 @@ ghost use Rattle.declarations.specs.declared.class.Class.TheVariants as signs;
 
 use crate::bare::bared;
 use crate::class::{Class, Keyword};
+use crate::expected::Expected;
 use crate::fault::Fault;
 use crate::function::return_of;
 use crate::generic_argument::argument_of;
@@ -111,10 +112,10 @@ pub fn parse_type_path(trees: &[TokenTree]) -> Result<TypePath<'_>, Fault>
             if rest.is_empty() {
                 Ok(path)
             } else {
-                Err(Fault::ahead_of(inner.len() - rest.len(), rest))
+                Err(Fault::ahead_of(inner.len() - rest.len(), rest, Expected::nothing()))
             }
         }
-        Err(left) => Err(Fault::ahead_of(inner.len() - left.len(), left)),
+        Err(left) => Err(Fault::ahead_of(inner.len() - left.len(), left, Expected::nothing())),
     }
 }
 

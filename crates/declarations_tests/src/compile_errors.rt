@@ -47,12 +47,12 @@ fn check(
 
 #[test]
 fn a_fault_is_told_at_its_tree(rt: HostRuntime) -> Result<(), Fail> {
-    let unexpected = ":: core :: compile_error ! { \"not expected here\" }";
-    check(&rt, "struct S a_b;", unexpected, "bytes(10..13)")?;
-    check(&rt, "fn f() {}", unexpected, "bytes(1..3)")?;
-    let early = ":: core :: compile_error ! { \"the declaration ends too early\" }";
-    check(&rt, "struct S", early, "bytes(0..0)")?;
-    check(&rt, "", early, "bytes(0..0)")
+    let code = ":: core :: compile_error ! { \"expected the end\" }";
+    check(&rt, "struct S; a_b", code, "bytes(11..14)")?;
+    let code = ":: core :: compile_error ! { \"expected a name\" }";
+    check(&rt, "struct fn", code, "bytes(8..10)")?;
+    let code = ":: core :: compile_error ! { \"the declaration ends too early: expected a name\" }";
+    check(&rt, "struct", code, "bytes(0..0)")
 }
 
 #[test]

@@ -265,8 +265,8 @@ fn an_error_says_what_is_wrong(rt: HostRuntime) -> Result<(), Fail> {
     )?;
     check_printed(&rt, "\"a\"", "unknown entry; known are `skip`, `rename`")?;
     check_printed(&rt, "skip, skip(a)", "a second entry `skip`")?;
-    check_printed(&rt, "skip, =", "not expected here")?;
-    check_printed(&rt, "rename =", "not expected here")
+    check_printed(&rt, "skip, =", "expected the end or an entry")?;
+    check_printed(&rt, "rename =", "expected an expression")
 }
 
 #[test]

@@ -1,8 +1,8 @@
-use Rattle.std.proofs.Common.{◌∙◌, ◌≤◌, List, length, arith}
+use Rattle.std.proofs.Common.{◌∙◌, ◌≤◌, List, inl, inr, length, arith}
 use Rattle.pm_stream.specs.declared.stream.TokenTree.{TokenTree}
 use Rattle.declarations.specs.File.{IsFile}
 use Rattle.declarations.proofs.FileLemmas.{any_err, fault_extent, left_fits, none_read, not_empty}
-use Rattle.declarations.proofs.FileLemmas.{not_file, one_read}
+use Rattle.declarations.proofs.FileLemmas.{not_file, one_read, part_expects}
 use Rattle.declarations.proofs.file.parse_file.Goals as goal
 
 pub returns-in_err-inner-clause-none : goal.returns-in_err-inner-clause-none
@@ -32,3 +32,10 @@ returns-in-Err-clause-none c = λ inner items.
     not_file c.args.trees.now c.in_ok-inner.inner.now c.in_ok-inner.items.now c.loop-left.left.now inner items
     c.in-Err.fault.at c.in_ok-inner.ensures.ok c.loop-left.invariant
     (not_empty c.loop-left.left.now c.loop-left-test.ensures) c.in-Err.ensures.fault
+
+pub returns-in-Err-clause-expected : goal.returns-in-Err-clause-expected
+returns-in-Err-clause-expected c =
+    let fits : length c.loop-left.left.now ≤ length c.args.trees.now =
+    left_fits c.args.trees.now c.in_ok-inner.items.now c.loop-left.left.now c.loop-left.invariant in
+    inr (part_expects c.args.trees.now c.in_ok-inner.items.now c.loop-left.left.now c.in-Err.fault.at _
+    c.in-Err.fault.expected c.loop-left.invariant c.in-Err.ensures.expected (omega arith))

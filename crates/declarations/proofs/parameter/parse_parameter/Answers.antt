@@ -1,3 +1,8 @@
+use Rattle.std.proofs.Common.{inl, subst, sym}
+use Rattle.declarations.specs.Expected.{Expects}
+use Rattle.declarations.specs.rules.Parameters.{function_parameter}
+use Rattle.declarations.specs.rules.Pieces.{ByRule}
+use Rattle.declarations.proofs.SyntaxLemmas.{parameter_start}
 use Rattle.declarations.proofs.ParameterLemmas.{parameter_at, parameter_fault, parameter_fewer, parameter_only}
 use Rattle.declarations.proofs.parameter.parse_parameter.Goals as goal
 
@@ -15,3 +20,10 @@ returns-in-Ok-clause-fewer c = parameter_fewer c.args.trees.now c.in-Ok.rest.now
 pub returns-in-Err-clause-fault : goal.returns-in-Err-clause-fault
 returns-in-Err-clause-fault c =
     parameter_fault c.args.trees.now c.in-Err.left.now c.ahead_of.result.at c.in-Err.ensures c.ahead_of.ensures.at
+
+pub returns-in-Err-clause-expected : goal.returns-in-Err-clause-expected
+returns-in-Err-clause-expected c =
+    subst (Expects (ByRule function_parameter) c.args.trees.now c.ahead_of.result.at) (sym c.ahead_of.ensures.expected)
+    (c.parameter_signs.ensures c.ahead_of.result.at parameter_start
+    (inl (parameter_fault c.args.trees.now c.in-Err.left.now c.ahead_of.result.at c.in-Err.ensures
+    c.ahead_of.ensures.at)))

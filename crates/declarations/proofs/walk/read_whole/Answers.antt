@@ -1,5 +1,8 @@
-use Rattle.std.proofs.Common.{◌≡◌, ◌∙◌, ap, ◌==◌, true, false, length, arith}
+use Rattle.std.proofs.Common.{◌≡◌, ◌∙◌, sym, subst, ap, ◌==◌, true, false, length, arith}
+use Rattle.declarations.specs.Expected.{Expects}
+use Rattle.declarations.specs.Forms.{IsFrom}
 use Rattle.declarations.specs.Grammar.{ends}
+use Rattle.declarations.proofs.ExpectsLemmas.{table_expects}
 use Rattle.declarations.proofs.WholeLemmas.{span_at, whole_fault}
 use Rattle.declarations.proofs.walk.read_whole.Goals as goal
 use Rattle.declarations.proofs.walk.read_whole.Goals.{else-is_empty-via-then-is_empty+else-may_end}
@@ -22,3 +25,10 @@ returns-else-is_empty-clause-span c =
     c.ahead_of.ensures.span
     ∙ span_at c.args.start c.args.trees.now c.walk_from-stop.result.left.now c.walk_from-stop.result.place _
     c.walk_from-stop.ensures.walked (omega arith)
+
+pub returns-else-is_empty-clause-expected : goal.returns-else-is_empty-clause-expected
+returns-else-is_empty-clause-expected c =
+    let stop = c.walk_from-stop.result in
+    subst (Expects (IsFrom c.args.start) c.args.trees.now c.ahead_of.result.at) (sym c.ahead_of.ensures.expected)
+    (table_expects c.args.start stop.place c.args.trees.now stop.left.now c.ahead_of.result.at c.steps_from.result
+    c.walk_from-stop.ensures.walked c.steps_from.ensures (omega arith))

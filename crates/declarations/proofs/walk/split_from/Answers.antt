@@ -1,6 +1,8 @@
-use Rattle.std.proofs.Common.{◌∙◌, refl, arith}
+use Rattle.std.proofs.Common.{◌∙◌, refl, sym, subst, arith}
 use Rattle.declarations.proofs.ReadingLemmas.{split_read, split_only, split_told, split_fault}
+use Rattle.declarations.proofs.ExpectsLemmas.{table_expects}
 use Rattle.declarations.proofs.WholeLemmas.{span_at}
+use Rattle.declarations.specs.Expected.{Expects}
 use Rattle.declarations.specs.Forms.{IsFrom}
 use Rattle.declarations.specs.Reading.{Reads, first_name}
 use Rattle.declarations.proofs.walk.split_from.Goals as goal
@@ -39,3 +41,10 @@ returns-else-may_end-clause-span c =
     let stop = c.walk_from-stop.result in
     c.ahead_of.ensures.span
     ∙ span_at c.args.start c.args.trees.now stop.left.now stop.place _ c.walk_from-stop.ensures.walked (omega arith)
+
+pub returns-else-may_end-clause-expected : goal.returns-else-may_end-clause-expected
+returns-else-may_end-clause-expected c =
+    let stop = c.walk_from-stop.result in
+    subst (Expects (IsFrom c.args.start) c.args.trees.now c.ahead_of.result.at) (sym c.ahead_of.ensures.expected)
+    (table_expects c.args.start stop.place c.args.trees.now stop.left.now c.ahead_of.result.at c.steps_from.result
+    c.walk_from-stop.ensures.walked c.steps_from.ensures (omega arith))
