@@ -16,6 +16,7 @@ pub(crate) fn expression(item: Item, class: Class) -> Option<Shift>
         | Class::Parentheses
         | Class::Brackets
         | Class::Braces
+        | Class::Block
         | Class::Invisible
         | Class::Word(_)
         | Class::SelfValue
@@ -67,6 +68,7 @@ fn operator(item: Item, class: Class) -> Option<Shift>
         | Class::Parentheses
         | Class::Brackets
         | Class::Braces
+        | Class::Block
         | Class::Invisible
         | Class::Question
         | Class::Await => to_spot(item, Spot::ExpressionWhole),
@@ -143,6 +145,7 @@ pub(crate) fn cast(item: Item, class: Class) -> Option<Shift>
         | Class::Parentheses
         | Class::Brackets
         | Class::Braces
+        | Class::Block
         | Class::Invisible
         | Class::Word(_)
         | Class::SelfValue

@@ -159,7 +159,7 @@ fn is_constant(class: Class) -> bool
     ensures { result ≡ is_constant class }
 {
     match class {
-        Class::Literal | Class::Braces | Class::Truth => true,
+        Class::Literal | Class::Braces | Class::Block | Class::Truth => true,
         _ => false,
     }
 }
@@ -179,7 +179,7 @@ fn begins_constant(class: Class) -> bool
     ensures { result ≡ may_begin constant class }
 {
     match class {
-        Class::Minus | Class::Literal | Class::Braces | Class::Truth => true,
+        Class::Minus | Class::Literal | Class::Braces | Class::Block | Class::Truth => true,
         _ => false,
     }
 }

@@ -216,7 +216,10 @@ fn const_default(item: Item, class: Class) -> Option<Shift>
     ensures { result ≡ const_default item class }
 {
     match class {
-        Class::Literal | Class::Braces | Class::Truth => to_spot(item, Spot::ConstEnd),
+        Class::Literal | Class::Braces | Class::Block | Class::Truth => to_spot(
+            item,
+            Spot::ConstEnd,
+        ),
         Class::Minus => to_spot(item, Spot::ConstMinus),
         _ => None,
     }

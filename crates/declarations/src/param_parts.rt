@@ -285,7 +285,7 @@ fn is_constant(class: Class) -> bool
     ensures { result ≡ is_constant class }
 {
     match class {
-        Class::Literal | Class::Braces | Class::Truth => true,
+        Class::Literal | Class::Braces | Class::Block | Class::Truth => true,
         _ => false,
     }
 }

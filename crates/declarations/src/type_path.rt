@@ -144,7 +144,7 @@ fn begins_argument(class: Class) -> bool
 {
     match class {
         Class::Word(_) | Class::Lifetime => true,
-        Class::Minus | Class::Literal | Class::Braces | Class::Truth => true,
+        Class::Minus | Class::Literal | Class::Braces | Class::Block | Class::Truth => true,
         Class::SelfValue | Class::SelfType | Class::Super | Class::Crate | Class::Underscore =>
             true,
         Class::Restriction | Class::Parentheses | Class::Brackets | Class::Invisible => true,

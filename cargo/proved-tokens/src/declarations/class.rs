@@ -110,6 +110,8 @@ pub enum Class {
     Braces,
     /// A group without delimiters that holds a visibility or nothing.
     Visibility,
+    /// A group without delimiters that holds only braces, in which a `macro_rules!` macro passes `$b:block`.
+    Block,
     /// Any other group without delimiters.
     Invisible,
     /// `<` with the spacing `Alone`.
@@ -222,5 +224,6 @@ pub(crate) fn code(class: Class) -> u8
         Class::Dot => 63,
         Class::Infix => 64,
         Class::Mark => 65,
+        Class::Block => 66,
     }
 }

@@ -12,6 +12,7 @@ pub(crate) fn expression(item: Item, class: Class) -> Option<Shift>
         | Class::Parentheses
         | Class::Brackets
         | Class::Braces
+        | Class::Block
         | Class::Invisible
         | Class::Word(_)
         | Class::SelfValue
@@ -61,6 +62,7 @@ fn operator(item: Item, class: Class) -> Option<Shift>
         | Class::Parentheses
         | Class::Brackets
         | Class::Braces
+        | Class::Block
         | Class::Invisible
         | Class::Question
         | Class::Await => to_spot(item, Spot::ExpressionWhole),
@@ -132,6 +134,7 @@ pub(crate) fn cast(item: Item, class: Class) -> Option<Shift>
         | Class::Parentheses
         | Class::Brackets
         | Class::Braces
+        | Class::Block
         | Class::Invisible
         | Class::Word(_)
         | Class::SelfValue

@@ -149,7 +149,7 @@ fn past_bounds(trees: &[TokenTree]) -> Result<&[TokenTree], &[TokenTree]>
 fn is_constant(class: Class) -> bool
 {
     match class {
-        Class::Literal | Class::Braces | Class::Truth => true,
+        Class::Literal | Class::Braces | Class::Block | Class::Truth => true,
         _ => false,
     }
 }
@@ -167,7 +167,7 @@ fn is_word(class: Class) -> bool
 fn begins_constant(class: Class) -> bool
 {
     match class {
-        Class::Minus | Class::Literal | Class::Braces | Class::Truth => true,
+        Class::Minus | Class::Literal | Class::Braces | Class::Block | Class::Truth => true,
         _ => false,
     }
 }

@@ -211,7 +211,10 @@ fn type_name(item: Item, class: Class) -> Option<Shift>
 fn const_default(item: Item, class: Class) -> Option<Shift>
 {
     match class {
-        Class::Literal | Class::Braces | Class::Truth => to_spot(item, Spot::ConstEnd),
+        Class::Literal | Class::Braces | Class::Block | Class::Truth => to_spot(
+            item,
+            Spot::ConstEnd,
+        ),
         Class::Minus => to_spot(item, Spot::ConstMinus),
         _ => None,
     }

@@ -23,6 +23,15 @@ fn in_braces(item: Item) -> bool
     }
 }
 
+/// Whether the item may end with a block in a group without delimiters.
+fn in_block(item: Item) -> bool
+{
+    match item {
+        Item::Returning => true,
+        _ => false,
+    }
+}
+
 /// Whether the item may end with `;`.
 fn in_semicolon(item: Item) -> bool
 {
@@ -57,6 +66,7 @@ pub(crate) fn body(item: Item, class: Class) -> Option<Shift>
 {
     match class {
         Class::Braces if in_braces(item) => to_spot(item, Spot::ItemEnd),
+        Class::Block if in_block(item) => to_spot(item, Spot::ItemEnd),
         Class::Semicolon if in_semicolon(item) => to_spot(item, Spot::ItemEnd),
         Class::Equals => value(item),
         _ => None,

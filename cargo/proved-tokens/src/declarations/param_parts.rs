@@ -233,7 +233,7 @@ fn none_of(trees: &[TokenTree]) -> &[TokenTree]
 fn is_constant(class: Class) -> bool
 {
     match class {
-        Class::Literal | Class::Braces | Class::Truth => true,
+        Class::Literal | Class::Braces | Class::Block | Class::Truth => true,
         _ => false,
     }
 }

@@ -10,8 +10,8 @@ use crate::pm_token::{Delimiter, Ident, Spacing};
 ///
 /// `::`, `->`, `<=` and `||` are one sign if the first mark is `Joint`. A `'` and an identifier are one sign, and so
 /// are `#` and `!`. Every other tree is a sign of its own. A group without delimiters that holds a visibility, a
-/// lifetime or a literal has the class of what it holds. If it holds one such group alone, the innermost of these
-/// groups decides.
+/// lifetime or a literal has the class of what it holds. If it holds only braces, its class is `Block`. If it holds one
+/// group without delimiters alone, the innermost of these groups decides.
 ///
 /// The call takes O(1) time, and for groups without delimiters in one another time in proportion to their number. It
 /// allocates nothing.
@@ -106,7 +106,7 @@ fn tree_class(tree: &TokenTree) -> Class
     }
 }
 
-fn group_class(group: &Group) -> Class
+pub(crate) fn group_class(group: &Group) -> Class
 {
     match group.delimiter() {
         Delimiter::Parenthesis => {
@@ -136,9 +136,19 @@ fn unseen_class(inside: &TokenStream) -> Class
 fn held_class(trees: &[TokenTree]) -> Class
 {
     match trees {
+        [TokenTree::Group(group)] => held_group(group),
         [TokenTree::Literal(_)] => Class::Literal,
         [TokenTree::Punct(mark), TokenTree::Ident(_)] if mark.as_char() == '\'' => Class::Lifetime,
         _ => Class::Invisible,
+    }
+}
+
+/// The class of a group without delimiters that holds only this group.
+fn held_group(group: &Group) -> Class
+{
+    match group.delimiter() {
+        Delimiter::Brace => Class::Block,
+        Delimiter::Parenthesis | Delimiter::Bracket | Delimiter::None => Class::Invisible,
     }
 }
 

@@ -120,7 +120,9 @@ fn operand(class: Class, outside: bool) -> Option<TypeStep>
         | Class::Brackets
         | Class::Invisible
         | Class::Exclamation => stay(TypeState::Whole),
-        Class::Truth | Class::Literal | Class::Braces if !outside => stay(TypeState::Whole),
+        Class::Truth | Class::Literal | Class::Braces | Class::Block if !outside => stay(
+            TypeState::Whole,
+        ),
         Class::PathSeparator | Class::And | Class::Question => stay(TypeState::Wanted),
         Class::Keyword(keyword) => front(keyword),
         Class::Lifetime => stay(TypeState::Lifetime),
