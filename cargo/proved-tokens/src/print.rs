@@ -34,4 +34,4 @@ pub use crate::layout::{text_with, write_with, Chooser, Gap, Place};
 pub use crate::pretty_printer::to_pretty_string;
 #[cfg(feature = "relayout")]
 #[doc(inline)]
-pub use crate::relayout::{relayout, with_doc_comments, White};
+pub use crate::relayout::{relayout, with_any_doc_comments, with_doc_comments, White};
