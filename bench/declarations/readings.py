@@ -336,6 +336,10 @@ PROVED = [
         "Hash Brackets Pub Restriction Visibility Fn Word Parentheses Semicolon",
         "Default Const Async Unsafe Safe Extern Literal Fn Word Parentheses Braces",
         "Fn Word Less Greater Parentheses Restriction Arrow Where Colon Semicolon"]),
+    ("impl_item", "ImplItems.impl_item", [
+        "Hash Brackets Pub Restriction Default Unsafe Impl Word Braces", "Impl Const Exclamation Word For Where Braces",
+        "Impl Word For Less Lifetime Greater Braces", "Impl Less Greater Word Colon Comma PathSeparator Braces",
+        "Impl Exclamation Plus Arrow For Where Braces Word"]),
     ("receiver", "Parameters.receiver", ["And Lifetime Mut SelfValue Word Colon"]),
     ("pattern", "Parameters.pattern", [
         "Word Mut And Braces Parentheses Colon", "Word PathSeparator Less Greater Comma Braces",

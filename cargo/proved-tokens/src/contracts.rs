@@ -140,6 +140,7 @@
 //! - <a id="declarations.File.IsFile"></a>**IsFile**: the trees are inner attributes and then items
 //! - <a id="declarations.Function.IsFunction"></a>**IsFunction**: the trees are a function, and these are its
 //!   parts
+//! - <a id="declarations.Impl.IsImpl"></a>**IsImpl**: the trees are an `impl`, and these are its parts
 //! - <a id="declarations.Forms.IsItem"></a>**IsItem**: a struct, an enum or a union: attributes, a visibility,
 //!   its keyword and name, generics, where clause and body
 //! - <a id="declarations.Entry.IsNoEntry"></a>**IsNoEntry**: the trees begin with no entry, and this is the
@@ -229,6 +230,8 @@
 //!   lifetime, a constant, a type, a name with `=` and a type, or a name with `:` and bounds
 //! - <a id="declarations.rules.Parts.generics"></a>**generics**: generic parameters in angle brackets, or
 //!   nothing
+//! - <a id="declarations.rules.ImplItems.impl_item"></a>**impl_item**: an `impl`: attributes, a visibility,
+//!   qualifiers, `impl` and the rest
 //! - <a id="declarations.rules.Parts.inner_attributes"></a>**inner_attributes**: any number of inner attributes
 //! - <a id="declarations.Attribute.inside"></a>**inside**: the trees in the attribute's brackets; or if these
 //!   are one group without delimiters, the trees in it

@@ -28,6 +28,7 @@ mod generic_argument;
 mod generics;
 mod grammar;
 mod header;
+mod implementation;
 mod item;
 mod keyword;
 pub mod laws;
@@ -61,6 +62,7 @@ pub use generic_argument::{
 pub use generics::{
     Param, ParamKind, Predicate, after_where, parse_param, parse_predicate, within_generics,
 };
+pub use implementation::{Impl, parse_impl};
 pub use item::{Body, Fields, TypeItem, parse_type_item};
 pub use keyword::is_keyword;
 pub use list::{FieldList, VariantList};

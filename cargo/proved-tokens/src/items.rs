@@ -53,14 +53,14 @@
 #[doc(inline)]
 pub use crate::declarations::{
     after_where, check_entries, compile_error, first_sign, is_keyword, parse_entry, parse_field, parse_file,
-    parse_function, parse_generic_argument, parse_item, parse_param, parse_parameter, parse_predicate,
+    parse_function, parse_generic_argument, parse_impl, parse_item, parse_param, parse_parameter, parse_predicate,
     parse_tuple_field, parse_type_item, parse_type_path, parse_variant, split_any_item, split_attribute,
     split_attributes, split_bounds, split_expression, split_field, split_fields, split_generics, split_inner_attributes,
     split_item, split_pattern, split_tuple_field, split_tuple_fields, split_type, split_variant, split_variants,
     split_visibility, split_where, within_generics, AnyItem, ArgumentKind, Attribute, AttributeArgs, Attributes, Body,
     Class, Entries, Entry, EntryKind, EntryProblem, Field, FieldList, Fields, File, Function, GenericArgument,
-    GenericArguments, ItemKind, Items, Keyword, Param, ParamKind, Parameter, ParameterKind, Parameters, PathArguments,
-    Predicate, TypeItem, TypePath, Variant, VariantList, Word,
+    GenericArguments, Impl, ItemKind, Items, Keyword, Param, ParamKind, Parameter, ParameterKind, Parameters,
+    PathArguments, Predicate, TypeItem, TypePath, Variant, VariantList, Word,
 };
 #[cfg(feature = "item_headers")]
 #[doc(inline)]

@@ -10,7 +10,7 @@ use proved_tokens::cursor::TokenBuffer;
 use proved_tokens::error::{CompileError, Fault};
 use proved_tokens::items::{
     check_entries, compile_error, impl_generics, impl_header, impl_header_where, parse_entry, parse_file,
-    parse_function, parse_generic_argument, parse_param, parse_parameter, parse_type_item, parse_type_path,
+    parse_function, parse_generic_argument, parse_impl, parse_param, parse_parameter, parse_type_item, parse_type_path,
     split_any_item, split_attribute, split_attributes, split_type, split_visibility, type_generics, where_clause,
     where_clause_with_bound, within_generics, ArgumentKind, Attributes, Body, Entries, EntryKind, GenericArguments,
     ItemKind, ParamKind, ParameterKind, Parameters, PathArguments,
@@ -186,6 +186,14 @@ fn calls_in_place_of_syns_on_attributes_parameters_and_errors() -> Outcome {
     assert_eq!(Parameters::new(function.parameters).count(), 2);
     let trees = function.parameters.stream_ref().trees();
     assert!(matches!(parse_parameter(trees)?.0.kind, ParameterKind::Receiver));
+
+    let stream: TokenStream = "impl<T> From<T> for S<T> { fn f() {} }".parse()?;
+    {
+        let item = parse_impl(stream.trees())?;
+        let path = item.trait_path.map(|path| TokenStream::from(path).to_string());
+        assert_eq!((path.as_deref(), item.self_type.len()), (Some("From < T >"), 4));
+        assert_eq!(parse_file(item.body.stream_ref().trees())?.items.count(), 1);
+    }
 
     let stream: TokenStream = "std::option::Option<Vec<T>, Item = A>".parse()?;
     {

@@ -352,7 +352,7 @@ body_finds trees rest g whole brace =
 -- where no braces are
 module _ (trees : List TokenTree)
     (none : (g : Grouped) (rest : List TokenTree) → trees ≡ Group g ∷ rest → g.delimiter ≡ delimiters.Brace → ⊥) where
-  no_braces : heads braces (classes_in trees) ≡ false
+  pub no_braces : heads braces (classes_in trees) ≡ false
   no_braces =
       braces_heads (classes_in trees)
       ∙ no_sign (is signs.Braces) trees

@@ -46,3 +46,8 @@ pub mod TreeLemmas
 pub mod GenericArgumentLemmas
 pub mod ListedLemmas
 pub mod TypePathLemmas
+pub mod FoundLemmas
+pub mod ImplTypeLemmas
+pub mod ImplFormLemmas
+pub mod ImplHeaderLemmas
+pub mod ImplLemmas

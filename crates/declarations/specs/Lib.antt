@@ -29,5 +29,7 @@ pub mod Parameter
 pub mod Function
 pub mod GenericArgument
 pub mod TypePath
+pub mod Found
+pub mod Impl
 pub mod CompileError
 pub mod rules

@@ -13,3 +13,4 @@ pub mod Pieces
 pub mod Entries
 pub mod Parameters
 pub mod Functions
+pub mod ImplItems

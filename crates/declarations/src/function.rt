@@ -188,7 +188,7 @@ fn walk_where(trees: &[TokenTree]) -> Result<&[TokenTree], &[TokenTree]>
 
 /// Skips a sign of this class, if one is next.
 #[tactic(auto, using(crate::proofs::FunctionPartLemmas::options))]
-fn may(trees: &[TokenTree], class: Class) -> &[TokenTree]
+pub(crate) fn may(trees: &[TokenTree], class: Class) -> &[TokenTree]
     ensures { Finds (perhaps (one class)) trees.now result.now }
 {
     match first_sign(trees) {
@@ -249,7 +249,7 @@ fn past_qualifiers(trees: &[TokenTree]) -> &[TokenTree]
 // ---- the name and the parameters
 
 /// Whether the sign can name a function. A keyword cannot.
-fn is_name(class: Class) -> bool
+pub(crate) fn is_name(class: Class) -> bool
     ensures { result ≡ is_word class }
 {
     match class {
@@ -360,7 +360,7 @@ fn body_of(trees: &[TokenTree]) -> Result<(Option<&Group>, &[TokenTree]), &[Toke
 }
 
 /// The group in braces at the start of the trees, and the trees after it.
-fn split_braces(trees: &[TokenTree]) -> Option<(&Group, &[TokenTree])>
+pub(crate) fn split_braces(trees: &[TokenTree]) -> Option<(&Group, &[TokenTree])>
     ensures found { IfSome result (λ found. (trees.now ≡ trees_are.Group found.0.now ∷ found.1.now)
         × (found.0.now.delimiter ≡ Delimiter.Brace)) }
     ensures none { IfNone result ((group : Grouped) → (rest : List Tree) → trees.now ≡ trees_are.Group group ∷ rest

@@ -120,7 +120,8 @@ pub fn parse_type_path(trees: &[TokenTree]) -> Result<TypePath<'_>, Fault>
 
 // ---- arguments in angle brackets
 
-fn opens(class: Class) -> bool
+/// Whether the sign opens an angle bracket.
+pub(crate) fn opens(class: Class) -> bool
     ensures { result ≡ opens class }
 {
     match class {

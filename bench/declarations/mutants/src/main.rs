@@ -8,7 +8,7 @@ mod grammar;
 use grammar::Grammar;
 use proved_tokens::error::Fault;
 use proved_tokens::items::{
-    first_sign, parse_file, parse_function, parse_item, parse_type_item, Class, ItemKind, Word,
+    first_sign, parse_file, parse_function, parse_impl, parse_item, parse_type_item, Class, ItemKind, Word,
 };
 use proved_tokens::{Delimiter, Group, TokenStream, TokenTree};
 use std::collections::BTreeMap;
@@ -113,6 +113,7 @@ fn calls(kind: ItemKind) -> Vec<Call> {
             calls.push(("item", |trees| parse_type_item(trees).map(drop)));
         }
         ItemKind::Function => calls.push(("function_item", |trees| parse_function(trees).map(drop))),
+        ItemKind::Impl => calls.push(("impl_item", |trees| parse_impl(trees).map(drop))),
         _ => {}
     }
     calls

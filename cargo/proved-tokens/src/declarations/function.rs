@@ -170,7 +170,7 @@ fn walk_where(trees: &[TokenTree]) -> Result<&[TokenTree], &[TokenTree]>
 // ---- qualifiers
 
 /// Skips a sign of this class, if one is next.
-fn may(trees: &[TokenTree], class: Class) -> &[TokenTree]
+pub(crate) fn may(trees: &[TokenTree], class: Class) -> &[TokenTree]
 {
     match first_sign(trees) {
         Some((found, rest)) => { if is(class, found) { rest } else { trees } }
@@ -223,7 +223,7 @@ fn past_qualifiers(trees: &[TokenTree]) -> &[TokenTree]
 // ---- the name and the parameters
 
 /// Whether the sign can name a function. A keyword cannot.
-fn is_name(class: Class) -> bool
+pub(crate) fn is_name(class: Class) -> bool
 {
     match class {
         Class::Word(_) => true,
@@ -317,7 +317,7 @@ fn body_of(trees: &[TokenTree]) -> Result<(Option<&Group>, &[TokenTree]), &[Toke
 }
 
 /// The group in braces at the start of the trees, and the trees after it.
-fn split_braces(trees: &[TokenTree]) -> Option<(&Group, &[TokenTree])>
+pub(crate) fn split_braces(trees: &[TokenTree]) -> Option<(&Group, &[TokenTree])>
 {
     match split_group(trees) {
         Some((group, rest)) if group.delimiter() == Delimiter::Brace => Some((group, rest)),

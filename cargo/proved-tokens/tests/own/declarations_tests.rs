@@ -18,6 +18,8 @@ mod generic_arguments;
 #[cfg(test)]
 mod generics;
 #[cfg(test)]
+mod impls;
+#[cfg(test)]
 mod items;
 #[cfg(test)]
 mod lists;
