@@ -25,7 +25,7 @@ use Rattle.declarations.specs.declared.class.Class.TheVariants as signs
 use Rattle.declarations.specs.declared.class.Keyword.TheVariants as keywords
 use Rattle.declarations.specs.declared.class.Word.TheVariants as words
 use Rattle.declarations.specs.declared.implementation.Impl.{Impl}
-use Rattle.declarations.specs.declared.implementation.Target.{Target as Targeted}
+use Rattle.declarations.specs.declared.impl_header.Target.{Target as Targeted}
 use Rattle.declarations.specs.rules.Bodies.{braced, braces}
 use Rattle.declarations.specs.rules.Classes.{is, is_word, keyword, opens}
 use Rattle.declarations.specs.rules.ImplItems as rule

@@ -28,6 +28,7 @@ mod generic_argument;
 mod generics;
 mod grammar;
 mod header;
+mod impl_header;
 mod implementation;
 mod item;
 mod keyword;

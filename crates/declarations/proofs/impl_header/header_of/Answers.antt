@@ -1,5 +1,5 @@
 use Rattle.declarations.proofs.ImplLemmas.{header_has, header_sticks, header_turns}
-use Rattle.declarations.proofs.implementation.header_of.Goals as goal
+use Rattle.declarations.proofs.impl_header.header_of.Goals as goal
 
 pub returns-in-Ok-target_of : goal.returns-in-Ok-target_of
 returns-in-Ok-target_of c = (

@@ -1,6 +1,6 @@
 use Rattle.std.proofs.Common.{refl}
 use Rattle.declarations.proofs.ImplLemmas.{positive_reads}
-use Rattle.declarations.proofs.implementation.target_of.Goals as goal
+use Rattle.declarations.proofs.impl_header.target_of.Goals as goal
 
 pub returns-else-is : goal.returns-else-is
 returns-else-is c =

@@ -1,5 +1,5 @@
 use Rattle.declarations.proofs.ImplLemmas.{has_open}
-use Rattle.declarations.proofs.implementation.has_generics.Goals as goal
+use Rattle.declarations.proofs.impl_header.has_generics.Goals as goal
 
 pub returns-then-opens : goal.returns-then-opens
 returns-then-opens c =

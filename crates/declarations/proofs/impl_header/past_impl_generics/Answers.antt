@@ -1,5 +1,5 @@
 use Rattle.declarations.proofs.ImplLemmas.{generics_has, generics_turn}
-use Rattle.declarations.proofs.implementation.past_impl_generics.Goals as goal
+use Rattle.declarations.proofs.impl_header.past_impl_generics.Goals as goal
 
 pub returns-in-Ok : goal.returns-in-Ok
 returns-in-Ok c = (

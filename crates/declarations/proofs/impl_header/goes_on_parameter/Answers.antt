@@ -1,5 +1,5 @@
 use Rattle.declarations.proofs.ImplLemmas.{goes_sign}
-use Rattle.declarations.proofs.implementation.goes_on_parameter.Goals as goal
+use Rattle.declarations.proofs.impl_header.goes_on_parameter.Goals as goal
 
 pub returns-in-Some : goal.returns-in-Some
 returns-in-Some c =

@@ -1,6 +1,6 @@
 use Rattle.declarations.specs.rules.Bodies.{braced}
 use Rattle.declarations.proofs.ReaderLemmas.{test_heads}
-use Rattle.declarations.proofs.implementation.has_end.Goals as goal
+use Rattle.declarations.proofs.impl_header.has_end.Goals as goal
 
 pub returns-in-Some : goal.returns-in-Some
 returns-in-Some c =

@@ -1,5 +1,5 @@
 use Rattle.declarations.proofs.ImplLemmas.{trait_sticks}
-use Rattle.declarations.proofs.implementation.types_of.Goals as goal
+use Rattle.declarations.proofs.impl_header.types_of.Goals as goal
 
 pub returns-in-Err-past_type : goal.returns-in-Err-past_type
 returns-in-Err-past_type c =

@@ -1,5 +1,5 @@
 use Rattle.declarations.proofs.ImplLemmas.{begins_word}
-use Rattle.declarations.proofs.implementation.begins_generics.Goals as goal
+use Rattle.declarations.proofs.impl_header.begins_generics.Goals as goal
 
 pub returns-then-is_name : goal.returns-then-is_name
 returns-then-is_name c =

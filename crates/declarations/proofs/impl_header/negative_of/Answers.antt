@@ -1,6 +1,6 @@
 use Rattle.std.proofs.Common.{refl}
 use Rattle.declarations.proofs.ImplLemmas.{negative_reads, never_has, never_turns}
-use Rattle.declarations.proofs.implementation.negative_of.Goals as goal
+use Rattle.declarations.proofs.impl_header.negative_of.Goals as goal
 
 pub returns-then-has_end : goal.returns-then-has_end
 returns-then-has_end c = (
