@@ -18,6 +18,7 @@ Kinds:
 `function@FILE` or `function@FILE,FILE` means only the functions that these files declare, as `lexical/src/quoted` or
 `lexical/specs/Quoted`. Needed where a crate has several of this name.
 
+Names of the same kinds that the list does not have are listed too, so that a later checkout gets lines for them.
 `--fresh` changes nothing, and lists each new name that is already in use where the old one is. Names that are missing
 are listed on standard error, since the list may be older than the checkout.
 """
@@ -760,6 +761,37 @@ def fresh(checkout, entries):
     print(f"{len(entries)} names, {bad} in use")
 
 
+# Words that are verbs, nouns or adjectives as they stand, and names of the users' guide.
+PLAIN = set("read put split cut cast bound left set let fed need speed feed seed indeed embed exceed proceed".split())
+GUIDE = {"printed", "spelled", "named"}
+IRREGULAR = set("told said held kept found written taken given seen met known shown lent made begun drawn hidden chosen "
+                "sent spent built laid done spelt broken gone grown lost sought thrown paid hit shut cast".split())
+WORDS = re.compile(r"(?:^|_)(?:told|said|behinds?|drafts?)(?:_|$)|(?:Told|Said|Behind|Draft)(?=[A-Z_]|$)")
+TYPES = {"Place": "pm_stream", "Step": "pm_stream", "Cursor": "token_buffer", "Word": "declarations",
+         "Class": "lexical", "Rule": "lexical"}
+
+
+def unknown(checkout):
+    """Names of the kinds that the list is about, which stand in the text after all renames."""
+    found = set()
+    for name, text in checkout.text.items():
+        if name.startswith(MADE) or not name.endswith((".rt", ".antt", ".py")) and not text.startswith("#!/usr/bin/env py"):
+            continue
+        for start, end, word, kind in tokens(language(name, text), text):
+            if kind == "id" and WORDS.search(word) and not is_made(text, start, end):
+                found.add(f"{name}: `{word}`")
+        if name.endswith((".rt", ".antt")) and name.startswith("crates/"):
+            declared = re.findall(r"\bfn ([a-z]+)\b", text) if name.endswith(".rt") else \
+                re.findall(r"^(?:abbrev |unfoldable |pub )*([a-z]+)\s*:", text, re.M)
+            for word in declared:
+                if (re.fullmatch(r"[a-z]{2,}ed", word) or word in IRREGULAR) and word not in PLAIN | GUIDE:
+                    found.add(f"{name}: the function `{word}`")
+            for word in re.findall(r"\b(?:struct|enum|data|record|type|trait|abbrev pub) ([A-Z]\w+)", text):
+                if TYPES.get(word, crate_of(name)) != crate_of(name):
+                    found.add(f"{name}: the type `{word}`")
+    return sorted(found)
+
+
 def main():
     parser = argparse.ArgumentParser()
     parser.add_argument("--root", default=".")
@@ -787,6 +819,8 @@ def main():
     for entry in entries:
         if not entry.seen:
             print(f"not found: {entry}", file=sys.stderr)
+    for one in unknown(checkout):
+        print(f"not in the list: {one}", file=sys.stderr)
     for note in checkout.notes:
         print(f"look: {note}", file=sys.stderr)
     for name, text in checkout.text.items():
