@@ -271,6 +271,8 @@ def rename_word(checkout, entry):
             checkout.note(entry, f"{name} imports this name from another crate, and is left")
             continue
         spots = []
+        if name.endswith(".rs") and entry.kind == "type":  # Examples in comments use the type too.
+            spots = [match.span() for match in re.finditer(rf"\b{entry.old}\b", text)]
         for start, end, word, kind in all_tokens(name, text):
             if word != entry.old or any(a <= start < b for a, b in skip):
                 continue
@@ -823,6 +825,11 @@ def main():
         print(f"not in the list: {one}", file=sys.stderr)
     for note in checkout.notes:
         print(f"look: {note}", file=sys.stderr)
+    gone = [entry.old for entry in entries if entry.kind == "crate"]
+    for name in list(checkout.text):
+        if name.startswith("cargo/proved-tokens/tests/own/") and re.split(r"[/.]", name)[4] in gone:
+            subprocess.run(["git", "rm", "-q", name], cwd=checkout.root, check=True)
+            del checkout.text[name]
     for name, text in checkout.text.items():
         if text != checkout.before[name]:
             if name.endswith((".rt", ".antt")) or name.endswith(".rs") and not name.startswith(MADE):
