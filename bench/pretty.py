@@ -61,9 +61,10 @@ def without_comments(text):
     return "\n".join(line.rstrip() for line in ("".join(out) + text[at:]).split("\n"))
 
 
-def formatted(text):
-    """What rustfmt makes of the text, or nothing."""
-    run = subprocess.run(["rustfmt", "--edition", "2021", "--quiet"], input=text.encode(), capture_output=True)
+def formatted(text, limit=None):
+    """What rustfmt makes of the text, or nothing. After LIMIT seconds it is ended, by `subprocess.TimeoutExpired`."""
+    run = subprocess.run(["rustfmt", "--edition", "2021", "--quiet"], input=text.encode(), capture_output=True,
+                         timeout=limit)
     return run.stdout.decode() if run.returncode == 0 else ""
 
 
