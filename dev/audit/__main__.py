@@ -3,7 +3,7 @@
 
     python3 dev/audit             compares, and tells the changes that whitelist.txt lacks, each with its places
     python3 dev/audit --list      all changes, with how often each occurs
-    python3 dev/audit --test      tests itself: changes that are planted are told
+    python3 dev/audit --test      tests itself: it must report changes that are planted
 
 It shares no code with dev/erase. Each file's first line says from which source it was made. Of that source it leaves
 out comments; what only proofs read: clauses, ghost items and the attributes `tactic` and `cycle`; and the allocator,
