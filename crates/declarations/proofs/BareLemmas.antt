@@ -1,6 +1,6 @@
 -- Groups without delimiters.
 use Rattle.std.proofs.Common.{◌≡◌, refl, sym, ◌∙◌, ap, subst, ◌<◌, ◌==◌, ◌&&◌, Bool, true, false, List, [], ◌∷◌}
-use Rattle.std.proofs.Common.{Some, None, length, suc, if◌then◌else◌, arith}
+use Rattle.std.proofs.Common.{Some, None, length, if◌then◌else◌, arith}
 use Rattle.pm_stream.specs.DocGroup.{trees_of}
 use Rattle.pm_stream.specs.Forest.{Forest, nil, leaf, group}
 use Rattle.pm_stream.specs.Size.{count, is_nil}

@@ -1,6 +1,3 @@
-use Rattle.std.proofs.Common.{◌∙◌, ap, refl}
-use Rattle.declarations.specs.Signs.{held_class}
-use Rattle.declarations.proofs.BareLemmas.{inside_trees}
 use Rattle.declarations.proofs.SignLemmas.{unseen_other}
 use Rattle.declarations.proofs.signs.unseen_class.Goals as goal
 
