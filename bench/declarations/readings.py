@@ -272,10 +272,10 @@ PARTS = [
         "Word Star Const Tilde Extern Literal Arrow",
         "For Less Greater Lifetime Comma Word Restriction",
         "Less Greater Colon Truth Brackets Invisible Visibility Question SelfType",
-        "Word Less Greater Comma Plus Lifetime"]),
+        "Word Less Greater Comma Plus Lifetime", "Word Less Greater Block Comma Exclamation Extern"]),
     ("bounds", "Alone", "Alone", ("Range", "Bound"), [
         "Word Plus Lifetime Question For Less Greater",
-        "Word Arrow Parentheses Comma Exclamation Braces As"]),
+        "Word Arrow Parentheses Comma Exclamation Braces As", "Word Plus Block Less Greater"]),
     ("attributes", "Alone", "Alone", ("At", ("Before", "Attributes")), ["Hash Brackets Word"]),
     ("visibility", "Alone", "Alone", ("At", ("Before", "Visibility")), ["Pub Restriction Parentheses Word Visibility"]),
     ("field", "Alone", "Alone", ("At", ("Before", "Field")), [
@@ -287,7 +287,7 @@ PARTS = [
     ("tuple_fields", "Alone", "TupleFields", ("At", ("Before", "TupleField")), [
         "Word Comma Pub Restriction Less Greater", "Hash Brackets Pub Word Comma"]),
     ("variant", "Alone", "Alone", ("At", ("Before", "Variant")), [
-        "Hash Brackets Pub Restriction Word Union Parentheses Braces Equals Visibility"]),
+        "Hash Brackets Pub Restriction Word Union Parentheses Braces Equals Visibility", "Word Block Equals Literal"]),
     ("variants", "Variants", "Alone", ("At", ("Before", "Variant")), [
         "Hash Brackets Word Comma Equals Less", "Word Equals Comma Less Greater As",
         "Pub Word Comma Equals Braces", "Word Equals Comma Jump Dot Bar"]),
@@ -297,16 +297,19 @@ PARTS = [
         "Bar Bars Word Comma Colon Less Greater Arrow Braces",
         "Word Dot And Exclamation Question Lifetime Jump Hash Brackets",
         "Word Less LessJoint LessEquals Greater Comma Parentheses",
-        "Await Keyword For Truth Minus Plus Infix Union Invisible"]),
+        "Await Keyword For Truth Minus Plus Infix Union Invisible", "Word Block As Dot Bar Less Greater Jump"]),
     ("generics", "Alone", "Alone", ("At", "Generics"), [
         "Less Greater Lifetime Word Comma Colon", "Less Greater Const Word Colon Equals",
-        "Less Greater Hash Brackets Word", "Less Greater Const Word Colon Equals Minus Literal Braces"]),
+        "Less Greater Hash Brackets Word", "Less Greater Const Word Colon Equals Minus Literal Braces",
+        "Less Greater Const Word Colon Equals Block Comma"]),
     ("where", "Alone", "Alone", ("At", "Where"), [
-        "Where Word Colon Comma Plus Less Greater", "Where Lifetime Colon Brackets Comma For"]),
+        "Where Word Colon Comma Plus Less Greater", "Where Lifetime Colon Brackets Comma For",
+        "Where Word Colon Plus Block Comma"]),
     ("item", "Alone", "Alone", ("At", ("Before", "TypeItem")), [
         "Struct Word Parentheses Braces Semicolon Where Colon", "Enum Union Word Braces Semicolon Where Colon",
         "Struct Word Less Greater Semicolon Lifetime",
-        "Hash Brackets Pub Restriction Visibility Struct Word Semicolon"]),
+        "Hash Brackets Pub Restriction Visibility Struct Word Semicolon",
+        "Struct Enum Word Block Where Colon Semicolon"]),
     ("inner_attributes", "Alone", "Alone", ("At", "Inner"), ["HashBang Hash Brackets"]),
     ("any_item", "Alone", "Alone", ("At", ("Before", "AnyItem")), [
         "Hash Brackets Pub Restriction Visibility Invisible Struct Word Semicolon",
@@ -324,52 +327,59 @@ PARTS = [
         "Use Word PathSeparator As Star Braces Semicolon Underscore",
         "Word PathSeparator Exclamation Parentheses Braces Semicolon Crate",
         "Union Auto Default Safe Trait Exclamation Word Braces Fn",
-        "Macro Word Parentheses Braces Brackets Exclamation Semicolon"]),
+        "Macro Word Parentheses Braces Brackets Exclamation Semicolon",
+        "Fn Word Parentheses Arrow Where Colon Block Semicolon", "Impl Trait Mod Word Block Braces Exclamation Pub"]),
 ]
 
 
 # Parts that have no table, or begin too late in those that have one: the rule of the value, and alphabets.
 PROVED = [
     ("parameter", "Parts.parameter", [
-        "Const Word Colon Equals Minus Literal Braces Truth", "Hash Brackets Lifetime Colon Word Plus Equals"]),
+        "Const Word Colon Equals Minus Literal Braces Truth", "Hash Brackets Lifetime Colon Word Plus Equals",
+        "Const Word Colon Equals Block Less Greater"]),
     ("function_item", "Functions.function_item", [
         "Hash Brackets Pub Restriction Visibility Fn Word Parentheses Semicolon",
         "Default Const Async Unsafe Safe Extern Literal Fn Word Parentheses Braces",
-        "Fn Word Less Greater Parentheses Restriction Arrow Where Colon Semicolon"]),
+        "Fn Word Less Greater Parentheses Restriction Arrow Where Colon Semicolon",
+        "Fn Word Parentheses Arrow Where Colon Plus Block Braces"]),
     ("impl_item", "ImplItems.impl_item", [
         "Hash Brackets Pub Restriction Default Unsafe Impl Word Braces", "Impl Const Exclamation Word For Where Braces",
         "Impl Word For Less Lifetime Greater Braces", "Impl Less Greater Word Colon Comma PathSeparator Braces",
-        "Impl Exclamation Plus Arrow For Where Braces Word"]),
+        "Impl Exclamation Plus Arrow For Where Braces Word", "Impl Word For Less Greater Where Block Braces"]),
     ("receiver", "Parameters.receiver", ["And Lifetime Mut SelfValue Word Colon"]),
     ("pattern", "Parameters.pattern", [
         "Word Mut And Braces Parentheses Colon", "Word PathSeparator Less Greater Comma Braces",
         "Keyword SelfType Super Crate SelfValue Underscore",
         "Truth Literal Minus Infix Equals Exclamation", "Word Dot Bar Comma Infix Brackets Invisible",
-        "Restriction Visibility Braces Less Greater Plus"]),
+        "Restriction Visibility Braces Less Greater Plus", "Word Block Invisible Less Greater"]),
     ("fn_parameter", "Parameters.function_parameter", [
         "Hash Brackets SelfValue Mut And Lifetime Colon Word", "And Mut SelfValue Word Colon Dot Comma",
         "Dot Colon Word SelfValue Hash Brackets Mut", "Word Less Greater PathSeparator Colon Braces Comma",
         "Mut Keyword SelfType Super Crate Underscore Colon", "And Truth Literal Minus Infix Equals Colon Word",
         "Exclamation Braces Parentheses Restriction Invisible Visibility Colon And",
-        "Less LessJoint Greater Lifetime Colon Plus Mut", "Word Colon Arrow Exclamation Brackets Dot And"]),
+        "Less LessJoint Greater Lifetime Colon Plus Mut", "Word Colon Arrow Exclamation Brackets Dot And",
+        "Word Colon Block Less Greater Invisible"]),
     ("fn_parameters", "Parameters.function_parameters", [
         "Word Colon Comma SelfValue And Dot", "Hash Brackets Mut SelfValue Comma Word Colon",
         "Word Colon Comma Less Greater Parentheses"]),
     ("type_path", "Paths.type_path", [
         "Word PathSeparator Less Greater Comma Literal", "Word PathSeparator Less Parentheses Arrow Greater",
         "SelfValue SelfType Super Crate Union PathSeparator", "Word Less LessJoint Greater Lifetime Equals Colon",
-        "Word Parentheses Arrow Plus PathSeparator Restriction", "Word Less Greater Exclamation As Invisible Braces"]),
+        "Word Parentheses Arrow Plus PathSeparator Restriction", "Word Less Greater Exclamation As Invisible Braces",
+        "Word Less Greater Comma Block"]),
     ("generic_argument", "Paths.generic_argument", [
         "Word Lifetime Comma Equals Colon Plus Literal", "Minus Literal Truth Braces Word Equals Comma",
         "Word Less Greater Comma Equals Colon PathSeparator", "Lifetime Plus Word Colon Equals And",
-        "And SelfType Underscore Brackets Invisible Exclamation Question Star", "Dyn Impl Fn Parentheses Arrow Comma"]),
+        "And SelfType Underscore Brackets Invisible Exclamation Question Star", "Dyn Impl Fn Parentheses Arrow Comma",
+        "Block Minus Word Less Greater Equals Colon"]),
     ("generic_arguments", "Paths.generic_arguments", [
-        "Word Comma Equals Literal Lifetime", "Word Less Greater Comma Colon", "Minus Literal Truth Braces Comma"]),
+        "Word Comma Equals Literal Lifetime", "Word Less Greater Comma Colon", "Minus Literal Truth Braces Comma",
+        "Word Block Comma Equals"]),
     ("entry", "Entries.entry", [
         "Word PathSeparator Parentheses Equals Literal Minus Truth", "Word As Equals Greater Arrow Literal Comma",
         "Word Equals Less Greater Comma And Bar", "Keyword SelfValue SelfType Super Crate Await Jump PathSeparator",
         "Braces Brackets Invisible Visibility Restriction Word Equals",
-        "Word Equals Dot Hash Brackets Lifetime Literal"]),
+        "Word Equals Dot Hash Brackets Lifetime Literal", "Word Equals Block As Comma"]),
     ("entries", "Entries.entries", ["Word Comma Equals Literal Parentheses", "Minus Literal Truth Comma Word"]),
 ]
 
@@ -499,7 +509,7 @@ class Expected:
     def argument(self, signs):
         if signs == ("Lifetime",):
             return [str(trees(signs)), "Lifetime", "0"]
-        if signs[-1] in ("Literal", "Truth", "Braces") and signs[:-1] in ((), ("Minus",)):
+        if signs[-1] in ("Literal", "Truth", "Braces", "Block") and signs[:-1] in ((), ("Minus",)):
             return [str(trees(signs)), "Const", "0"]
         found = [(signs, "Type", 0)] if self.is_whole("type", signs) else []
         for mark, end, kind in (("Equals", "type", "Binding"), ("Colon", "bounds", "Constraint")):

@@ -1,6 +1,6 @@
 //! Groups without delimiters, one in another, a million times: the calls that look through them take linear time and a
 //! constant part of the stack.
-use proved_tokens::items::{first_sign, parse_entry, parse_parameter, Attributes, SignClass, EntryKind};
+use proved_tokens::items::{first_sign, parse_entry, parse_function, parse_parameter, Attributes, EntryKind, SignClass};
 use proved_tokens::{Delimiter, Group, TokenStream, TokenTree};
 
 fn parsed(text: &str) -> TokenStream {
@@ -34,6 +34,7 @@ fn looks_through(groups: usize) {
         ("'a", SignClass::Lifetime),
         ("1", SignClass::Literal),
         ("pub", SignClass::Visibility),
+        ("{ x }", SignClass::Block),
         ("1 + 1", SignClass::Invisible),
     ] {
         assert_eq!(first_sign(held(text, groups).trees()).map(|(class, _)| class), Some(class));
@@ -41,6 +42,9 @@ fn looks_through(groups: usize) {
     let receiver = joined([parsed("&"), held("'a", groups), parsed("self")]);
     let (parameter, _) = parse_parameter(receiver.trees()).expect("it is a receiver");
     assert_eq!(parameter.pattern.len(), 3);
+    let function = joined([parsed("fn f() -> u8"), held("{ 1 }", groups)]);
+    let body = parse_function(function.trees()).expect("it is a function").body;
+    assert_eq!(body.map(Group::delimiter), Some(Delimiter::None));
 }
 
 #[test]

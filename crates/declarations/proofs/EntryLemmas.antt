@@ -169,7 +169,7 @@ list_class delimiters.Brace f h = refl
 list_class delimiters.None f h = absurd (both_ways _ h refl)
 
 bare_class : (d : Delimiter) (f : Forest) → has_no_delimiters d ≡ true → rule.is_list (group_class d f) ≡ false
-bare_class delimiters.None f h = unseen (λ c. rule.is_list c ≡ false) f refl refl refl refl
+bare_class delimiters.None f h = unseen (λ c. rule.is_list c ≡ false) f refl refl refl refl refl
 bare_class delimiters.Parenthesis f h = absurd (both_ways _ refl h)
 bare_class delimiters.Bracket f h = absurd (both_ways _ refl h)
 bare_class delimiters.Brace f h = absurd (both_ways _ refl h)

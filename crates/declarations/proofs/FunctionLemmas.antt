@@ -20,7 +20,7 @@ use Rattle.declarations.specs.Signs as signs_in
 use Rattle.declarations.specs.Whole.{IsWhole}
 use Rattle.declarations.specs.declared.class.Keyword.TheVariants as keywords
 use Rattle.declarations.specs.declared.function.Function.{Function}
-use Rattle.declarations.specs.rules.Bodies.{body_end, function_rest, name, returning}
+use Rattle.declarations.specs.rules.Bodies.{function_end, function_rest, name, returning}
 use Rattle.declarations.specs.rules.Classes.{is_round}
 use Rattle.declarations.specs.rules.Functions as rule
 use Rattle.declarations.specs.rules.Names.{Fields, Front, G, Label, Named, key}
@@ -65,14 +65,14 @@ starts_where = starts where_clause refl refl
 
 -- a where clause and a body
 abbrev clause_end : G
-clause_end = Then where_clause body_end
+clause_end = Then where_clause function_end
 
 pub end_finds : (trees from_clause from_body rest : List TokenTree) → Finds rule.return_type_rule trees from_clause
-    → Finds where_clause from_clause from_body → Finds body_end from_body rest
+    → Finds where_clause from_clause from_body → Finds function_end from_body rest
     → Finds returning trees rest
 end_finds trees from_clause from_body rest r w b =
     then_finds rule.return_type_rule clause_end trees from_clause rest r
-    (then_finds where_clause body_end from_clause from_body rest w b)
+    (then_finds where_clause function_end from_clause from_body rest w b)
 
 pub return_sticks : (trees left : List TokenTree) → Sticks rule.return_type_rule trees left
     → Sticks returning trees left
@@ -83,14 +83,14 @@ pub clause_sticks : (trees from_clause left : List TokenTree) → Finds rule.ret
     → Sticks returning trees left
 clause_sticks trees from_clause left r w =
     then_fails rule.return_type_rule clause_end trees from_clause left r
-    (then_sticks where_clause body_end from_clause left w)
+    (then_sticks where_clause function_end from_clause left w)
 
 pub end_sticks : (trees from_clause from_body left : List TokenTree) → Finds rule.return_type_rule trees from_clause
-    → Finds where_clause from_clause from_body → Sticks body_end from_body left
+    → Finds where_clause from_clause from_body → Sticks function_end from_body left
     → Sticks returning trees left
 end_sticks trees from_clause from_body left r w b =
     then_fails rule.return_type_rule clause_end trees from_clause left r
-    (then_fails where_clause body_end from_clause from_body left w b)
+    (then_fails where_clause function_end from_clause from_body left w b)
 
 pub end_has : (trees from_clause from_body rest returned clause : List TokenTree) (body : Option (Bor Grouped))
     → HasReturn trees returned from_clause → Finds where_clause from_clause from_body

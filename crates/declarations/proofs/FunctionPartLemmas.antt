@@ -15,7 +15,7 @@ use Rattle.pm_stream.specs.declared.stream.Group.{Group as Grouped}
 use Rattle.pm_stream.specs.declared.stream.TokenTree.{TokenTree}
 use Rattle.pm_stream.specs.declared.stream.TokenTree.TheVariants.{Group, Ident}
 use Rattle.declarations.specs.Forms.{start}
-use Rattle.declarations.specs.Function.{AreParentheses, HasReturn}
+use Rattle.declarations.specs.Function.{AreParentheses, HasReturn, IsBlock}
 use Rattle.declarations.specs.Function.{IsNameAt}
 use Rattle.declarations.specs.Item.{IsNameClass}
 use Rattle.declarations.specs.Reader.{Finds, ReadsRule, Sticks, classes_in}
@@ -30,12 +30,12 @@ use Rattle.declarations.specs.declared.walk_state.Part.TheVariants as parts
 use Rattle.declarations.specs.declared.walk_state.Continuation.TheVariants as places
 use Rattle.declarations.specs.declared.walk_state.Spot.TheVariants as spots
 use Rattle.declarations.specs.declared.walk_state.State.TheVariants as states
-use Rattle.declarations.specs.rules.Bodies.{body_end, braces, semicolon}
-use Rattle.declarations.specs.rules.Classes.{is, is_round, is_word}
+use Rattle.declarations.specs.rules.Bodies.{block, braces, function_end, semicolon}
+use Rattle.declarations.specs.rules.Classes.{is, is_block, is_round, is_word}
 use Rattle.declarations.specs.rules.Fronts.{is_safe}
 use Rattle.declarations.specs.rules.Functions as rule
 use Rattle.declarations.specs.rules.Names.{Body, Label, Name as RuleName, Rest, Returns, key}
-use Rattle.declarations.specs.rules.Names.{one, word}
+use Rattle.declarations.specs.rules.Names.{G, one, word}
 use Rattle.declarations.specs.rules.Parts.{generics, visibility, where_clause}
 use Rattle.declarations.specs.rules.Rules.{follows, rules}
 use Rattle.declarations.specs.rules.Types.{type}
@@ -241,7 +241,7 @@ round_delimiter delimiters.Parenthesis f h = refl
 round_delimiter delimiters.Bracket f h = absurd (both_ways _ refl h)
 round_delimiter delimiters.Brace f h = absurd (both_ways _ refl h)
 round_delimiter delimiters.None f h =
-    absurd (both_ways _ (unseen (λ c. is_round c ≡ false) f refl refl refl refl) h)
+    absurd (both_ways _ (unseen (λ c. is_round c ≡ false) f refl refl refl refl refl) h)
 
 pub are_parentheses : (trees rest : List TokenTree) (g : Grouped) → trees ≡ Group g ∷ rest
     → g.delimiter ≡ delimiters.Parenthesis
@@ -319,7 +319,7 @@ no_return trees returned e = inr (e, refl)
 
 pub ruleset returns = (arrow_finds, arrow_sticks, arrow_has, no_arrow, no_arrow_left, no_return)
 
--- ---- bodies
+-- ---- braces
 
 brace_sort : (c : SignClass) → is signs.Braces c ≡ true → sort_of c ≡ groups
 brace_sort c h = ap sort_of (same_class signs.Braces c h)
@@ -328,7 +328,7 @@ brace_delimiter : (d : Delimiter) (f : Forest) → is signs.Braces (group_class 
 brace_delimiter delimiters.Brace f h = refl
 brace_delimiter delimiters.Bracket f h = absurd (both_ways _ refl h)
 brace_delimiter delimiters.None f h =
-    absurd (both_ways _ (unseen (λ c. is signs.Braces c ≡ false) f refl refl refl refl) h)
+    absurd (both_ways _ (unseen (λ c. is signs.Braces c ≡ false) f refl refl refl refl refl) h)
 brace_delimiter delimiters.Parenthesis f h = absurd (both_ways _ (round f) h)
   where
     round : (f : Forest) → is signs.Braces (group_class delimiters.Parenthesis f) ≡ false
@@ -340,48 +340,75 @@ braces_heads : (cs : List SignClass) → heads braces cs ≡ heads (one signs.Br
 braces_heads [] = refl
 braces_heads (c ∷ cs) = refl
 
-pub body_finds : (trees rest : List TokenTree) (g : Grouped) → trees ≡ Group g ∷ rest → g.delimiter ≡ delimiters.Brace
-    → Finds body_end trees rest
-body_finds trees rest g whole brace =
-    let b = begins_group trees rest g whole in
-    let class : is signs.Braces (group_class g.delimiter g.stream) ≡ true =
-    ap (λ d. is signs.Braces (group_class d g.stream)) brace in
-    first_finds braces semicolon trees rest
-    (braces_heads (classes_in trees)
-    ∙ (heads_sign (one signs.Braces) trees rest (group_class g.delimiter g.stream) b ∙ class))
-    (mark_finds Body (one signs.Braces) trees rest
-    (sign_finds (is signs.Braces) trees rest (group_class g.delimiter g.stream) b class))
-
 -- where no braces are
+pub no_braces : (trees : List TokenTree)
+    → ((g : Grouped) (rest : List TokenTree) → trees ≡ Group g ∷ rest → g.delimiter ≡ delimiters.Brace → ⊥)
+    → heads braces (classes_in trees) ≡ false
+no_braces trees none =
+    braces_heads (classes_in trees)
+    ∙ no_sign (is signs.Braces) trees
+    (λ sign after e h.
+    let at = is_group_sign trees sign after e (brace_sort sign.class h) in
+    let class : sign.class ≡ group_class at.0.delimiter at.0.stream = ap (λ s. s.class) at.1.is in
+    none at.0 at.1.more at.1.whole
+    (brace_delimiter at.0.delimiter at.0.stream (ap (is signs.Braces) (sym class) ∙ h)))
+
+-- ---- bodies
+
+block_sort : (c : SignClass) → is_block c ≡ true → sort_of c ≡ groups
+block_sort signs.Braces h = refl
+block_sort signs.Block h = refl
+block_sort (signs.Word w) h = absurd (both_ways _ refl h)
+block_sort (signs.Keyword k) h = absurd (both_ways _ refl h)
+block_sort _ h = absurd (both_ways _ refl h)
+
+-- the sign of a block
+abbrev block_sign : G
+block_sign = Sign is_block
+
+block_heads : (cs : List SignClass) → heads block cs ≡ heads block_sign cs
+block_heads [] = refl
+block_heads (c ∷ cs) = refl
+
+pub body_finds : (trees rest : List TokenTree) (g : Grouped) → trees ≡ Group g ∷ rest → IsBlock g
+    → Finds function_end trees rest
+body_finds trees rest g whole is =
+    let b = begins_group trees rest g whole in
+    first_finds block semicolon trees rest
+    (block_heads (classes_in trees)
+    ∙ (heads_sign block_sign trees rest (group_class g.delimiter g.stream) b ∙ is))
+    (mark_finds Body block_sign trees rest
+    (sign_finds is_block trees rest (group_class g.delimiter g.stream) b is))
+
+-- where no block is
 module _ (trees : List TokenTree)
-    (none : (g : Grouped) (rest : List TokenTree) → trees ≡ Group g ∷ rest → g.delimiter ≡ delimiters.Brace → ⊥) where
-  pub no_braces : heads braces (classes_in trees) ≡ false
-  no_braces =
-      braces_heads (classes_in trees)
-      ∙ no_sign (is signs.Braces) trees
+    (none : (g : Grouped) (rest : List TokenTree) → trees ≡ Group g ∷ rest → IsBlock g → ⊥) where
+  no_block : heads block (classes_in trees) ≡ false
+  no_block =
+      block_heads (classes_in trees)
+      ∙ no_sign is_block trees
       (λ sign after e h.
-      let at = is_group_sign trees sign after e (brace_sort sign.class h) in
+      let at = is_group_sign trees sign after e (block_sort sign.class h) in
       let class : sign.class ≡ group_class at.0.delimiter at.0.stream = ap (λ s. s.class) at.1.is in
-      none at.0 at.1.more at.1.whole
-      (brace_delimiter at.0.delimiter at.0.stream (ap (is signs.Braces) (sym class) ∙ h)))
+      none at.0 at.1.more at.1.whole (ap is_block (sym class) ∙ h))
 
   pub semicolon_finds : (rest : List TokenTree) (class : SignClass) → BeginsWith trees class rest
       → is signs.Semicolon class ≡ true
-      → Finds body_end trees rest
+      → Finds function_end trees rest
   semicolon_finds rest class b h =
-      other_finds braces semicolon trees rest no_braces refl
+      other_finds block semicolon trees rest no_block refl
       (mark_finds Rest (one signs.Semicolon) trees rest (sign_finds (is signs.Semicolon) trees rest class b h))
 
   pub body_sticks : (rest : List TokenTree) (class : SignClass) → BeginsWith trees class rest
       → is signs.Semicolon class ≡ false
-      → Sticks body_end trees trees
+      → Sticks function_end trees trees
   body_sticks rest class b h =
-      other_sticks braces semicolon trees trees no_braces refl
+      other_sticks block semicolon trees trees no_block refl
       (mark_sticks Rest (one signs.Semicolon) trees trees (sign_sticks (is signs.Semicolon) trees rest class b h))
 
-  pub body_ends : trees ≡ [] → Sticks body_end trees trees
+  pub body_ends : trees ≡ [] → Sticks function_end trees trees
   body_ends e =
-      other_sticks braces semicolon trees trees no_braces refl
+      other_sticks block semicolon trees trees no_block refl
       (mark_sticks Rest (one signs.Semicolon) trees trees (sign_ends (is signs.Semicolon) trees e))
 
 pub semicolon_has : (trees rest : List TokenTree) (class : SignClass) → BeginsWith trees class rest

@@ -293,14 +293,14 @@ brace_of delimiters.Bracket f is = cc
 brace_of delimiters.Brace f is = refl
 brace_of delimiters.None f is =
     unseen (λ class. class ≡ signs.Braces → delimiters.None ≡ delimiters.Brace) f (λ h. cc) (λ h. cc) (λ h. cc)
-    (λ h. cc) is
+    (λ h. cc) (λ h. cc) is
 
 parenthesis_of : (d : Delimiter) (f : Forest) → IsTuple structure (group_class d f) → d ≡ delimiters.Parenthesis
 parenthesis_of delimiters.Parenthesis f is = refl
 parenthesis_of delimiters.Bracket f is = absurd is
 parenthesis_of delimiters.Brace f is = absurd is
 parenthesis_of delimiters.None f is =
-    absurd (unseen (λ class. IsTuple structure class → ⊥) f (λ h. h) (λ h. h) (λ h. h) (λ h. h) is)
+    absurd (unseen (λ class. IsTuple structure class → ⊥) f (λ h. h) (λ h. h) (λ h. h) (λ h. h) (λ h. h) is)
 
 braces_end : (kind : Declared) (trees more : List TokenTree) (sign : Sign) → signs trees ≡ sign ∷ signs more
     → trees ≡ sign.trees ++ more → more ≡ [] → sign.class ≡ signs.Braces → (kind ≡ tuple → ⊥) → LastOf kind trees
@@ -560,7 +560,7 @@ no_semicolon delimiters.Parenthesis f is =
 no_semicolon delimiters.Bracket f is = cc
 no_semicolon delimiters.Brace f is = cc
 no_semicolon delimiters.None f is =
-    unseen (λ class. class ≡ signs.Semicolon → ⊥) f (λ h. cc) (λ h. cc) (λ h. cc) (λ h. cc) is
+    unseen (λ class. class ≡ signs.Semicolon → ⊥) f (λ h. cc) (λ h. cc) (λ h. cc) (λ h. cc) (λ h. cc) is
 
 pub braces_found : (kind : Declared) (trees rest : List TokenTree) (g : Grouped) → LastOf kind trees
     → trees ≡ Group g ∷ rest → (g.delimiter ≡ delimiters.Brace) × (rest ≡ [])

@@ -120,6 +120,7 @@ type_start = record { item = items.Alone; rule = rules.Alone; state = states.Ran
 abbrev BeginsNone : SignClass → Type 0
 BeginsNone classes.Literal = Unit {0}
 BeginsNone classes.Braces = Unit {0}
+BeginsNone classes.Block = Unit {0}
 BeginsNone classes.Truth = Unit {0}
 BeginsNone classes.Minus = Unit {0}
 BeginsNone _ = ⊥
@@ -127,6 +128,7 @@ BeginsNone _ = ⊥
 no_step : (class : SignClass) → BeginsNone class → step type_start class ≡ None
 no_step classes.Literal none = refl
 no_step classes.Braces none = refl
+no_step classes.Block none = refl
 no_step classes.Truth none = refl
 no_step classes.Minus none = refl
 no_step class none = absurd none
@@ -134,6 +136,7 @@ no_step class none = absurd none
 constant_begins : (class : SignClass) → is_constant class ≡ true → BeginsNone class
 constant_begins classes.Literal is = tt
 constant_begins classes.Braces is = tt
+constant_begins classes.Block is = tt
 constant_begins classes.Truth is = tt
 constant_begins class is = cc
 

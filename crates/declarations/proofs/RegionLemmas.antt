@@ -358,6 +358,7 @@ closed_takes kind class =
 default_takes : (i : Item) (class : SignClass) → TakesGeneric i (spotted const_default) class
 default_takes i signs.Literal = (spotted const_end, refl, refl)
 default_takes i signs.Braces = (spotted const_end, refl, refl)
+default_takes i signs.Block = (spotted const_end, refl, refl)
 default_takes i signs.Truth = (spotted const_end, refl, refl)
 default_takes i signs.Minus = (spotted const_minus, refl, refl)
 default_takes i class =

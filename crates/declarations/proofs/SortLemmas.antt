@@ -11,10 +11,10 @@ use Rattle.pm_stream.specs.declared.stream.TokenTree.{TokenTree}
 use Rattle.pm_stream.specs.declared.stream.TokenTree.TheVariants.{Group, Ident, Punct, Literal}
 use Rattle.declarations.proofs.SignLemmas.{signs-cons, pair_signs}
 use Rattle.declarations.specs.Bare.{innermost, innermost_trees}
-use Rattle.declarations.specs.Signs.{Sign, signs, class_or_name, group_class, held_class, is_restriction, is_truth}
-use Rattle.declarations.specs.Signs.{is_visibility, is_written, keyword_of, keyword_or_word, mark_class, marks_class}
-use Rattle.declarations.specs.Signs.{name_class, operand_class, operator_class, or_else, pair_class, path_class}
-use Rattle.declarations.specs.Signs.{joint_class, loose_class, parentheses_class, tree_class, unseen_class}
+use Rattle.declarations.specs.Signs.{Sign, signs, class_or_name, group_class, held_class, held_group, is_restriction}
+use Rattle.declarations.specs.Signs.{is_truth, is_visibility, is_written, keyword_of, keyword_or_word, mark_class}
+use Rattle.declarations.specs.Signs.{marks_class, name_class, operand_class, operator_class, or_else, pair_class}
+use Rattle.declarations.specs.Signs.{joint_class, loose_class, parentheses_class, path_class, tree_class, unseen_class}
 use Rattle.declarations.specs.declared.class.SignClass.{SignClass}
 use Rattle.declarations.specs.declared.class.Keyword.{Keyword}
 use Rattle.declarations.specs.declared.class.SignClass.TheVariants as signs
@@ -33,6 +33,7 @@ sort_of signs.Parentheses = groups
 sort_of signs.Brackets = groups
 sort_of signs.Braces = groups
 sort_of signs.Visibility = groups
+sort_of signs.Block = groups
 sort_of signs.Invisible = groups
 sort_of signs.Less = marks
 sort_of signs.LessJoint = marks
@@ -197,29 +198,38 @@ pair_sort (Group g) second = tt
 pair_sort (Ident i) second = tt
 pair_sort (Literal l) second = tt
 
+held_one : (P : SignClass → Type 0) (d : Delimiter) → P signs.Block → P signs.Invisible → P (held_group d)
+held_one P delimiters.Brace block other = block
+held_one P delimiters.Parenthesis block other = other
+held_one P delimiters.Bracket block other = other
+held_one P delimiters.None block other = other
+
 held_class_holds : (P : SignClass → Type 0) (trees : List TokenTree) → P signs.Lifetime → P signs.Literal
+    → P signs.Block
     → P signs.Invisible
     → P (held_class trees)
-held_class_holds P [] lifetime literal other = other
-held_class_holds P (Group g ∷ rest) lifetime literal other = other
-held_class_holds P (Ident i ∷ rest) lifetime literal other = other
-held_class_holds P (Literal l ∷ []) lifetime literal other = literal
-held_class_holds P (Literal l ∷ tree ∷ rest) lifetime literal other = other
-held_class_holds P (Punct p ∷ []) lifetime literal other = other
-held_class_holds P (Punct p ∷ Group g ∷ rest) lifetime literal other = other
-held_class_holds P (Punct p ∷ Punct q ∷ rest) lifetime literal other = other
-held_class_holds P (Punct p ∷ Literal l ∷ rest) lifetime literal other = other
-held_class_holds P (Punct p ∷ Ident i ∷ []) lifetime literal other =
+held_class_holds P [] lifetime literal block other = other
+held_class_holds P (Group g ∷ []) lifetime literal block other = held_one P g.delimiter block other
+held_class_holds P (Group g ∷ tree ∷ rest) lifetime literal block other = other
+held_class_holds P (Ident i ∷ rest) lifetime literal block other = other
+held_class_holds P (Literal l ∷ []) lifetime literal block other = literal
+held_class_holds P (Literal l ∷ tree ∷ rest) lifetime literal block other = other
+held_class_holds P (Punct p ∷ []) lifetime literal block other = other
+held_class_holds P (Punct p ∷ Group g ∷ rest) lifetime literal block other = other
+held_class_holds P (Punct p ∷ Punct q ∷ rest) lifetime literal block other = other
+held_class_holds P (Punct p ∷ Literal l ∷ rest) lifetime literal block other = other
+held_class_holds P (Punct p ∷ Ident i ∷ []) lifetime literal block other =
     either P (p.mark == 39) signs.Lifetime signs.Invisible lifetime other
-held_class_holds P (Punct p ∷ Ident i ∷ tree ∷ rest) lifetime literal other = other
+held_class_holds P (Punct p ∷ Ident i ∷ tree ∷ rest) lifetime literal block other = other
 
 -- what holds of all classes of groups without delimiters holds of each such group
 pub unseen : (P : SignClass → Type 0) (inside : Forest) → P signs.Visibility → P signs.Lifetime → P signs.Literal
+    → P signs.Block
     → P signs.Invisible
     → P (unseen_class inside)
-unseen P inside visibility lifetime literal other =
+unseen P inside visibility lifetime literal block other =
     either P (is_visibility (innermost inside)) signs.Visibility (held_class (innermost_trees inside)) visibility
-    (held_class_holds P (innermost_trees inside) lifetime literal other)
+    (held_class_holds P (innermost_trees inside) lifetime literal block other)
 
 -- the kinds of signs that a group can be
 abbrev pub MayBeGroup : Sort → Type 0
@@ -233,7 +243,7 @@ group_sort g delimiters.Parenthesis =
     elim (is_restriction g.stream) as (λ b. MayBeGroup (sort_of (parentheses_class b))) [ true ↦ tt | false ↦ tt ]
 group_sort g delimiters.Bracket = tt
 group_sort g delimiters.Brace = tt
-group_sort g delimiters.None = unseen (λ c. MayBeGroup (sort_of c)) g.stream tt tt tt tt
+group_sort g delimiters.None = unseen (λ c. MayBeGroup (sort_of c)) g.stream tt tt tt tt tt
 
 -- the first sign is this one tree
 pub record IsTree (trees : List TokenTree) (sign : Sign) (tree : TokenTree) : Type 0 where

@@ -158,6 +158,7 @@ delimits delimiters.None f which =
     (no_fields signs.Visibility (λ is. cc) (λ is. cc) (λ is. cc))
     (no_fields signs.Lifetime (λ is. cc) (λ is. cc) (λ is. cc))
     (no_fields signs.Literal (λ is. cc) (λ is. cc) (λ is. cc))
+    (no_fields signs.Block (λ is. cc) (λ is. cc) (λ is. cc))
     (no_fields signs.Invisible (λ is. cc) (λ is. cc) (λ is. cc)) which)
 
 group_left : (trees more : List TokenTree) (sign : Sign) (next : WalkState) → signs trees ≡ sign ∷ signs more
@@ -178,7 +179,7 @@ no_equals delimiters.Parenthesis f is =
 no_equals delimiters.Bracket f is = cc
 no_equals delimiters.Brace f is = cc
 no_equals delimiters.None f is =
-    unseen (λ class. class ≡ signs.Equals → ⊥) f (λ h. cc) (λ h. cc) (λ h. cc) (λ h. cc) is
+    unseen (λ class. class ≡ signs.Equals → ⊥) f (λ h. cc) (λ h. cc) (λ h. cc) (λ h. cc) (λ h. cc) is
 
 no_group : (trees : List TokenTree) (sign : Sign) (all : List Sign) → signs trees ≡ sign ∷ all
     → sign.class ≡ signs.Equals → (g : Grouped) (rest : List TokenTree) → trees ≡ Group g ∷ rest → ⊥

@@ -1,5 +1,5 @@
 -- The parts of a function, in reading order.
-use Rattle.std.specs.Prelude.{◌≡◌, List, [], ◌∷◌, ◌⊎◌, Option, Some, None}
+use Rattle.std.specs.Prelude.{◌≡◌, List, [], ◌∷◌, ◌⊎◌, Option, Some, None, true}
 use Rattle.std.specs.Borrow.{Bor}
 use Rattle.pm_token.specs.Leaf.{Name}
 use Rattle.pm_token.specs.declared.delimiters.Delimiter.TheVariants as delimiters
@@ -8,11 +8,12 @@ use Rattle.pm_stream.specs.declared.stream.TokenTree.{TokenTree}
 use Rattle.pm_stream.specs.declared.stream.TokenTree.TheVariants.{Group, Ident}
 use Rattle.declarations.specs.Item.{IsNameClass}
 use Rattle.declarations.specs.Reading.{Reads}
-use Rattle.declarations.specs.Signs.{BeginsWith, name_class}
+use Rattle.declarations.specs.Signs.{BeginsWith, group_class, name_class}
 use Rattle.declarations.specs.Whole.{ReadsAll}
 use Rattle.declarations.specs.declared.class.SignClass.TheVariants as classes
 use Rattle.declarations.specs.declared.class.Keyword.TheVariants as keywords
 use Rattle.declarations.specs.declared.function.Function.{Function}
+use Rattle.declarations.specs.rules.Classes.{is_block}
 use Rattle.declarations.specs.rules.Functions as rule
 use Rattle.declarations.specs.rules.Names.{key}
 use Rattle.declarations.specs.rules.Parts.{attributes, generics, visibility, where_clause}
@@ -39,9 +40,13 @@ pub record HasArrow (trees returned rest : List TokenTree) : Type 0 where
 abbrev pub HasReturn : List TokenTree → List TokenTree → List TokenTree → Type 0
 HasReturn trees returned rest = HasArrow trees returned rest ⊎ ((returned ≡ []) × (trees ≡ rest))
 
--- the trees begin with this body in braces, or with `;`
+-- the group is a block: braces, or a group without delimiters that holds only braces, perhaps in more such groups
+abbrev pub IsBlock : Grouped → Type 0
+IsBlock group = is_block (group_class group.delimiter group.stream) ≡ true
+
+-- the trees begin with this block, or with `;`
 abbrev pub HasBody : Option (Bor Grouped) → List TokenTree → List TokenTree → Type 0
-HasBody (Some body) trees rest = (trees ≡ Group body.now ∷ rest) × (body.now.delimiter ≡ delimiters.Brace)
+HasBody (Some body) trees rest = (trees ≡ Group body.now ∷ rest) × IsBlock body.now
 HasBody None trees rest = BeginsWith trees classes.Semicolon rest
 
 -- the trees after the parameters begin with this return type, this where clause and this body

@@ -58,6 +58,7 @@ type_name item class = parameter_end item class
 abbrev pub const_default : Item → SignClass → Option Shift
 const_default item signs.Literal = to_spot item spots.ConstEnd
 const_default item signs.Braces = to_spot item spots.ConstEnd
+const_default item signs.Block = to_spot item spots.ConstEnd
 const_default item signs.Truth = to_spot item spots.ConstEnd
 const_default item signs.Minus = to_spot item spots.ConstMinus
 const_default item _ = None

@@ -27,6 +27,11 @@ in_braces items.Macro = true
 in_braces items.Call = true
 in_braces _ = false
 
+-- whether the item may end with a block in a group without delimiters
+abbrev pub in_block : Item → Bool
+in_block items.Returning = true
+in_block _ = false
+
 -- whether the item may end with `;`
 abbrev pub in_semicolon : Item → Bool
 in_semicolon items.Struct = true
@@ -52,6 +57,7 @@ value _ = None
 -- the step after the header of an item, or after its where clause
 abbrev pub body : Item → SignClass → Option Shift
 body item signs.Braces = only (in_braces item) (to_spot item spots.ItemEnd)
+body item signs.Block = only (in_block item) (to_spot item spots.ItemEnd)
 body item signs.Semicolon = only (in_semicolon item) (to_spot item spots.ItemEnd)
 body item signs.Equals = value item
 body item _ = None

@@ -85,6 +85,7 @@ HasBounds kinds.Const trees bounds rest = MustHave classes.Colon (Reads IsType) 
 abbrev pub is_constant : SignClass → Bool
 is_constant classes.Literal = true
 is_constant classes.Braces = true
+is_constant classes.Block = true
 is_constant classes.Truth = true
 is_constant _ = false
 

@@ -211,10 +211,16 @@ is_visibility nil = true
 is_visibility (leaf token lo hi rest) = is_pub_by token (may_restrict rest)
 is_visibility (group d lo hi inside rest) = false
 
--- the class of trees in a group without delimiters that are no visibility: a literal, `'` (39) and an identifier, or
--- other trees
+-- the class of a group without delimiters that holds only a group with these delimiters
+abbrev pub held_group : Delimiter → SignClass
+held_group delimiters.Brace = classes.Block
+held_group _ = classes.Invisible
+
+-- the class of trees in a group without delimiters that are no visibility: a literal, `'` (39) and an identifier,
+-- braces alone, or other trees
 abbrev pub held_class : List TokenTree → SignClass
 held_class (Literal l ∷ []) = classes.Literal
+held_class (Group g ∷ []) = held_group g.delimiter
 held_class (Punct p ∷ Ident i ∷ []) = if p.mark == 39 then classes.Lifetime else classes.Invisible
 held_class _ = classes.Invisible
 

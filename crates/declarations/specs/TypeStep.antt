@@ -3,11 +3,10 @@ use Rattle.std.specs.Prelude.{Bool, true, false, Option, Some, None}
 use Rattle.declarations.specs.declared.class.SignClass.{SignClass}
 use Rattle.declarations.specs.declared.class.SignClass.TheVariants.{Word, SelfValue, SelfType, Super, Crate, Underscore}
 use Rattle.declarations.specs.declared.class.SignClass.TheVariants.{As, Truth, Literal, Lifetime, PathSeparator, Arrow}
-use Rattle.declarations.specs.declared.class.SignClass.TheVariants.{Restriction, Parentheses, Brackets, Braces}
-use Rattle.declarations.specs.declared.class.SignClass.TheVariants.{Invisible}
-use Rattle.declarations.specs.declared.class.SignClass.TheVariants.{Less, LessJoint, Greater, Comma, Colon, Equals}
-use Rattle.declarations.specs.declared.class.SignClass.TheVariants.{Plus, Minus, Star, And, Question, Exclamation}
-use Rattle.declarations.specs.declared.class.SignClass.TheVariants.{Tilde}
+use Rattle.declarations.specs.declared.class.SignClass.TheVariants.{Restriction, Parentheses, Brackets, Braces, Block}
+use Rattle.declarations.specs.declared.class.SignClass.TheVariants.{Invisible, Less, LessJoint, Greater, Comma, Colon}
+use Rattle.declarations.specs.declared.class.SignClass.TheVariants.{Equals, Plus, Minus, Star, And, Question}
+use Rattle.declarations.specs.declared.class.SignClass.TheVariants.{Exclamation, Tilde}
 use Rattle.declarations.specs.declared.class.SignClass.TheVariants as signs
 use Rattle.declarations.specs.declared.class.Keyword.{Keyword}
 use Rattle.declarations.specs.declared.class.Keyword.TheVariants as keywords
@@ -63,6 +62,7 @@ operand Exclamation outside = stay states.Whole
 operand Truth outside = within outside (stay states.Whole)
 operand Literal outside = within outside (stay states.Whole)
 operand Braces outside = within outside (stay states.Whole)
+operand Block outside = within outside (stay states.Whole)
 operand PathSeparator outside = stay states.Wanted
 operand And outside = stay states.Wanted
 operand Question outside = stay states.Wanted

@@ -16,6 +16,7 @@ pub(crate) fn expression(item: Item, class: SignClass) -> Option<Shift>
         | SignClass::Parentheses
         | SignClass::Brackets
         | SignClass::Braces
+        | SignClass::Block
         | SignClass::Invisible
         | SignClass::Word(_)
         | SignClass::SelfValue
@@ -67,6 +68,7 @@ fn operator(item: Item, class: SignClass) -> Option<Shift>
         | SignClass::Parentheses
         | SignClass::Brackets
         | SignClass::Braces
+        | SignClass::Block
         | SignClass::Invisible
         | SignClass::Question
         | SignClass::Await => to_spot(item, Spot::ExpressionWhole),
@@ -146,6 +148,7 @@ pub(crate) fn cast(item: Item, class: SignClass) -> Option<Shift>
         | SignClass::Parentheses
         | SignClass::Brackets
         | SignClass::Braces
+        | SignClass::Block
         | SignClass::Invisible
         | SignClass::Word(_)
         | SignClass::SelfValue

@@ -6,12 +6,12 @@ ghost use Rattle.pm_stream.specs.declared.stream.TokenTree.{TokenTree as Tree};
 ghost use Rattle.pm_stream.specs.declared.stream.TokenTree.TheVariants as trees_are;
 ghost use Rattle.declarations.specs.Fault.{extent_at};
 ghost use Rattle.declarations.specs.Function.{AreParentheses, HasBody, HasEnd, HasFunctionParts, HasReturn};
-ghost use Rattle.declarations.specs.Function.{IsFunction, IsNameAt};
+ghost use Rattle.declarations.specs.Function.{IsBlock, IsFunction, IsNameAt};
 ghost use Rattle.declarations.specs.Reader.{Finds, ReadsRule, Sticks};
 ghost use Rattle.declarations.specs.Reading.{FaultAt};
 ghost use Rattle.declarations.specs.Whole.{IsWhole};
-ghost use Rattle.declarations.specs.rules.Bodies.{body_end, returning};
-ghost use Rattle.declarations.specs.rules.Classes.{is_round, is_word};
+ghost use Rattle.declarations.specs.rules.Bodies.{function_end, returning};
+ghost use Rattle.declarations.specs.rules.Classes.{is_block, is_round, is_word};
 ghost use Rattle.declarations.specs.rules.Fronts.{is_safe};
 ghost use Rattle.declarations.specs.rules.Functions.{abi, function_item, qualifiers, return_type_rule};
 ghost use Rattle.declarations.specs.rules.Names.{one, word};
@@ -23,11 +23,11 @@ use crate::fault::Fault;
 use crate::item::{split_group, split_name, split_parentheses};
 use crate::parameter::{past_attributes, past_type};
 use crate::reader::{begins_identifier, begins_mark, is, part, past};
-use crate::signs::{first_sign, name_class};
+use crate::signs::{first_sign, group_class, name_class};
 use crate::walk::walk_past;
 use crate::walk_state::{Continuation, Item, Spot, State, WalkState};
 use pm_stream::{Group, TokenTree};
-use pm_token::{Delimiter, Ident};
+use pm_token::Ident;
 
 /// A function, with its parts in reading order.
 #[derive(Clone, Copy, Debug)]
@@ -48,7 +48,8 @@ pub struct Function<'a> {
     pub return_type: &'a [TokenTree],
     /// The where clause with its `where`, perhaps nothing.
     pub where_clause: &'a [TokenTree],
-    /// The body in braces, or `None` if the function ends in `;`.
+    /// The body in braces, or `None` if the function ends in `;`. If a macro by example passed the body as `$b:block`,
+    /// it is the group without delimiters that holds these braces, perhaps in more such groups.
     pub body: Option<&'a Group>,
 }
 
@@ -65,9 +66,8 @@ pub struct Function<'a> {
 ///
 /// If the trees are not exactly one function, the call returns a `Fault`. Its position is before the first tree that
 /// does not fit, which may be a tree after the function. The rule `function-item` is in crates/declarations/README.md.
-/// The call rejects `gen fn`, and a body in a group without delimiters, such as a macro by example passes for
-/// `$b:block`. It also rejects a function inside a group without delimiters: pass the trees of this group. The call
-/// allocates nothing.
+/// The call rejects `gen fn`. It also rejects a function inside a group without delimiters: pass the trees of this
+/// group. The call allocates nothing.
 #[tactic(auto, using(crate::proofs::FunctionLemmas::promises))]
 pub fn parse_function(trees: &[TokenTree]) -> Result<Function<'_>, Fault>
     ensures ok { IfOk result (λ function. IsFunction trees.now function) }
@@ -338,13 +338,13 @@ pub(crate) fn return_of(trees: &[TokenTree]) -> Result<(&[TokenTree], &[TokenTre
     }
 }
 
-/// Reads a body or `;`. Returns the body, or `None` for `;`, and the trees after it.
+/// Reads a block or `;`. Returns the block, or `None` for `;`, and the trees after it.
 #[tactic(auto, using(crate::proofs::FunctionPartLemmas::bodies))]
 fn body_of(trees: &[TokenTree]) -> Result<(Option<&Group>, &[TokenTree]), &[TokenTree]>
-    ensures { MatchResult result (λ found. Finds body_end trees.now found.1.now
-        × HasBody found.0 trees.now found.1.now) (λ left. Sticks body_end trees.now left.now) }
+    ensures { MatchResult result (λ found. Finds function_end trees.now found.1.now
+        × HasBody found.0 trees.now found.1.now) (λ left. Sticks function_end trees.now left.now) }
 {
-    if let Some((body, rest)) = split_braces(trees) {
+    if let Some((body, rest)) = split_block(trees) {
         return Ok((Some(body), rest));
     }
     match first_sign(trees) {
@@ -359,15 +359,25 @@ fn body_of(trees: &[TokenTree]) -> Result<(Option<&Group>, &[TokenTree]), &[Toke
     }
 }
 
-/// The group in braces at the start of the trees, and the trees after it.
-pub(crate) fn split_braces(trees: &[TokenTree]) -> Option<(&Group, &[TokenTree])>
+/// Whether the sign is braces, or a group without delimiters that holds only braces.
+fn is_block(class: SignClass) -> bool
+    ensures { result ≡ is_block class }
+{
+    match class {
+        SignClass::Braces | SignClass::Block => true,
+        _ => false,
+    }
+}
+
+/// The block at the start of the trees, and the trees after it.
+fn split_block(trees: &[TokenTree]) -> Option<(&Group, &[TokenTree])>
     ensures found { IfSome result (λ found. (trees.now ≡ trees_are.Group found.0.now ∷ found.1.now)
-        × (found.0.now.delimiter ≡ Delimiter.Brace)) }
+        × IsBlock found.0.now) }
     ensures none { IfNone result ((group : Grouped) → (rest : List Tree) → trees.now ≡ trees_are.Group group ∷ rest
-        → group.delimiter ≡ Delimiter.Brace → ⊥) }
+        → IsBlock group → ⊥) }
 {
     match split_group(trees) {
-        Some((group, rest)) if group.delimiter() == Delimiter::Brace => Some((group, rest)),
+        Some((group, rest)) if is_block(group_class(group)) => Some((group, rest)),
         _ => None,
     }
 }

@@ -159,7 +159,7 @@ fn is_constant(class: SignClass) -> bool
     ensures { result ≡ is_constant class }
 {
     match class {
-        SignClass::Literal | SignClass::Braces | SignClass::Truth => true,
+        SignClass::Literal | SignClass::Braces | SignClass::Block | SignClass::Truth => true,
         _ => false,
     }
 }
@@ -179,7 +179,11 @@ fn begins_constant(class: SignClass) -> bool
     ensures { result ≡ may_begin constant class }
 {
     match class {
-        SignClass::Minus | SignClass::Literal | SignClass::Braces | SignClass::Truth => true,
+        SignClass::Minus
+        | SignClass::Literal
+        | SignClass::Braces
+        | SignClass::Block
+        | SignClass::Truth => true,
         _ => false,
     }
 }

@@ -216,7 +216,10 @@ fn const_default(item: Item, class: SignClass) -> Option<Shift>
     ensures { result ≡ const_default item class }
 {
     match class {
-        SignClass::Literal | SignClass::Braces | SignClass::Truth => to_spot(item, Spot::ConstEnd),
+        SignClass::Literal | SignClass::Braces | SignClass::Block | SignClass::Truth => to_spot(
+            item,
+            Spot::ConstEnd,
+        ),
         SignClass::Minus => to_spot(item, Spot::ConstMinus),
         _ => None,
     }

@@ -1,8 +1,8 @@
 //! The steps of the walk over an item, from its name on. A step says where a sign leads.
 ghost use Rattle.std.specs.Prelude.{◌≡◌};
 ghost use Rattle.declarations.specs.Header.{alias_header, body, closing, function_header, generics, has_where};
-ghost use Rattle.declarations.specs.Header.{header, impl_header, in_braces, in_semicolon, is_alone, return_header};
-ghost use Rattle.declarations.specs.Header.{struct_header, trait_header, typed_header, value};
+ghost use Rattle.declarations.specs.Header.{header, impl_header, in_block, in_braces, in_semicolon, is_alone};
+ghost use Rattle.declarations.specs.Header.{return_header, struct_header, trait_header, typed_header, value};
 
 use crate::class::{Keyword, SignClass};
 use crate::walk_state::{
@@ -25,6 +25,16 @@ fn in_braces(item: Item) -> bool
         | Item::ExternBlock
         | Item::Macro
         | Item::Call => true,
+        _ => false,
+    }
+}
+
+/// Whether the item may end with a block in a group without delimiters.
+fn in_block(item: Item) -> bool
+    ensures { result ≡ in_block item }
+{
+    match item {
+        Item::Returning => true,
         _ => false,
     }
 }
@@ -66,6 +76,7 @@ pub(crate) fn body(item: Item, class: SignClass) -> Option<Shift>
 {
     match class {
         SignClass::Braces if in_braces(item) => to_spot(item, Spot::ItemEnd),
+        SignClass::Block if in_block(item) => to_spot(item, Spot::ItemEnd),
         SignClass::Semicolon if in_semicolon(item) => to_spot(item, Spot::ItemEnd),
         SignClass::Equals => value(item),
         _ => None,

@@ -19,7 +19,8 @@ ghost use Rattle.declarations.specs.rules.Pieces.{ByRule};
 
 use crate::class::{Keyword, SignClass, Word};
 use crate::fault::Fault;
-use crate::function::{is_name, may, past_generics, past_visibility, past_where, split_braces};
+use crate::function::{is_name, may, past_generics, past_visibility, past_where};
+use crate::item::split_braces;
 use crate::parameter::{past_attributes, past_type};
 use crate::reader::{is, part};
 use crate::signs::first_sign;

@@ -242,3 +242,16 @@ pub(crate) fn split_parentheses(trees: &[TokenTree]) -> Option<(&Group, &[TokenT
         _ => None,
     }
 }
+
+/// The group in braces that the trees begin with, and the trees after it.
+pub(crate) fn split_braces(trees: &[TokenTree]) -> Option<(&Group, &[TokenTree])>
+    ensures found { IfSome result (λ found. (trees.now ≡ trees_are.Group found.0.now ∷ found.1.now)
+        × (found.0.now.delimiter ≡ Delimiter.Brace)) }
+    ensures none { IfNone result ((group : Grouped) → (rest : List Tree) → trees.now ≡ trees_are.Group group ∷ rest
+        → group.delimiter ≡ Delimiter.Brace → ⊥) }
+{
+    match split_group(trees) {
+        Some((group, rest)) if group.delimiter() == Delimiter::Brace => Some((group, rest)),
+        _ => None,
+    }
+}

@@ -285,7 +285,7 @@ fn is_constant(class: SignClass) -> bool
     ensures { result ≡ is_constant class }
 {
     match class {
-        SignClass::Literal | SignClass::Braces | SignClass::Truth => true,
+        SignClass::Literal | SignClass::Braces | SignClass::Block | SignClass::Truth => true,
         _ => false,
     }
 }

@@ -3,7 +3,7 @@ ghost use Rattle.std.specs.Prelude.{◌≡◌, [], MatchOption, get_or, nat_eq};
 ghost use Rattle.std.specs.Cmp.Lexicographic.{pointwise};
 ghost use Rattle.pm_token.specs.Spelling.{name_text, spelled, spelling};
 ghost use Rattle.pm_stream.specs.Trees.{forest};
-ghost use Rattle.declarations.specs.Signs.{BeginsWith, group_class, held_class, is_early_keyword};
+ghost use Rattle.declarations.specs.Signs.{BeginsWith, group_class, held_class, held_group, is_early_keyword};
 ghost use Rattle.declarations.specs.Signs.{is_late_keyword, is_pub, is_restriction, is_truth, is_visibility};
 ghost use Rattle.declarations.specs.Signs.{item_keyword, joint_class, keyword_of, loose_class, mark_class};
 ghost use Rattle.declarations.specs.Signs.{marks_class, may_restrict};
@@ -19,8 +19,8 @@ use pm_token::{Delimiter, Ident, Spacing};
 ///
 /// `::`, `->`, `<=` and `||` are one sign if the first mark is `Joint`. A `'` and an identifier are one sign, and so
 /// are `#` and `!`. Every other tree is a sign of its own. A group without delimiters that holds a visibility, a
-/// lifetime or a literal has the class of what it holds. If it holds one such group alone, the innermost of these
-/// groups decides.
+/// lifetime or a literal has the class of what it holds. If it holds only braces, its class is `Block`. If it holds one
+/// group without delimiters alone, the innermost of these groups decides.
 ///
 /// The call takes O(1) time, and for groups without delimiters in one another time in proportion to their number. It
 /// allocates nothing.
@@ -114,7 +114,7 @@ fn tree_class(tree: &TokenTree) -> SignClass
     }
 }
 
-fn group_class(group: &Group) -> SignClass
+pub(crate) fn group_class(group: &Group) -> SignClass
     ensures { result ≡ group_class group.now.delimiter group.now.stream }
 {
     match group.delimiter() {
@@ -147,10 +147,21 @@ fn held_class(trees: &[TokenTree]) -> SignClass
     ensures { result ≡ held_class trees.now }
 {
     match trees {
+        [TokenTree::Group(group)] => held_group(group),
         [TokenTree::Literal(_)] => SignClass::Literal,
         [TokenTree::Punct(mark), TokenTree::Ident(_)] if mark.as_char() == '\'' =>
             SignClass::Lifetime,
         _ => SignClass::Invisible,
+    }
+}
+
+/// The class of a group without delimiters that holds only this group.
+fn held_group(group: &Group) -> SignClass
+    ensures { result ≡ held_group group.now.delimiter }
+{
+    match group.delimiter() {
+        Delimiter::Brace => SignClass::Block,
+        Delimiter::Parenthesis | Delimiter::Bracket | Delimiter::None => SignClass::Invisible,
     }
 }
 

@@ -129,9 +129,8 @@ fn operand(class: SignClass, outside: bool) -> Option<TypeStep>
         | SignClass::Brackets
         | SignClass::Invisible
         | SignClass::Exclamation => stay(TypeState::Whole),
-        SignClass::Truth | SignClass::Literal | SignClass::Braces if !outside => stay(
-            TypeState::Whole,
-        ),
+        SignClass::Truth | SignClass::Literal | SignClass::Braces | SignClass::Block if !outside =>
+            stay(TypeState::Whole),
         SignClass::PathSeparator | SignClass::And | SignClass::Question => stay(TypeState::Wanted),
         SignClass::Keyword(keyword) => front(keyword),
         SignClass::Lifetime => stay(TypeState::Lifetime),

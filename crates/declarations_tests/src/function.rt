@@ -309,13 +309,40 @@ fn a_group_without_delimiters_may_be_the_visibility(rt: HostRuntime) -> Result<(
     Ok(())
 }
 
-// A macro by example passes `$b:block` in such a group.
+// A macro by example passes `$b:block` so. Each row is the text before the groups, the text in them, the number of
+// groups, the text after them, and the answer.
 #[test]
-fn a_body_in_a_group_without_delimiters_is_not_read(rt: HostRuntime) -> Result<(), Fail> {
-    let mut map = SourceMap::new(rt.alloc());
-    let body = Group::new(Delimiter::None, TokenStream::from_str("{ x }", &mut map)?);
-    let mut stream = TokenStream::from_str("fn f()", &mut map)?;
-    stream.extend_streams([TokenStream::from_tree(rt.alloc(), TokenTree::Group(body))?])?;
-    assert_eq!(rt; read(stream.trees(), "f"), FaultAt(3));
+fn a_body_may_be_in_groups_without_delimiters(rt: HostRuntime) -> Result<(), Fail> {
+    for (before, inside, groups, after, wanted) in [
+        ("fn f()", "{ x }", 1usize, "", Body(0, 0, 0, 0, 0, 0, 0)),
+        (
+            "pub fn f(x: T) -> A",
+            "{ x }",
+            2,
+            "",
+            Body(0, 1, 0, 0, 1, 1, 0),
+        ),
+        ("fn f() where T: A,", "{}", 9, "", Body(0, 0, 0, 0, 0, 0, 5)),
+        ("fn f() where T:", "{}", 1, "", Body(0, 0, 0, 0, 0, 0, 3)),
+        ("fn f() where", "{}", 1, "", Body(0, 0, 0, 0, 0, 0, 1)),
+        ("fn f()", "{ x } y", 1, "", FaultAt(3)),
+        ("fn f()", "(x)", 1, "", FaultAt(3)),
+        ("fn f()", "", 1, "", FaultAt(3)),
+        ("fn f()", "{ x }", 1, "{}", FaultAt(4)),
+        ("fn f()", "{ x }", 2, ";", FaultAt(4)),
+        ("fn f() ->", "{ x }", 1, "{}", FaultAt(5)),
+        ("fn f", "{ x }", 1, "", FaultAt(2)),
+    ] {
+        let mut map = SourceMap::new(rt.alloc());
+        let mut held = TokenStream::from_str(inside, &mut map)?;
+        for _ in 0..groups {
+            let group = Group::new(Delimiter::None, held);
+            held = TokenStream::from_tree(rt.alloc(), TokenTree::Group(group))?;
+        }
+        let mut stream = TokenStream::from_str(before, &mut map)?;
+        stream.extend_streams([held, TokenStream::from_str(after, &mut map)?])?;
+        let found = read(stream.trees(), "f");
+        assert!(rt; found == wanted, "{inside:?} after {before:?}: {found:?}");
+    }
     Ok(())
 }

@@ -1,6 +1,6 @@
 // The generic arguments of paths. The crate syn 2 reads each text in the same way, unless a row says otherwise.
 use declarations::{ArgumentKind, GenericArguments, parse_generic_argument};
-use proc_macro2::{SourceMap, TokenStream};
+use proc_macro2::{Delimiter, Group, SourceMap, TokenStream, TokenTree};
 use std::process::Abort;
 use std::test::Fail;
 
@@ -132,5 +132,22 @@ fn an_argument_is_read_with_the_trees_after_it(rt: HostRuntime) -> Result<(), Fa
         }
         Err(_) => assert!(rt; false),
     }
+    Ok(())
+}
+
+// A macro by example passes `$b:block` in such a group.
+#[test]
+fn a_block_in_a_group_without_delimiters_is_a_constant(rt: HostRuntime) -> Result<(), Fail> {
+    let held = TokenStream::from_str("{ N }", &mut SourceMap::new(rt.alloc()))?;
+    let group = TokenTree::Group(Group::new(Delimiter::None, held));
+    let stream = TokenStream::from_tree(rt.alloc(), group)?;
+    let is_constant = match parse_generic_argument(stream.trees()) {
+        Ok((argument, rest)) => match argument.kind {
+            ArgumentKind::Const => argument.trees.len() == 1 && rest.is_empty(),
+            _ => false,
+        },
+        Err(_) => false,
+    };
+    assert!(rt; is_constant);
     Ok(())
 }

@@ -461,3 +461,47 @@ fn a_group_without_delimiters_has_the_class_of_what_it_holds(rt: HostRuntime) ->
         ],
     )
 }
+
+// A macro by example passes `$b:block` so. Braces of other items are no blocks.
+#[test]
+fn a_block_is_a_body_a_constant_or_an_operand_of_an_expression(
+    rt: HostRuntime,
+) -> Result<(), Fail> {
+    check_held(
+        &rt,
+        Part::AnyItem,
+        &[
+            ("fn f()", "{ x }", 1, "struct S;", Reads(4)),
+            ("fn f() -> A where T: B", "{ x }", 3, ";", Reads(11)),
+            ("fn f()", "{ x } y", 1, "", FaultAt(3)),
+            ("struct S", "{ x: u8 }", 1, "", FaultAt(2)),
+            ("impl A", "{}", 1, "", FaultAt(2)),
+            ("mod m", "{}", 1, "", FaultAt(2)),
+            ("m!", "{}", 1, "", FaultAt(2)),
+            ("", "{}", 1, "", FaultAt(0)),
+        ],
+    )?;
+    check_held(
+        &rt,
+        Part::Type,
+        &[
+            ("A<", "{ N }", 2, ">, x", Reads(4)),
+            ("A +", "{ N }", 1, "", Reads(2)),
+            ("", "{ N }", 1, ", x", FaultAt(0)),
+        ],
+    )?;
+    check_held(
+        &rt,
+        Part::Generics,
+        &[("<const N: u8 =", "{ 1 }", 2, ", T> x", Reads(10))],
+    )?;
+    check_held(
+        &rt,
+        Part::Expression,
+        &[
+            ("1 +", "{ 2 }", 1, ", x", Reads(3)),
+            ("1 as", "{ 2 }", 2, "* 3, x", Reads(5)),
+        ],
+    )?;
+    check_held(&rt, Part::Variant, &[("V", "{ x: u8 }", 1, "", Reads(1))])
+}

@@ -203,3 +203,18 @@ fn groups_without_delimiters_are_looked_through(rt: HostRuntime) -> Result<(), F
     }
     Ok(())
 }
+
+// A macro by example passes `$b:block` so, also through several macros.
+#[test]
+fn a_block_in_groups_without_delimiters_is_an_argument(rt: HostRuntime) -> Result<(), Fail> {
+    for times in [1usize, 2usize, 5usize] {
+        let mut map = SourceMap::new(rt.alloc());
+        let mut stream = TokenStream::from_str("a::A<", &mut map)?;
+        let after = TokenStream::from_str(", T>", &mut map)?;
+        stream.extend_streams([wrap_text(&rt, "{ N + 1 }", times)?, after])?;
+        assert!(rt; read(stream.trees(), "A") == Angle(3, 3, 2));
+        let alone = wrap_text(&rt, "{ N + 1 }", times)?;
+        assert!(rt; read(alone.trees(), "A") == FaultAt(0));
+    }
+    Ok(())
+}

@@ -51,6 +51,7 @@ fn trees_of(sign: &str) -> Result<Vec<TokenTree>, Box<dyn Error>> {
         "Brackets" => group(Delimiter::Bracket, Vec::new()),
         "Braces" => group(Delimiter::Brace, Vec::new()),
         "Visibility" => group(Delimiter::None, Vec::new()),
+        "Block" => group(Delimiter::None, group(Delimiter::Brace, Vec::new())),
         "Invisible" => group(Delimiter::None, ident("word")?),
         "LessJoint" => vec![TokenTree::Punct(Punct::new('<', Spacing::Joint))],
         "Less" => marks("<"),

@@ -110,6 +110,8 @@ pub enum SignClass {
     Braces,
     /// A group without delimiters that holds a visibility or nothing.
     Visibility,
+    /// A group without delimiters that holds only braces, in which a `macro_rules!` macro passes `$b:block`.
+    Block,
     /// Any other group without delimiters.
     Invisible,
     /// `<` with the spacing `Alone`.
@@ -222,5 +224,6 @@ pub(crate) fn code(class: SignClass) -> u8
         SignClass::Dot => 63,
         SignClass::Infix => 64,
         SignClass::Mark => 65,
+        SignClass::Block => 66,
     }
 }

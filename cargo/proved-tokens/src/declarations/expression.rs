@@ -12,6 +12,7 @@ pub(crate) fn expression(item: Item, class: SignClass) -> Option<Shift>
         | SignClass::Parentheses
         | SignClass::Brackets
         | SignClass::Braces
+        | SignClass::Block
         | SignClass::Invisible
         | SignClass::Word(_)
         | SignClass::SelfValue
@@ -61,6 +62,7 @@ fn operator(item: Item, class: SignClass) -> Option<Shift>
         | SignClass::Parentheses
         | SignClass::Brackets
         | SignClass::Braces
+        | SignClass::Block
         | SignClass::Invisible
         | SignClass::Question
         | SignClass::Await => to_spot(item, Spot::ExpressionWhole),
@@ -135,6 +137,7 @@ pub(crate) fn cast(item: Item, class: SignClass) -> Option<Shift>
         | SignClass::Parentheses
         | SignClass::Brackets
         | SignClass::Braces
+        | SignClass::Block
         | SignClass::Invisible
         | SignClass::Word(_)
         | SignClass::SelfValue

@@ -6,11 +6,11 @@ use crate::declarations::fault::Fault;
 use crate::declarations::item::{split_group, split_name, split_parentheses};
 use crate::declarations::parameter::{past_attributes, past_type};
 use crate::declarations::reader::{begins_identifier, begins_mark, is, part, past};
-use crate::declarations::signs::{first_sign, name_class};
+use crate::declarations::signs::{first_sign, group_class, name_class};
 use crate::declarations::walk::walk_past;
 use crate::declarations::walk_state::{Continuation, Item, Spot, State, WalkState};
 use crate::pm_stream::{Group, TokenTree};
-use crate::pm_token::{Delimiter, Ident};
+use crate::pm_token::Ident;
 
 /// A function, with its parts in reading order.
 #[derive(Clone, Copy, Debug)]
@@ -31,7 +31,8 @@ pub struct Function<'a> {
     pub return_type: &'a [TokenTree],
     /// The where clause with its `where`, perhaps nothing.
     pub where_clause: &'a [TokenTree],
-    /// The body in braces, or `None` if the function ends in `;`.
+    /// The body in braces, or `None` if the function ends in `;`. If a macro by example passed the body as `$b:block`,
+    /// it is the group without delimiters that holds these braces, perhaps in more such groups.
     pub body: Option<&'a Group>,
 }
 
@@ -48,9 +49,8 @@ pub struct Function<'a> {
 ///
 /// If the trees are not exactly one function, the call returns a `Fault`. Its position is before the first tree that
 /// does not fit, which may be a tree after the function. The rule `function-item` is in crates/declarations/README.md.
-/// The call rejects `gen fn`, and a body in a group without delimiters, such as a macro by example passes for
-/// `$b:block`. It also rejects a function inside a group without delimiters: pass the trees of this group. The call
-/// allocates nothing.
+/// The call rejects `gen fn`. It also rejects a function inside a group without delimiters: pass the trees of this
+/// group. The call allocates nothing.
 ///
 /// # Contract
 ///
@@ -298,10 +298,10 @@ pub(crate) fn return_of(trees: &[TokenTree]) -> Result<(&[TokenTree], &[TokenTre
     }
 }
 
-/// Reads a body or `;`. Returns the body, or `None` for `;`, and the trees after it.
+/// Reads a block or `;`. Returns the block, or `None` for `;`, and the trees after it.
 fn body_of(trees: &[TokenTree]) -> Result<(Option<&Group>, &[TokenTree]), &[TokenTree]>
 {
-    if let Some((body, rest)) = split_braces(trees) {
+    if let Some((body, rest)) = split_block(trees) {
         return Ok((Some(body), rest));
     }
     match first_sign(trees) {
@@ -316,11 +316,20 @@ fn body_of(trees: &[TokenTree]) -> Result<(Option<&Group>, &[TokenTree]), &[Toke
     }
 }
 
-/// The group in braces at the start of the trees, and the trees after it.
-pub(crate) fn split_braces(trees: &[TokenTree]) -> Option<(&Group, &[TokenTree])>
+/// Whether the sign is braces, or a group without delimiters that holds only braces.
+fn is_block(class: SignClass) -> bool
+{
+    match class {
+        SignClass::Braces | SignClass::Block => true,
+        _ => false,
+    }
+}
+
+/// The block at the start of the trees, and the trees after it.
+fn split_block(trees: &[TokenTree]) -> Option<(&Group, &[TokenTree])>
 {
     match split_group(trees) {
-        Some((group, rest)) if group.delimiter() == Delimiter::Brace => Some((group, rest)),
+        Some((group, rest)) if is_block(group_class(group)) => Some((group, rest)),
         _ => None,
     }
 }

@@ -149,7 +149,7 @@ fn past_bounds(trees: &[TokenTree]) -> Result<&[TokenTree], &[TokenTree]>
 fn is_constant(class: SignClass) -> bool
 {
     match class {
-        SignClass::Literal | SignClass::Braces | SignClass::Truth => true,
+        SignClass::Literal | SignClass::Braces | SignClass::Block | SignClass::Truth => true,
         _ => false,
     }
 }
@@ -167,7 +167,11 @@ fn is_word(class: SignClass) -> bool
 fn begins_constant(class: SignClass) -> bool
 {
     match class {
-        SignClass::Minus | SignClass::Literal | SignClass::Braces | SignClass::Truth => true,
+        SignClass::Minus
+        | SignClass::Literal
+        | SignClass::Braces
+        | SignClass::Block
+        | SignClass::Truth => true,
         _ => false,
     }
 }

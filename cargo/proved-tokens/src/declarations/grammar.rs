@@ -211,7 +211,10 @@ fn type_name(item: Item, class: SignClass) -> Option<Shift>
 fn const_default(item: Item, class: SignClass) -> Option<Shift>
 {
     match class {
-        SignClass::Literal | SignClass::Braces | SignClass::Truth => to_spot(item, Spot::ConstEnd),
+        SignClass::Literal | SignClass::Braces | SignClass::Block | SignClass::Truth => to_spot(
+            item,
+            Spot::ConstEnd,
+        ),
         SignClass::Minus => to_spot(item, Spot::ConstMinus),
         _ => None,
     }

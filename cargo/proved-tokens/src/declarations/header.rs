@@ -25,6 +25,15 @@ fn in_braces(item: Item) -> bool
     }
 }
 
+/// Whether the item may end with a block in a group without delimiters.
+fn in_block(item: Item) -> bool
+{
+    match item {
+        Item::Returning => true,
+        _ => false,
+    }
+}
+
 /// Whether the item may end with `;`.
 fn in_semicolon(item: Item) -> bool
 {
@@ -59,6 +68,7 @@ pub(crate) fn body(item: Item, class: SignClass) -> Option<Shift>
 {
     match class {
         SignClass::Braces if in_braces(item) => to_spot(item, Spot::ItemEnd),
+        SignClass::Block if in_block(item) => to_spot(item, Spot::ItemEnd),
         SignClass::Semicolon if in_semicolon(item) => to_spot(item, Spot::ItemEnd),
         SignClass::Equals => value(item),
         _ => None,

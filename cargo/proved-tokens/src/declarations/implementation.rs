@@ -3,7 +3,8 @@
 
 use crate::declarations::class::{Keyword, SignClass, Word};
 use crate::declarations::fault::Fault;
-use crate::declarations::function::{is_name, may, past_generics, past_visibility, past_where, split_braces};
+use crate::declarations::function::{is_name, may, past_generics, past_visibility, past_where};
+use crate::declarations::item::split_braces;
 use crate::declarations::parameter::{past_attributes, past_type};
 use crate::declarations::reader::{is, part};
 use crate::declarations::signs::first_sign;

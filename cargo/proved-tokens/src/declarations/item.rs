@@ -215,3 +215,12 @@ pub(crate) fn split_parentheses(trees: &[TokenTree]) -> Option<(&Group, &[TokenT
         _ => None,
     }
 }
+
+/// The group in braces that the trees begin with, and the trees after it.
+pub(crate) fn split_braces(trees: &[TokenTree]) -> Option<(&Group, &[TokenTree])>
+{
+    match split_group(trees) {
+        Some((group, rest)) if group.delimiter() == Delimiter::Brace => Some((group, rest)),
+        _ => None,
+    }
+}

@@ -233,7 +233,7 @@ fn none_of(trees: &[TokenTree]) -> &[TokenTree]
 fn is_constant(class: SignClass) -> bool
 {
     match class {
-        SignClass::Literal | SignClass::Braces | SignClass::Truth => true,
+        SignClass::Literal | SignClass::Braces | SignClass::Block | SignClass::Truth => true,
         _ => false,
     }
 }

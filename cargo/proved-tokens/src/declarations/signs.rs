@@ -10,8 +10,8 @@ use crate::pm_token::{Delimiter, Ident, Spacing};
 ///
 /// `::`, `->`, `<=` and `||` are one sign if the first mark is `Joint`. A `'` and an identifier are one sign, and so
 /// are `#` and `!`. Every other tree is a sign of its own. A group without delimiters that holds a visibility, a
-/// lifetime or a literal has the class of what it holds. If it holds one such group alone, the innermost of these
-/// groups decides.
+/// lifetime or a literal has the class of what it holds. If it holds only braces, its class is `Block`. If it holds one
+/// group without delimiters alone, the innermost of these groups decides.
 ///
 /// The call takes O(1) time, and for groups without delimiters in one another time in proportion to their number. It
 /// allocates nothing.
@@ -106,7 +106,7 @@ fn tree_class(tree: &TokenTree) -> SignClass
     }
 }
 
-fn group_class(group: &Group) -> SignClass
+pub(crate) fn group_class(group: &Group) -> SignClass
 {
     match group.delimiter() {
         Delimiter::Parenthesis => {
@@ -136,10 +136,20 @@ fn unseen_class(inside: &TokenStream) -> SignClass
 fn held_class(trees: &[TokenTree]) -> SignClass
 {
     match trees {
+        [TokenTree::Group(group)] => held_group(group),
         [TokenTree::Literal(_)] => SignClass::Literal,
         [TokenTree::Punct(mark), TokenTree::Ident(_)] if mark.as_char() == '\'' =>
             SignClass::Lifetime,
         _ => SignClass::Invisible,
+    }
+}
+
+/// The class of a group without delimiters that holds only this group.
+fn held_group(group: &Group) -> SignClass
+{
+    match group.delimiter() {
+        Delimiter::Brace => SignClass::Block,
+        Delimiter::Parenthesis | Delimiter::Bracket | Delimiter::None => SignClass::Invisible,
     }
 }
 

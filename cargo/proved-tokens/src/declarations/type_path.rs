@@ -140,7 +140,11 @@ fn begins_argument(class: SignClass) -> bool
 {
     match class {
         SignClass::Word(_) | SignClass::Lifetime => true,
-        SignClass::Minus | SignClass::Literal | SignClass::Braces | SignClass::Truth => true,
+        SignClass::Minus
+        | SignClass::Literal
+        | SignClass::Braces
+        | SignClass::Block
+        | SignClass::Truth => true,
         SignClass::SelfValue
         | SignClass::SelfType
         | SignClass::Super

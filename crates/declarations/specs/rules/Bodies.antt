@@ -1,7 +1,7 @@
 -- Items from their names on: generic parameters, headers, and what an item ends with.
 use Rattle.std.specs.Prelude.{not, [], ◌∷◌}
 use Rattle.grammars.specs.Grammar.{Mark, Sign, Then, Either, Many, perhaps}
-use Rattle.declarations.specs.rules.Classes.{is, is_round}
+use Rattle.declarations.specs.rules.Classes.{is, is_block, is_round}
 use Rattle.declarations.specs.rules.Names.{G, seq, one, word, Named, Bounds, OfType, Value, Fields, Returns, Body}
 use Rattle.declarations.specs.rules.Names.{Rest}
 use Rattle.declarations.specs.rules.Types.{type, bounds}
@@ -21,6 +21,14 @@ semicolon = Then (Mark Rest) (one signs.Semicolon)
 -- a body in braces, or `;`
 abbrev pub body_end : G
 body_end = Either braces semicolon
+
+-- the block of a function, which may be in a group without delimiters
+abbrev pub block : G
+block = Then (Mark Body) (Sign is_block)
+
+-- a block, or `;`
+abbrev pub function_end : G
+function_end = Either block semicolon
 
 -- the name of an item
 abbrev pub name : G
@@ -50,10 +58,10 @@ struct_rest = Either
 abbrev pub where_and_body : G
 where_and_body = Then where_clause braces
 
--- the rest of a function after its parameters: a return type, a where clause, and a body or `;`
+-- the rest of a function after its parameters: a return type, a where clause, and a block or `;`
 abbrev pub returning : G
 returning = seq (
-    perhaps (seq (Mark Rest ∷ one signs.Arrow ∷ Mark Returns ∷ type ∷ [])) ∷ where_clause ∷ body_end ∷ [])
+    perhaps (seq (Mark Rest ∷ one signs.Arrow ∷ Mark Returns ∷ type ∷ [])) ∷ where_clause ∷ function_end ∷ [])
 
 -- the rest of a function: its parameters, and what follows them
 abbrev pub function_rest : G

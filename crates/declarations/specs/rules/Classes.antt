@@ -74,6 +74,7 @@ code signs.Bar = 62
 code signs.Dot = 63
 code signs.Infix = 64
 code signs.Mark = 65
+code signs.Block = 66
 
 -- all classes
 abbrev pub classes : List SignClass
@@ -91,7 +92,8 @@ classes =
     signs.LessEquals ∷ signs.Bars ∷ signs.Restriction ∷ signs.Parentheses ∷ signs.Brackets ∷ signs.Braces ∷
     signs.Visibility ∷ signs.Invisible ∷ signs.Less ∷ signs.LessJoint ∷ signs.Greater ∷ signs.Comma ∷ signs.Colon ∷
     signs.Semicolon ∷ signs.Equals ∷ signs.Plus ∷ signs.Minus ∷ signs.Star ∷ signs.And ∷ signs.Question ∷
-    signs.Exclamation ∷ signs.Hash ∷ signs.Tilde ∷ signs.Bar ∷ signs.Dot ∷ signs.Infix ∷ signs.Mark ∷ []
+    signs.Exclamation ∷ signs.Hash ∷ signs.Tilde ∷ signs.Bar ∷ signs.Dot ∷ signs.Infix ∷ signs.Mark ∷
+    signs.Block ∷ []
 
 -- whether all elements of a list pass the test
 abbrev pub all_of : {T : Type 0} → (T → Bool) → List T → Bool
@@ -145,3 +147,9 @@ abbrev pub is_round : SignClass → Bool
 is_round signs.Parentheses = true
 is_round signs.Restriction = true
 is_round _ = false
+
+-- whether the sign is a block: braces, or a group without delimiters that holds only braces
+abbrev pub is_block : SignClass → Bool
+is_block signs.Braces = true
+is_block signs.Block = true
+is_block _ = false

@@ -10,7 +10,7 @@ use Rattle.declarations.specs.declared.class.SignClass.TheVariants as signs
 
 -- the classes of groups that can be operands
 abbrev pub groups : List SignClass
-groups = signs.Restriction ∷ signs.Parentheses ∷ signs.Brackets ∷ signs.Braces ∷ signs.Invisible ∷ []
+groups = signs.Restriction ∷ signs.Parentheses ∷ signs.Brackets ∷ signs.Braces ∷ signs.Block ∷ signs.Invisible ∷ []
 
 -- whether the sign is an operand of a cast
 abbrev pub cast_operand : SignClass → Bool

@@ -1,7 +1,7 @@
 -- Attributes, visibilities, fields, variants, generic parameters and where clauses.
 use Rattle.std.specs.Prelude.{true, [], ◌∷◌}
 use Rattle.grammars.specs.Grammar.{Mark, Sign, Then, Either, Many, perhaps}
-use Rattle.declarations.specs.rules.Classes.{is, is_round}
+use Rattle.declarations.specs.rules.Classes.{is, is_block, is_round}
 use Rattle.declarations.specs.rules.Names.{Outside, Attributes, Visible, Named, Generics, Parameter, Bounds, Default}
 use Rattle.declarations.specs.rules.Names.{OfType, Value, Where, Bounded, Fields, Rest, G, seq, alt, one, key, word}
 use Rattle.declarations.specs.rules.Names.{comma_list}
@@ -101,7 +101,7 @@ abbrev pub constant_default : G
 constant_default = alt (
     Then (one signs.Minus) (one signs.Literal)
     ∷ one signs.Literal
-    ∷ one signs.Braces
+    ∷ Sign is_block
     ∷ one signs.Truth
     ∷ type
     ∷ [])

@@ -14,7 +14,7 @@ use Rattle.declarations.specs.declared.types.TypeState.TheVariants as types
 
 -- whether the sign is a constant by itself
 abbrev pub is_constant : SignClass → Bool
-is_constant = one_of (signs.Literal ∷ signs.Braces ∷ signs.Truth ∷ [])
+is_constant = one_of (signs.Literal ∷ signs.Braces ∷ signs.Block ∷ signs.Truth ∷ [])
 
 -- a constant: a literal, `-` and a literal, braces, `true` or `false`
 abbrev pub constant : G

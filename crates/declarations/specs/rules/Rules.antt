@@ -53,7 +53,8 @@ abbrev pub follows : Name → SignClass → Bool
 follows (Range state Inside) c = is signs.Greater c
 follows (Range state Outside) c =
     keyword keywords.Where c
-    || one_of (signs.Comma ∷ signs.Colon ∷ signs.Equals ∷ signs.Semicolon ∷ signs.Greater ∷ signs.Braces ∷ []) c
+    || one_of (signs.Comma ∷ signs.Colon ∷ signs.Equals ∷ signs.Semicolon ∷ signs.Greater ∷ signs.Braces
+    ∷ signs.Block ∷ []) c
 follows (Range state Target) c = keyword keywords.Where c || is signs.Braces c
 follows Expression c = is signs.Comma c
 follows ExpressionOpen c = is signs.Comma c

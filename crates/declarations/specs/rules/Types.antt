@@ -16,7 +16,7 @@ plain_operand = one_of (signs.SelfValue ∷ signs.SelfType ∷ signs.Super ∷ s
 
 -- whether the sign is an operand only within angle brackets
 abbrev pub constant_operand : SignClass → Bool
-constant_operand = one_of (signs.Truth ∷ signs.Literal ∷ signs.Braces ∷ [])
+constant_operand = one_of (signs.Truth ∷ signs.Literal ∷ signs.Braces ∷ signs.Block ∷ [])
 
 -- whether the sign can come before an operand
 abbrev pub type_front : SignClass → Bool
@@ -94,7 +94,7 @@ abbrev pub abi : Context → G
 abi Inside = alt (
     named_operand Inside
     ∷ other_operand Inside
-    ∷ To (one_of (signs.Truth ∷ signs.Braces ∷ [])) (Range types.Whole Inside)
+    ∷ To (one_of (signs.Truth ∷ signs.Braces ∷ signs.Block ∷ [])) (Range types.Whole Inside)
     ∷ To (is signs.Minus) (Range types.Minus Inside)
     ∷ [])
 abi context = operand context

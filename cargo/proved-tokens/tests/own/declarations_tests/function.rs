@@ -321,14 +321,41 @@ fn a_group_without_delimiters_may_be_the_visibility() -> Result<(), Fail> {
     Ok(())
 }
 
-// A macro by example passes `$b:block` in such a group.
+// A macro by example passes `$b:block` so. Each row is the text before the groups, the text in them, the number of
+// groups, the text after them, and the answer.
 #[test]
-fn a_body_in_a_group_without_delimiters_is_not_read() -> Result<(), Fail> {
+fn a_body_may_be_in_groups_without_delimiters() -> Result<(), Fail> {
     let rt = HostRuntime;
-    let mut map = SourceMap::new();
-    let body = Group::new(Delimiter::None, TokenStream::from_str("{ x }", &mut map)?);
-    let mut stream = TokenStream::from_str("fn f()", &mut map)?;
-    stream.extend_streams([TokenStream::from_tree(TokenTree::Group(body))?])?;
-    assert_eq!(read(stream.trees(), "f"), FaultAt(3));
+    for (before, inside, groups, after, wanted) in [
+        ("fn f()", "{ x }", 1usize, "", Body(0, 0, 0, 0, 0, 0, 0)),
+        (
+            "pub fn f(x: T) -> A",
+            "{ x }",
+            2,
+            "",
+            Body(0, 1, 0, 0, 1, 1, 0),
+        ),
+        ("fn f() where T: A,", "{}", 9, "", Body(0, 0, 0, 0, 0, 0, 5)),
+        ("fn f() where T:", "{}", 1, "", Body(0, 0, 0, 0, 0, 0, 3)),
+        ("fn f() where", "{}", 1, "", Body(0, 0, 0, 0, 0, 0, 1)),
+        ("fn f()", "{ x } y", 1, "", FaultAt(3)),
+        ("fn f()", "(x)", 1, "", FaultAt(3)),
+        ("fn f()", "", 1, "", FaultAt(3)),
+        ("fn f()", "{ x }", 1, "{}", FaultAt(4)),
+        ("fn f()", "{ x }", 2, ";", FaultAt(4)),
+        ("fn f() ->", "{ x }", 1, "{}", FaultAt(5)),
+        ("fn f", "{ x }", 1, "", FaultAt(2)),
+    ] {
+        let mut map = SourceMap::new();
+        let mut held = TokenStream::from_str(inside, &mut map)?;
+        for _ in 0..groups {
+            let group = Group::new(Delimiter::None, held);
+            held = TokenStream::from_tree(TokenTree::Group(group))?;
+        }
+        let mut stream = TokenStream::from_str(before, &mut map)?;
+        stream.extend_streams([held, TokenStream::from_str(after, &mut map)?])?;
+        let found = read(stream.trees(), "f");
+        assert!(found == wanted, "{inside:?} after {before:?}: {found:?}");
+    }
     Ok(())
 }

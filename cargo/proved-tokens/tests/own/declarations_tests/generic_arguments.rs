@@ -4,7 +4,7 @@ use crate::shim::prelude::{AllocGlobal, HostRuntime};
 
 // The generic arguments of paths. The crate syn 2 reads each text in the same way, unless a row says otherwise.
 use proved_tokens::declarations::{ArgumentKind, GenericArguments, parse_generic_argument};
-use proved_tokens::proc_macro2::{SourceMap, TokenStream};
+use proved_tokens::proc_macro2::{Delimiter, Group, SourceMap, TokenStream, TokenTree};
 use crate::shim::process::Abort;
 use crate::shim::test::Fail;
 
@@ -140,5 +140,23 @@ fn an_argument_is_read_with_the_trees_after_it() -> Result<(), Fail> {
         }
         Err(_) => assert!(false),
     }
+    Ok(())
+}
+
+// A macro by example passes `$b:block` in such a group.
+#[test]
+fn a_block_in_a_group_without_delimiters_is_a_constant() -> Result<(), Fail> {
+    let rt = HostRuntime;
+    let held = TokenStream::from_str("{ N }", &mut SourceMap::new())?;
+    let group = TokenTree::Group(Group::new(Delimiter::None, held));
+    let stream = TokenStream::from_tree(group)?;
+    let is_constant = match parse_generic_argument(stream.trees()) {
+        Ok((argument, rest)) => match argument.kind {
+            ArgumentKind::Const => argument.trees.len() == 1 && rest.is_empty(),
+            _ => false,
+        },
+        Err(_) => false,
+    };
+    assert!(is_constant);
     Ok(())
 }

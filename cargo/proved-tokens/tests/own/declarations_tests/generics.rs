@@ -4,7 +4,7 @@ use crate::shim::prelude::{AllocGlobal, HostRuntime};
 
 // Generic parameters and predicates, with the number of trees in each part.
 use proved_tokens::declarations::{Fault, ParamKind, after_where, parse_param, parse_predicate, within_generics};
-use proved_tokens::proc_macro2::{SourceMap, TokenStream};
+use proved_tokens::proc_macro2::{Delimiter, Group, SourceMap, TokenStream, TokenTree};
 use crate::shim::process::Abort;
 use crate::shim::test::Fail;
 
@@ -146,6 +146,49 @@ fn parameters_have_their_parts_in_order() -> Result<(), Fail> {
             ("<# T>", &[FaultAt(1)]),
         ],
     )
+}
+
+// A macro by example passes `$b:block` so. No bound and no default of a type can be one.
+#[test]
+fn a_block_in_a_group_without_delimiters_is_a_default() -> Result<(), Fail> {
+    let rt = HostRuntime;
+    for (before, after, wanted, rest) in [
+        (
+            "const N: A =",
+            ", T",
+            Param(ParamKind::Const, 0, 1, 1, 1),
+            1usize,
+        ),
+        ("const N: A =", "", Param(ParamKind::Const, 0, 1, 1, 1), 0),
+        ("T =", ", U", FaultAt(2), 0),
+        ("T: A +", ", U", FaultAt(4), 0),
+    ] {
+        let mut map = SourceMap::new();
+        let group = Group::new(
+            Delimiter::None,
+            TokenStream::from_str("{ 1 + 2 }", &mut map)?,
+        );
+        let mut stream = TokenStream::from_str(before, &mut map)?;
+        stream.extend_streams([TokenStream::from_tree(TokenTree::Group(group))?])?;
+        stream.extend_streams([TokenStream::from_str(after, &mut map)?])?;
+        let (found, left) = match parse_param(stream.trees()) {
+            Ok((param, left)) => (
+                Param(
+                    param.kind,
+                    param.attributes.len(),
+                    param.name.len(),
+                    param.bounds.len(),
+                    param.default.len(),
+                ),
+                left.len(),
+            ),
+            Err(fault) => (fault_place(&fault), 0),
+        };
+        assert!(found == wanted && left == rest,
+            "a block between {before:?} and {after:?}: {found:?}, {left} left"
+        );
+    }
+    Ok(())
 }
 
 #[test]

@@ -257,6 +257,30 @@ fn a_group_without_delimiters_may_be_the_self_type() -> Result<(), Fail> {
     Ok(())
 }
 
+// The body of an impl is no block, so rustc rejects `impl A $b` and `impl A for $b`, and so does the call.
+#[test]
+fn a_block_in_a_group_without_delimiters_is_no_body() -> Result<(), Fail> {
+    let rt = HostRuntime;
+    for (before, after, wanted) in [
+        ("impl A", "", FaultAt(2)),
+        ("impl A for B where T: C,", "", FaultAt(9)),
+        ("impl A for", "{}", FaultAt(3)),
+        ("impl A<", "> for B {}", Trait(0, 4, 1, 0)),
+        ("impl<const N: u8 =", "> A<N> {}", Type(8, 4, 0)),
+    ] {
+        let mut map = SourceMap::new();
+        let group = Group::new(Delimiter::None, TokenStream::from_str("{ x }", &mut map)?);
+        let mut stream = TokenStream::from_str(before, &mut map)?;
+        stream.extend_streams([TokenStream::from_tree(TokenTree::Group(group))?])?;
+        stream.extend_streams([TokenStream::from_str(after, &mut map)?])?;
+        let found = read(stream.trees());
+        assert!(found == wanted,
+            "a block between {before:?} and {after:?}: {found:?}"
+        );
+    }
+    Ok(())
+}
+
 fn inside<'a>(trees: &'a [TokenTree]) -> Option<&'a [TokenTree]> {
     match parse_impl(trees) {
         Ok(item) => Some(item.body.stream_ref().trees()),
