@@ -75,6 +75,29 @@ macro_rules! twice_function {
     };
 }
 
+/// A function whose body is passed as a whole.
+macro_rules! body {
+    ($name:ident($argument:ident: $t:ty), $b:block) => {
+        #[memoized]
+        fn $name($argument: $t) -> $t $b
+    };
+}
+
+macro_rules! twice_body {
+    ($name:ident($argument:ident: $t:ty), $b:block) => {
+        body!($name($argument: $t), $b);
+    };
+}
+
+body!(body_once(number: u8), {
+    called();
+    number + 1
+});
+twice_body!(body_twice(number: u16), {
+    called();
+    return number + 2;
+});
+
 function!(pub twice(number: u32) -> u32, number + 1, allow(dead_code), "Rust", { 1 });
 twice_function!(pub(crate) passed_on(number: u8) -> std::primitive::u8, number + 1, inline, "C", { 1 });
 
@@ -83,4 +106,6 @@ fn fragments_are_taken_over() {
     CALLS.set(0);
     assert_eq!((twice(1), twice(1), CALLS.get()), (4, 4, 1));
     assert_eq!((passed_on(2), passed_on(2), CALLS.get()), (6, 6, 2));
+    assert_eq!((body_once(3), body_once(3), CALLS.get()), (4, 4, 3));
+    assert_eq!((body_twice(3), body_twice(3), CALLS.get()), (5, 5, 4));
 }

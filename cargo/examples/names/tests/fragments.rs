@@ -1,13 +1,16 @@
 //! The derive inside of macros by example, whose fragments are groups without delimiters, through one and two of them.
 use names::Names;
 
+pub struct Sizes<const A: usize, const B: usize>;
+
 macro_rules! shape {
-    ($name:ident, $t:ty, $e:expr, $m:meta, $v:vis, $p:path, $l:literal, $n:meta) => {
+    ($name:ident, $t:ty, $e:expr, $m:meta, $v:vis, $p:path, $l:literal, $n:meta, $b:block) => {
         #[derive(Names)]
         #[$m]
-        $v enum $name<const N: $t = 2>
+        $v enum $name<const N: $t = $b>
         where
             [$t; N]: $p,
+            Sizes<$b, N>: $p,
         {
             #[$m]
             First = $e,
@@ -20,8 +23,8 @@ macro_rules! shape {
 }
 
 macro_rules! twice_shape {
-    ($name:ident, $t:ty, $e:expr, $m:meta, $v:vis, $p:path, $l:literal, $n:meta) => {
-        shape!($name, $t, $e, $m, $v, $p, $l, $n);
+    ($name:ident, $t:ty, $e:expr, $m:meta, $v:vis, $p:path, $l:literal, $n:meta, $b:block) => {
+        shape!($name, $t, $e, $m, $v, $p, $l, $n, $b);
     };
 }
 
@@ -33,8 +36,8 @@ macro_rules! item {
     };
 }
 
-shape!(Once, usize, 1 + 1, allow(dead_code), pub(crate), Sized, "second", name = "third");
-twice_shape!(Twice, usize, 1 + 1, allow(dead_code), pub, ::core::marker::Sized, "second", name = "third");
+shape!(Once, usize, 1 + 1, allow(dead_code), pub(crate), Sized, "second", name = "third", { 1 + 1 });
+twice_shape!(Twice, usize, 1 + 1, allow(dead_code), pub, ::core::marker::Sized, "second", name = "third", { 1 + 3 });
 item! {
     #[allow(dead_code)]
     pub enum Whole {
@@ -48,5 +51,7 @@ fn fragments_are_taken_over() {
     let names = ["First", "second", "third"];
     assert_eq!([Once::<3>::First, Once::Second, Once::Third].map(|value| value.name()), names);
     assert_eq!([Twice::<3>::First, Twice::Second, Twice::Third].map(|value| value.name()), names);
+    let (once, twice): (Once, Twice) = (Once::First, Twice::Second);
+    assert_eq!((once.name(), twice.name()), ("First", "second"));
     assert_eq!(Whole::First.name(), "w");
 }

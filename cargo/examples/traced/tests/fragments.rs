@@ -98,13 +98,41 @@ macro_rules! twice_path {
 path!(by_path, crate::log);
 twice_path!(twice_by_path, self::log);
 
+/// A function and a method whose bodies are passed as a whole.
+macro_rules! body {
+    ($name:ident, $b:block, $method:ident, $of:block) => {
+        #[traced(log)]
+        pub(crate) fn $name() -> u8 $b
+
+        impl Number {
+            #[traced(log)]
+            fn $method<T>(_: T) -> Self
+            where
+                T: Copy,
+            $of
+        }
+    };
+}
+
+macro_rules! twice_body {
+    ($name:ident, $b:block, $method:ident, $of:block) => {
+        body!($name, $b, $method, $of);
+    };
+}
+
+body!(body_once, { 8 }, number_once, { Number(1 + 1) });
+twice_body!(body_twice, { return 9 }, number_twice, { Self(10) });
+
 #[test]
 fn fragments_are_taken_over() {
     assert_eq!((once(1, &2u8), twice(1, &'a'), whole(), twice_whole()), (5, 5, 3, 5));
     assert_eq!((by_path(), twice_by_path()), (4, 4));
     assert_eq!((*Number(6).method_once(&0), *Number(7).method_twice(&0)), (6, 7));
+    assert_eq!((body_once(), body_twice()), (8, 9));
+    assert_eq!((Number::number_once(()).0, Number::number_twice('a').0), (2, 10));
     let names = [
-        "once", "twice", "whole", "twice_whole", "by_path", "twice_by_path", "method_once", "method_twice",
+        "once", "twice", "whole", "twice_whole", "by_path", "twice_by_path", "method_once", "method_twice", "body_once",
+        "body_twice", "number_once", "number_twice",
     ];
     let wanted: Vec<_> = names.into_iter().flat_map(|name| [(name, true), (name, false)]).collect();
     assert_eq!(SEEN.take(), wanted);
