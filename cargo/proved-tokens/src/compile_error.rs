@@ -2,6 +2,7 @@
 use crate::declarations::compile_error;
 use crate::pm_span::Span;
 use crate::pm_stream::{TokenStream, TokenTree};
+use crate::pm_token::Delimiter;
 use core::fmt;
 use std::string::{String, ToString};
 use std::vec::Vec;
@@ -60,6 +61,9 @@ impl CompileError {
     /// This text at all of these trees: the compiler underlines from the first to the last. Without trees it is at the
     /// call site.
     ///
+    /// A `macro_rules!` macro passes a fragment such as `$t` in a group without delimiters, whose own span is in that
+    /// macro. So the trees in such a group count, not the group: the error is at the tokens of the macro's caller.
+    ///
     /// ```
     /// use proved_tokens::error::CompileError;
     /// use proved_tokens::{SourceMap, TokenStream};
@@ -73,7 +77,7 @@ impl CompileError {
     /// ```
     pub fn new_spanned(trees: &[TokenTree], text: impl fmt::Display) -> CompileError {
         let mut error = CompileError::new(Span::call_site(), text);
-        if let (Some(first), Some(last)) = (trees.first(), trees.last()) {
+        if let (Some(first), Some(last)) = (end_tree(trees, <[_]>::first), end_tree(trees, <[_]>::last)) {
             (error.first.start, error.first.end) = (first.span(), last.span());
         }
         error
@@ -136,6 +140,18 @@ impl CompileError {
         });
         streams.flatten().collect()
     }
+}
+
+/// The first or the last of the trees, at any depth in groups without delimiters that hold trees.
+fn end_tree(trees: &[TokenTree], end: fn(&[TokenTree]) -> Option<&TokenTree>) -> Option<&TokenTree> {
+    let mut tree = end(trees)?;
+    while let TokenTree::Group(group) = tree {
+        match end(group.stream_ref().trees()) {
+            Some(inner) if group.delimiter() == Delimiter::None => tree = inner,
+            _ => break,
+        }
+    }
+    Some(tree)
 }
 
 /// The texts of all messages, each on a line of its own.

@@ -48,6 +48,7 @@ mod walk_state;
 
 pub use any_item::{AnyItem, ItemKind, split_any_item};
 pub use attribute::{Attribute, AttributeArgs, Attributes, split_attribute};
+pub use bare::bare_trees;
 pub use class::{Keyword, SignClass, Word};
 pub use entry::{Entry, EntryKind, parse_entry};
 pub use entry_check::{EntryError, EntryProblem, check_entries};

@@ -52,7 +52,7 @@
 //! ```
 #[doc(inline)]
 pub use crate::declarations::{
-    after_where, check_entries, compile_error, first_sign, is_keyword, parse_entry, parse_field, parse_file,
+    after_where, bare_trees, check_entries, compile_error, first_sign, is_keyword, parse_entry, parse_field, parse_file,
     parse_function, parse_generic_argument, parse_impl, parse_item, parse_param, parse_parameter, parse_predicate,
     parse_tuple_field, parse_type_item, parse_type_path, parse_variant, split_any_item, split_attribute,
     split_attributes, split_bounds, split_expression, split_field, split_fields, split_generics, split_inner_attributes,

@@ -9,7 +9,7 @@ use proved_tokens::check::{advice, explain, Hint};
 use proved_tokens::cursor::TokenBuffer;
 use proved_tokens::error::{CompileError, Fault};
 use proved_tokens::items::{
-    check_entries, compile_error, impl_generics, impl_header, impl_header_where, parse_entry, parse_file,
+    bare_trees, check_entries, compile_error, impl_generics, impl_header, impl_header_where, parse_entry, parse_file,
     parse_function, parse_generic_argument, parse_impl, parse_param, parse_parameter, parse_type_item, parse_type_path,
     split_any_item, split_attribute, split_attributes, split_type, split_visibility, type_generics, where_clause,
     where_clause_with_bound, within_generics, ArgumentKind, Attributes, Body, Entries, EntryKind, GenericArguments,
@@ -236,6 +236,7 @@ fn calls_for_lints_and_editors() -> Outcome {
         let field = field?;
         assert!(Attributes::new(field.attributes).all(|attribute| attribute.is("a")));
         assert_eq!(TokenStream::from(field.field_type).to_string(), "u8");
+        assert!(bare_trees(field.field_type)[0].span().eq(&field.field_type[0].span()));
     }
     let mut walk = stream.walk();
     while let Some(tree) = walk.next() {

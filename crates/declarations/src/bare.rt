@@ -56,8 +56,11 @@ pub(crate) fn inside_of(group: &Group) -> &[TokenTree]
     innermost(group.stream_ref()).trees()
 }
 
-/// The trees; or if they are one group without delimiters, the trees in the innermost of such groups.
-pub(crate) fn bare_trees(trees: &[TokenTree]) -> &[TokenTree]
+/// Returns the trees; or if they are one group without delimiters, the trees in the innermost of such groups.
+///
+/// A `macro_rules!` macro passes a fragment in such a group. For `$t` that holds `Vec<u8>` the trees are those of
+/// `Vec<u8>`, also if several macros passed it on. For `&$t` they are `&` and the group.
+pub fn bare_trees(trees: &[TokenTree]) -> &[TokenTree]
     ensures { result.now ≡ bare_trees trees.now }
 {
     match trees {

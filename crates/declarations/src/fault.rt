@@ -19,8 +19,8 @@ use std::fmt;
 /// In `struct S { } x` the error is after 3 trees, at `x`. In `struct S` it is after 2 trees, and has no span.
 ///
 /// If the trees are those in a group, an error at their end is best reported at the closing delimiter. A call that is
-/// given trees does not know the group, and [`within`](Fault::within) adds this span. So it does for the errors of
-/// `FieldList`, `VariantList`, `Parameters` and `Entries`.
+/// given trees does not know the group, nor do `FieldList`, `VariantList`, `Parameters` and `Entries`. Call
+/// [`within`](Fault::within) with the group, and the error has this span.
 #[derive(Clone, Copy, Debug)]
 pub struct Fault {
     /// The number of trees before the first sign that does not fit. It is the number of all trees if more are missing.

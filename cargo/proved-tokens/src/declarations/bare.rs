@@ -50,8 +50,17 @@ pub(crate) fn inside_of(group: &Group) -> &[TokenTree]
     innermost(group.stream_ref()).trees()
 }
 
-/// The trees; or if they are one group without delimiters, the trees in the innermost of such groups.
-pub(crate) fn bare_trees(trees: &[TokenTree]) -> &[TokenTree]
+/// Returns the trees; or if they are one group without delimiters, the trees in the innermost of such groups.
+///
+/// A `macro_rules!` macro passes a fragment in such a group. For `$t` that holds `Vec<u8>` the trees are those of
+/// `Vec<u8>`, also if several macros passed it on. For `&$t` they are `&` and the group.
+///
+/// # Contract
+///
+/// - `ensures`: <code>result.now ≡ [bare_trees] trees.now</code>
+///
+/// [bare_trees]: crate::contracts#declarations.Bare.bare_trees
+pub fn bare_trees(trees: &[TokenTree]) -> &[TokenTree]
 {
     match trees {
         [TokenTree::Group(group)] if has_no_delimiters(group.delimiter()) => inside_of(group),

@@ -43,7 +43,8 @@ pub fn where_clause(item: &TypeItem<'_>) -> Result<TokenStream, HeaderError>
 /// Returns the where clause of the item with one more predicate, or several with `,` between them.
 ///
 /// For `struct S<T> where T: A,` and `T: B` it is `where T: A, T: B`. For `struct S<T>` it is `where T: B`. The trees
-/// of the predicate are not checked. The errors are those of [`where_clause`].
+/// of the predicate are not checked. If they are none, and the item has no predicate, the result is `where` alone. The
+/// errors are those of [`where_clause`].
 ///
 /// # Contract
 ///
