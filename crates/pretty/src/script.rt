@@ -1,8 +1,6 @@
 //! The first line of a script.
-ghost use Rattle.std.specs.Prelude.{◌≡◌, ◌++◌, IfOk, IfSome, IsTrue, MatchOption, false, string_bytes};
+ghost use Rattle.std.specs.Prelude.{◌≡◌, IfOk, string_bytes};
 ghost use Rattle.std.specs.Str.{IsUtf8, chars};
-ghost use Rattle.lexical.specs.Ascii.{all_ascii};
-ghost use Rattle.lexical.specs.Text.{begins_with};
 ghost use Rattle.pretty.specs.Script.{code_of, is_script, script_line, with_line};
 
 use lexical::parts::{Class, TextCursor, before, begins, skip, skip_to};
@@ -30,20 +28,10 @@ pub fn split_script(text: &str) -> (&str, &str)
 fn is_script(text: &str) -> bool
     ensures { result ≡ is_script (chars text.now) }
 {
-    match strip(text, "#!") {
-        Some(rest) => !begins(skip(TextCursor::new(rest), Class::White).rest, "["),
+    match TextCursor::new(text).past("#!") {
+        Some(code) => !begins(skip(code, Class::White).rest, "["),
         None => false,
     }
-}
-
-/// Returns what follows `front`, if the text begins with it.
-fn strip<'a>(text: &'a str, front: &str) -> Option<&'a str>
-    requires { IsTrue (all_ascii front.now) }
-    ensures split { MatchOption result (begins_with front.now (chars text.now) ≡ false)
-        (λ rest. chars text.now ≡ front.now ++ chars rest.now) }
-    ensures utf8 { IfSome result (λ rest. IsUtf8 rest.now) }
-{
-    text.strip_prefix(front)
 }
 
 /// Returns the text after the line and an LF, or the text alone if the line is empty.

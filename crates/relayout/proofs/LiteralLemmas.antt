@@ -1,13 +1,29 @@
 -- Texts of string literals.
-use Rattle.std.proofs.Common.{◌≡◌, ℕ, true, false, List, [], ◌∷◌, ◌++◌, codes, refl}
+use Rattle.std.proofs.Common.{◌≡◌, ℕ, true, false, List, [], ◌∷◌, ◌++◌, None, codes, refl}
 use Rattle.std.proofs.Common.{sym, ap, ap₂, ◌∙◌, subst, append-nil, append_assoc, length, take, drop}
 use Rattle.std.specs.List.{list_all}
 use Rattle.std.specs.Str.{chars, IsCharBoundary, IsUtf8}
 use Rattle.lexical.specs.Finder.{while_front, while_rest}
+use Rattle.lexical.specs.Rule.{Exactly, find}
+use Rattle.lexical.specs.RuleMatch.{Passes}
+use Rattle.lexical.specs.declared.cursor.TextCursor.{TextCursor}
 use Rattle.lexical.proofs.FinderLemmas.{finds_run}
+use Rattle.lexical.proofs.RuleSteps.{lacks_text, past_text}
 use Rattle.lexical.proofs.Scan.{run_boundary, run_front, run_rest}
+use Rattle.lexical.specs.Text.{begins_with}
 use Rattle.pm_token.specs.Escaped.{content, is_plain_ascii, string_text, char_text, written_char}
 use Rattle.pm_token.proofs.TextBuilderLemmas.{content_plain, plain_past}
+
+-- a text is what a cursor at its start passes, and the rest
+pub text_past : (front text : List ℕ) (at to : TextCursor) → at.rest.now ≡ text → Passes (Exactly front) at to
+    → chars text ≡ front ++ chars to.rest.now
+text_past front text at to is passes = ap chars (sym is) ∙ (past_text front at to passes).0
+
+-- a text does not begin with what a cursor at its start does not pass
+pub text_lacked : (front text : List ℕ) (at : TextCursor) → at.rest.now ≡ text
+    → find (Exactly front) (chars at.rest.now) ≡ None → begins_with front (chars text) ≡ false
+text_lacked front text at is none =
+    ap (λ t. begins_with front (chars t)) (sym is) ∙ lacks_text front (chars at.rest.now) none
 
 -- ---- ASCII characters that need no escape
 

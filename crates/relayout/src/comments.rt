@@ -18,7 +18,7 @@ ghost use Rattle.relayout.specs.Relaid.{HasNoCover, IfNoPiece};
 ghost use Rattle.relayout.specs.Written.{ends_line, is_white_gap};
 
 use crate::errors::RelayoutError;
-use crate::literals::{escaped_text, plain_front, strip};
+use crate::literals::{escaped_text, plain_front};
 use lexical::parts::{TextCursor, before, begins, skip_to_either};
 use lexical::{PieceKind, literal_at, past_white, piece_at};
 use pm_token::parts::{TextBuilder, string_literal};
@@ -137,8 +137,8 @@ fn push_attribute<'a>(
     };
     // Most literals hold their text as it is or with short escapes. These are read without the lexer.
     if let Some((front, more)) = plain_front(after) {
-        if let Some(rest) = strip(more, "\"]\n") {
-            return push_doc(out, kept, text, inner, front, rest);
+        if let Some(end) = TextCursor::new(more).past("\"]\n") {
+            return push_doc(out, kept, text, inner, front, end.rest);
         }
         if let Some((doc_body, rest)) = escaped_text(alloc, front, more)? {
             return push_doc(out, kept, text, inner, doc_body.as_str(), rest);
@@ -226,11 +226,12 @@ fn past_front(text: &str) -> Option<(bool, &str)>
         (λ x. chars text.now ≡ attribute_front x.0 ++ chars x.1.now) }
     ensures utf8 { IfSome result (λ x. IsUtf8 x.1.now) }
 {
-    if let Some(rest) = strip(text, "#[doc = ") {
-        return Some((false, rest));
+    let start = TextCursor::new(text);
+    if let Some(literal) = start.past("#[doc = ") {
+        return Some((false, literal.rest));
     }
-    if let Some(rest) = strip(text, "# ![doc = ") {
-        return Some((true, rest));
+    if let Some(literal) = start.past("# ![doc = ") {
+        return Some((true, literal.rest));
     }
     None
 }
@@ -247,10 +248,10 @@ fn split_literal(text: &str) -> Option<(&str, &str)>
     let Some(bytes) = literal_at(text) else {
         return None;
     };
-    let Some(rest) = strip(&text[bytes..], "]\n") else {
+    let Some(end) = TextCursor::new(&text[bytes..]).past("]\n") else {
         return None;
     };
-    Some((&text[..bytes], rest))
+    Some((&text[..bytes], end.rest))
 }
 
 /// Returns the text for which `Literal::string` writes this literal, if there is one.

@@ -1,19 +1,19 @@
 //! Reads the text of a string literal that `Literal::string` wrote.
 ghost use Rattle.std.specs.List.{list_all};
-ghost use Rattle.std.specs.Prelude.{◌≡◌, ◌≤◌, ◌<◌, ◌++◌, ◌∷◌, [], ℕ, List, codes, false, length};
-ghost use Rattle.std.specs.Prelude.{IfOk, IfSome, IsTrue, MatchOption, string_bytes};
+ghost use Rattle.std.specs.Prelude.{◌≡◌, ◌≤◌, ◌<◌, ◌++◌, ◌∷◌, [], ℕ, List, codes, length};
+ghost use Rattle.std.specs.Prelude.{IfOk, IfSome, IsTrue, string_bytes};
 ghost use Rattle.std.specs.Str.{IsUtf8, chars};
-ghost use Rattle.lexical.specs.Ascii.{all_ascii};
 ghost use Rattle.lexical.specs.Character.{backslash, double_quote};
 ghost use Rattle.lexical.specs.Finder.{while_front};
-ghost use Rattle.lexical.specs.Text.{begins_with};
 ghost use Rattle.pm_token.specs.Escaped.{is_plain_ascii, string_text, char_text, written_char};
 
+use lexical::parts::TextCursor;
 use pm_token::parts::{TextBuilder, is_bare};
 use std::alloc::{AllocError, Global};
 
 /// Returns the ASCII characters at the start of a literal's content that need no escape, and what follows them. Returns
 /// `None` if the text does not begin with a quote.
+#[tactic(auto, using(lexical::proofs::RuleSteps::past_text))]
 #[inline(always)]
 pub(crate) fn plain_front(text: &str) -> Option<(&str, &str)>
     ensures split { IfSome result (λ x. chars text.now ≡ codes "\"" ++ (chars x.0.now ++ chars x.1.now)) }
@@ -21,8 +21,8 @@ pub(crate) fn plain_front(text: &str) -> Option<(&str, &str)>
     ensures utf8_front { IfSome result (λ x. IsUtf8 x.0.now) }
     ensures utf8_rest { IfSome result (λ x. IsUtf8 x.1.now) }
 {
-    let content = strip(text, "\"")?;
-    Some(split_plain(content))
+    let content = TextCursor::new(text).past("\"")?;
+    Some(split_plain(content.rest))
 }
 
 /// Returns the text of a literal before `]` and LF, and what follows that LF. `front` is the start of the literal's
@@ -48,8 +48,8 @@ pub(crate) fn escaped_text<'a>(
     doc_body.push_text(front)?;
     let mut rest = after;
     while !rest.is_empty() {
-        if let Some(after_unit) = strip(rest, "\"]\n") {
-            return Ok(Some((doc_body.into_string(), after_unit)));
+        if let Some(end) = TextCursor::new(rest).past("\"]\n") {
+            return Ok(Some((doc_body.into_string(), end.rest)));
         }
         let Some((c, after_unit)) = split_unit(rest) else {
             return Ok(None);
@@ -60,17 +60,6 @@ pub(crate) fn escaped_text<'a>(
         rest = left;
     }
     Ok(None)
-}
-
-/// Returns what follows `front`, if the text begins with it.
-#[inline(always)]
-pub(crate) fn strip<'a>(text: &'a str, front: &str) -> Option<&'a str>
-    requires { IsTrue (all_ascii front.now) }
-    ensures split { MatchOption result (begins_with front.now (chars text.now) ≡ false)
-        (λ rest. chars text.now ≡ front.now ++ chars rest.now) }
-    ensures utf8 { IfSome result (λ rest. IsUtf8 rest.now) }
-{
-    text.strip_prefix(front)
 }
 
 /// Splits off the ASCII characters at the start that need no escape in a literal.
@@ -137,27 +126,16 @@ fn split_unit(text: &str) -> Option<(char, &str)>
     ensures shorter { IfSome result (λ x. length (chars x.1.now) < length (chars text.now)) }
     ensures utf8 { IfSome result (λ x. IsUtf8 x.1.now) }
 {
-    let (c, after) = split_first(text)?;
+    let (c, after) = TextCursor::new(text).advance()?;
     if c != '\\' {
         return if stands_past_ascii(c) {
-            Some((c, after))
+            Some((c, after.rest))
         } else {
             None
         };
     }
-    let (letter, after_unit) = split_first(after)?;
-    Some((meaning(letter)?, after_unit))
-}
-
-/// The first character of a text, and the text after it.
-#[tactic(auto, using(std::proofs::lemmas::Str::chars_past_char))]
-fn split_first(text: &str) -> Option<(char, &str)>
-    ensures split { MatchOption result (chars text.now ≡ []) (λ x. chars text.now ≡ x.0 ∷ chars x.1.now) }
-    ensures utf8 { IfSome result (λ x. IsUtf8 x.1.now) }
-{
-    let mut characters = text.chars();
-    let first = characters.next()?;
-    Some((first, characters.as_str()))
+    let (letter, after_unit) = after.advance()?;
+    Some((meaning(letter)?, after_unit.rest))
 }
 
 /// Whether the character is past ASCII and needs no escape.

@@ -2,7 +2,7 @@
 //! Writes the doc attributes of a text as doc comments.
 
 use crate::relayout::errors::RelayoutError;
-use crate::relayout::literals::{escaped_text, plain_front, strip};
+use crate::relayout::literals::{escaped_text, plain_front};
 use crate::lexical::parts::{TextCursor, before, begins, skip_to_either};
 use crate::lexical::{PieceKind, literal_at, past_white, piece_at};
 use crate::pm_token::parts::{TextBuilder, string_literal};
@@ -118,8 +118,8 @@ fn push_attribute<'a>(
     };
     // Most literals hold their text as it is or with short escapes. These are read without the lexer.
     if let Some((front, more)) = plain_front(after) {
-        if let Some(rest) = strip(more, "\"]\n") {
-            return push_doc(out, kept, text, inner, front, rest);
+        if let Some(end) = TextCursor::new(more).past("\"]\n") {
+            return push_doc(out, kept, text, inner, front, end.rest);
         }
         if let Some((doc_body, rest)) = escaped_text(front, more)? {
             return push_doc(out, kept, text, inner, doc_body.as_str(), rest);
@@ -188,11 +188,12 @@ fn is_free(free: bool, kind: PieceKind<'_>, text: &str) -> bool
 /// on. Returns `None` if none begins it.
 fn past_front(text: &str) -> Option<(bool, &str)>
 {
-    if let Some(rest) = strip(text, "#[doc = ") {
-        return Some((false, rest));
+    let start = TextCursor::new(text);
+    if let Some(literal) = start.past("#[doc = ") {
+        return Some((false, literal.rest));
     }
-    if let Some(rest) = strip(text, "# ![doc = ") {
-        return Some((true, rest));
+    if let Some(literal) = start.past("# ![doc = ") {
+        return Some((true, literal.rest));
     }
     None
 }
@@ -204,10 +205,10 @@ fn split_literal(text: &str) -> Option<(&str, &str)>
     let Some(bytes) = literal_at(text) else {
         return None;
     };
-    let Some(rest) = strip(&text[bytes..], "]\n") else {
+    let Some(end) = TextCursor::new(&text[bytes..]).past("]\n") else {
         return None;
     };
-    Some((&text[..bytes], rest))
+    Some((&text[..bytes], end.rest))
 }
 
 /// Returns the text for which `Literal::string` writes this literal, if there is one.

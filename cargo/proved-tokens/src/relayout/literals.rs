@@ -1,6 +1,7 @@
 // Made from crates/relayout/src/literals.rt by dev/erase: change that file, not this one.
 //! Reads the text of a string literal that `Literal::string` wrote.
 
+use crate::lexical::parts::TextCursor;
 use crate::pm_token::parts::{TextBuilder, is_bare};
 use crate::shim::alloc::AllocError;
 
@@ -9,8 +10,8 @@ use crate::shim::alloc::AllocError;
 #[cfg_attr(not(debug_assertions), inline(always))]
 pub(crate) fn plain_front(text: &str) -> Option<(&str, &str)>
 {
-    let content = strip(text, "\"")?;
-    Some(split_plain(content))
+    let content = TextCursor::new(text).past("\"")?;
+    Some(split_plain(content.rest))
 }
 
 /// Returns the text of a literal before `]` and LF, and what follows that LF. `front` is the start of the literal's
@@ -31,8 +32,8 @@ pub(crate) fn escaped_text<'a>(
     doc_body.push_text(front)?;
     let mut rest = after;
     while !rest.is_empty() {
-        if let Some(after_unit) = strip(rest, "\"]\n") {
-            return Ok(Some((doc_body.into_string(), after_unit)));
+        if let Some(end) = TextCursor::new(rest).past("\"]\n") {
+            return Ok(Some((doc_body.into_string(), end.rest)));
         }
         let Some((c, after_unit)) = split_unit(rest) else {
             return Ok(None);
@@ -43,13 +44,6 @@ pub(crate) fn escaped_text<'a>(
         rest = left;
     }
     Ok(None)
-}
-
-/// Returns what follows `front`, if the text begins with it.
-#[cfg_attr(not(debug_assertions), inline(always))]
-pub(crate) fn strip<'a>(text: &'a str, front: &str) -> Option<&'a str>
-{
-    text.strip_prefix(front)
 }
 
 /// Splits off the ASCII characters at the start that need no escape in a literal.
@@ -105,24 +99,16 @@ fn is_letter(byte: u8) -> bool {
 /// Splits off the first character, if it needs no escape and is past ASCII, or is written with a short escape.
 fn split_unit(text: &str) -> Option<(char, &str)>
 {
-    let (c, after) = split_first(text)?;
+    let (c, after) = TextCursor::new(text).advance()?;
     if c != '\\' {
         return if stands_past_ascii(c) {
-            Some((c, after))
+            Some((c, after.rest))
         } else {
             None
         };
     }
-    let (letter, after_unit) = split_first(after)?;
-    Some((meaning(letter)?, after_unit))
-}
-
-/// The first character of a text, and the text after it.
-fn split_first(text: &str) -> Option<(char, &str)>
-{
-    let mut characters = text.chars();
-    let first = characters.next()?;
-    Some((first, characters.as_str()))
+    let (letter, after_unit) = after.advance()?;
+    Some((meaning(letter)?, after_unit.rest))
 }
 
 /// Whether the character is past ASCII and needs no escape.

@@ -21,16 +21,10 @@ pub fn split_script(text: &str) -> (&str, &str)
 /// Whether the text begins with the first line of a script.
 fn is_script(text: &str) -> bool
 {
-    match strip(text, "#!") {
-        Some(rest) => !begins(skip(TextCursor::new(rest), Class::White).rest, "["),
+    match TextCursor::new(text).past("#!") {
+        Some(code) => !begins(skip(code, Class::White).rest, "["),
         None => false,
     }
-}
-
-/// Returns what follows `front`, if the text begins with it.
-fn strip<'a>(text: &'a str, front: &str) -> Option<&'a str>
-{
-    text.strip_prefix(front)
 }
 
 /// Returns the text after the line and an LF, or the text alone if the line is empty.

@@ -2,7 +2,7 @@ use Rattle.std.proofs.Common.{◌++◌, ◌∙◌, ap, refl}
 use Rattle.std.specs.Str.{chars}
 use Rattle.relayout.proofs.AttributeLemmas.{no_front, no_literal, no_text}
 use Rattle.relayout.specs.Commented.{attribute_front}
-use Rattle.relayout.proofs.LiteralLemmas.{plain_all}
+use Rattle.relayout.proofs.LiteralLemmas.{plain_all, text_past}
 use Rattle.relayout.proofs.comments.push_attribute.Goals as goal
 
 pub returns-in_default-clause-found : goal.returns-in_default-clause-found
@@ -31,5 +31,5 @@ push_doc-requires-clause-is c =
     c.in-Some.ensures.found
     ∙ ap (λ x. attribute_front c.in-Some.inner ++ x)
     (plain_all (chars c.in-Some.after.now) (chars front ++ chars more) (chars front) (chars more)
-    (chars c.in-Some-strip.rest.now) c.in-Some-plain_front.ensures.split refl c.in-Some-plain_front.ensures.plain
-    c.in-Some-strip.ensures.split)
+    (chars c.in-Some-past.end.rest.now) c.in-Some-plain_front.ensures.split refl c.in-Some-plain_front.ensures.plain
+    (text_past _ _ c.new.result c.in-Some-past.end c.new.ensures.rest c.in-Some-past.ensures))

@@ -1,6 +1,6 @@
 use Rattle.std.proofs.Common.{◌++◌, codes, refl}
 use Rattle.std.specs.Str.{chars}
-use Rattle.relayout.proofs.LiteralLemmas.{reads_all, reads_plain, reads_start, reads_unit}
+use Rattle.relayout.proofs.LiteralLemmas.{reads_all, reads_plain, reads_start, reads_unit, text_past}
 use Rattle.relayout.proofs.RelaidLemmas.{string_chars}
 use Rattle.relayout.proofs.literals.escaped_text.Goals as goal
 
@@ -17,7 +17,8 @@ pub returns-in-Some-clause-found : goal.returns-in-Some-clause-found
 returns-in-Some-clause-found c =
     rw (string_chars c.into_string.result c.loop-rest.doc_body c.into_string.ensures)
     (reads_all (codes "\"" ++ (chars c.args.front.now ++ chars c.args.after.now)) c.loop-rest.doc_body
-    (chars c.loop-rest.rest.now) (chars c.in-Some.after_unit.now) c.in-Some.ensures.split c.loop-rest.invariant.1)
+    (chars c.loop-rest.rest.now) (chars c.in-Some.end.rest.now)
+    (text_past _ _ c.new.result c.in-Some.end c.new.ensures.rest c.in-Some.ensures) c.loop-rest.invariant.1)
 
 pub loop-rest-preserved : goal.loop-rest-preserved
 loop-rest-preserved c =
