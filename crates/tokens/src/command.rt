@@ -22,34 +22,9 @@ mod tests;
 /// and 1 if the input has a syntax error. It is 2 if the words are wrong, if a read or a write failed, if the input
 /// isn't UTF-8 or is too long, or if memory ran out. After each failure a line on `errors` says what happened. The
 /// status stays the same if that line cannot be written.
+///
+/// If there was no memory for the words, nothing is read, and nothing but that line is written.
 pub fn command<R: ByteSource, W: ByteSink, E: ByteSink>(
-    alloc: Global,
-    words: &[String],
-    reader: &mut R,
-    writer: &mut W,
-    errors: &mut E,
-) -> u8
-    ensures usage { IfNone (mode_of (map string_bytes words.now)) ((result ≡ 2)
-        × (reader.new ≡ reader.old) × (writer.new ≡ writer.old)
-        × Says (E.held errors.old) (E.held errors.new) (E.has_failed errors.new) usage) }
-    ensures runs { IfSome (mode_of (map string_bytes words.now)) (λ mode.
-        let seen = seen_by R.left R.has_failed W.held W.has_failed in
-        (answer : Result Unit RunError)
-        × Runs mode (seen reader.old writer.old) answer (seen reader.new writer.new)
-        × (result ≡ status answer)
-        × Says (E.held errors.old) (E.held errors.new) (E.has_failed errors.new)
-        (message answer)) }
-{
-    let Some(mode) = mode_of(words) else {
-        say_usage(errors);
-        return 2;
-    };
-    conclude(run(alloc, mode, reader, writer), errors)
-}
-
-/// Does what `command` does, if there was memory for the words. Otherwise it reads and writes nothing, except for a
-/// line on `errors` that says so, and returns the status 2.
-pub fn answer<R: ByteSource, W: ByteSink, E: ByteSink>(
     alloc: Global,
     words: Result<Vec<String>, AllocError>,
     reader: &mut R,
@@ -71,10 +46,15 @@ pub fn answer<R: ByteSource, W: ByteSink, E: ByteSink>(
         × Says (E.held errors.old) (E.held errors.new) (E.has_failed errors.new)
         (message (Err (RunError.Memory alloc_error)))) }
 {
-    match words {
-        Ok(words) => command(alloc, words.as_slice(), reader, writer, errors),
-        Err(error) => conclude(Err(RunError::Memory(error)), errors),
-    }
+    let words = match words {
+        Ok(words) => words,
+        Err(error) => return conclude(Err(RunError::Memory(error)), errors),
+    };
+    let Some(mode) = mode_of(words.as_slice()) else {
+        say_usage(errors);
+        return 2;
+    };
+    conclude(run(alloc, mode, reader, writer), errors)
 }
 
 /// Writes to `errors` why a run failed, if it did, and returns the exit status after it.

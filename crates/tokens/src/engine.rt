@@ -67,7 +67,8 @@ fn output_of(alloc: Global, mode: OutputMode, input: Vec<u8>) -> Result<RunOutpu
     }
 }
 
-/// Returns what is to be written for the text.
+/// Returns what is to be written for the text: its printed tokens and a line feed, or the trees, each of which makes a
+/// line.
 fn output_of_text(alloc: Global, mode: OutputMode, text: &str) -> Result<RunOutput, ParseError>
     ensures ok { IfOk result (IsOutputOf mode (chars text.now)) }
     ensures only { IfErr result (λ error. IfLex error (λ fault.
@@ -76,8 +77,12 @@ fn output_of_text(alloc: Global, mode: OutputMode, text: &str) -> Result<RunOutp
         ↔ (Fits new_map (length (chars text.now)) → ⊥) }
 {
     match mode {
-        OutputMode::Print => print_output(alloc, text),
-        OutputMode::Spans => span_output(alloc, text),
+        OutputMode::Print => {
+            let mut printed = reprint(alloc, text)?;
+            printed.push_str("\n")?;
+            Ok(RunOutput::Text(printed))
+        }
+        OutputMode::Spans => Ok(RunOutput::Trees(place_trees(alloc, text)?)),
     }
 }
 
@@ -110,28 +115,4 @@ fn refusal(error: ParseError, map: &SourceMap) -> RunError
         ParseError::MapFull => RunError::MapFull,
         ParseError::Memory(error) => RunError::Memory(error),
     }
-}
-
-/// Returns the printed text and a line feed.
-fn print_output(alloc: Global, text: &str) -> Result<RunOutput, ParseError>
-    ensures ok { IfOk result (IsOutputOf OutputMode.Print (chars text.now)) }
-    ensures only { IfErr result (λ error. IfLex error (λ fault.
-        IsOnlyFault (next_lo new_map) (chars text.now) fault.lo)) }
-    ensures map_full { (result ≡ Err ParseError.MapFull)
-        ↔ (Fits new_map (length (chars text.now)) → ⊥) }
-{
-    let mut printed = reprint(alloc, text)?;
-    printed.push_str("\n")?;
-    Ok(RunOutput::Text(printed))
-}
-
-/// Returns the trees, each of which makes a line of the output.
-fn span_output(alloc: Global, text: &str) -> Result<RunOutput, ParseError>
-    ensures ok { IfOk result (IsOutputOf OutputMode.Spans (chars text.now)) }
-    ensures only { IfErr result (λ error. IfLex error (λ fault.
-        IsOnlyFault (next_lo new_map) (chars text.now) fault.lo)) }
-    ensures map_full { (result ≡ Err ParseError.MapFull)
-        ↔ (Fits new_map (length (chars text.now)) → ⊥) }
-{
-    Ok(RunOutput::Trees(place_trees(alloc, text)?))
 }

@@ -19,7 +19,7 @@ mod spans;
 mod writing;
 
 use arguments::words;
-use command::answer;
+use command::command;
 use sinks::WriteSink;
 use sources::ReadSource;
 use std::env;
@@ -30,6 +30,6 @@ fn main(rt: HostRuntime) -> ExitCode {
     let mut writer = WriteSink::new(rt.stdout());
     let mut errors = WriteSink::new(rt.stderr());
     let words = words(rt.alloc(), env::args(&rt));
-    let status = answer(rt.alloc(), words, &mut reader, &mut writer, &mut errors);
+    let status = command(rt.alloc(), words, &mut reader, &mut writer, &mut errors);
     ExitCode::from(status)
 }

@@ -30,7 +30,7 @@ fn respond(rt: &HostRuntime, words: Vec<String>, reader: impl Read) -> u8 {
     let mut reader = ReadSource::new(reader);
     let mut writer = WriteSink::new(rt.stdout());
     let mut errors = WriteSink::new(rt.stderr());
-    command(&words, &mut reader, &mut writer, &mut errors)
+    command(Ok(words), &mut reader, &mut writer, &mut errors)
 }
 
 // A file to be read, or why it isn't had, as which each read fails.

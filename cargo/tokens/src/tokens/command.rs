@@ -15,33 +15,24 @@ use proved_tokens::shim::alloc::AllocError;
 /// and 1 if the input has a syntax error. It is 2 if the words are wrong, if a read or a write failed, if the input
 /// isn't UTF-8 or is too long, or if memory ran out. After each failure a line on `errors` says what happened. The
 /// status stays the same if that line cannot be written.
+///
+/// If there was no memory for the words, nothing is read, and nothing but that line is written.
 pub fn command<R: ByteSource, W: ByteSink, E: ByteSink>(
-    words: &[String],
-    reader: &mut R,
-    writer: &mut W,
-    errors: &mut E,
-) -> u8
-{
-    let Some(mode) = mode_of(words) else {
-        say_usage(errors);
-        return 2;
-    };
-    conclude(run(mode, reader, writer), errors)
-}
-
-/// Does what `command` does, if there was memory for the words. Otherwise it reads and writes nothing, except for a
-/// line on `errors` that says so, and returns the status 2.
-pub fn answer<R: ByteSource, W: ByteSink, E: ByteSink>(
     words: Result<Vec<String>, AllocError>,
     reader: &mut R,
     writer: &mut W,
     errors: &mut E,
 ) -> u8
 {
-    match words {
-        Ok(words) => command(words.as_slice(), reader, writer, errors),
-        Err(error) => conclude(Err(RunError::Memory(error)), errors),
-    }
+    let words = match words {
+        Ok(words) => words,
+        Err(error) => return conclude(Err(RunError::Memory(error)), errors),
+    };
+    let Some(mode) = mode_of(words.as_slice()) else {
+        say_usage(errors);
+        return 2;
+    };
+    conclude(run(mode, reader, writer), errors)
 }
 
 /// Writes to `errors` why a run failed, if it did, and returns the exit status after it.

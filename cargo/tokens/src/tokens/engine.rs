@@ -49,12 +49,17 @@ fn output_of(mode: OutputMode, input: Vec<u8>) -> Result<RunOutput, RunError>
 }
 }
 
-/// Returns what is to be written for the text.
+/// Returns what is to be written for the text: its printed tokens and a line feed, or the trees, each of which makes a
+/// line.
 fn output_of_text(mode: OutputMode, text: &str) -> Result<RunOutput, ParseError>
 {
     match mode {
-        OutputMode::Print => print_output(text),
-        OutputMode::Spans => span_output(text),
+        OutputMode::Print => {
+            let mut printed = reprint(text)?;
+            printed.push_str_fallibly("\n")?;
+            Ok(RunOutput::Text(printed))
+        }
+        OutputMode::Spans => Ok(RunOutput::Trees(place_trees(text)?)),
     }
 }
 
@@ -78,18 +83,4 @@ fn refusal(error: ParseError, map: &SourceMap) -> RunError
         ParseError::Memory(error) => RunError::Memory(error),
     _ => unreachable!("each case is above"),
 }
-}
-
-/// Returns the printed text and a line feed.
-fn print_output(text: &str) -> Result<RunOutput, ParseError>
-{
-    let mut printed = reprint(text)?;
-    printed.push_str_fallibly("\n")?;
-    Ok(RunOutput::Text(printed))
-}
-
-/// Returns the trees, each of which makes a line of the output.
-fn span_output(text: &str) -> Result<RunOutput, ParseError>
-{
-    Ok(RunOutput::Trees(place_trees(text)?))
 }

@@ -5,7 +5,6 @@ use crate::sources::MemorySource;
 use proc_macro2::LineColumn;
 use std::fmt::Debug;
 use std::process::Abort;
-use std::test::Fail;
 
 const ROW: &[u8] = b"fn f(x) { x + y }";
 
@@ -36,7 +35,7 @@ fn check_bytes(rt: &impl Abort, at: &impl Debug, found: &[u8], want: &[u8]) {
 fn check_command(
     rt: &(impl Abort + AllocGlobal),
     at: &impl Debug,
-    words: &[String],
+    words: Result<Vec<String>, AllocError>,
     reader: &mut impl ByteSource,
     status: u8,
     output: &[u8],
@@ -59,17 +58,9 @@ fn check_input(
     out_text: &[u8],
     status: u8,
 ) {
-    let words = one_word(rt.alloc(), word).expect(rt, "no memory");
+    let words = one_word(rt.alloc(), word);
     let reader = &mut MemorySource::new(input);
-    check_command(
-        rt,
-        &input,
-        words.as_slice(),
-        reader,
-        status,
-        output,
-        out_text,
-    );
+    check_command(rt, &input, words, reader, status, output, out_text);
 }
 
 /// Words, each with an input, the output, the message and the status.
@@ -120,10 +111,10 @@ fn words_of(alloc: Global, text: &str) -> Result<Vec<String>, AllocError> {
 
 /// Asserts that the words of the text get the usage line and no output.
 fn check_usage(rt: &(impl Abort + AllocGlobal), text: &str) {
-    let words = words_of(rt.alloc(), text).expect(rt, text);
+    let words = words_of(rt.alloc(), text);
     let reader = &mut MemorySource::new(ROW);
     let usage = b"usage: tokens print|spans\n";
-    check_command(rt, &text, words.as_slice(), reader, 2, b"", usage);
+    check_command(rt, &text, words, reader, 2, b"", usage);
 }
 
 #[test]
@@ -139,7 +130,7 @@ fn words_that_ask_for_nothing_print_the_usage(rt: HostRuntime) {
 fn words_without_memory_move_no_byte(rt: HostRuntime) {
     let mut writer = MemorySink::new(rt.alloc());
     let mut errors = MemorySink::new(rt.alloc());
-    let status = answer(
+    let status = command(
         rt.alloc(),
         Err(AllocError),
         &mut MemorySource::new(ROW),
@@ -155,24 +146,23 @@ fn words_without_memory_move_no_byte(rt: HostRuntime) {
 /// Asserts that nothing is written if a read fails, for each of the reads that give the row, one byte each, and then
 /// its end.
 fn check_reads(rt: &(impl Abort + AllocGlobal), word: &str) {
-    let words = one_word(rt.alloc(), word).expect(rt, "no memory");
     for reads in 0..=ROW.len() {
+        let words = one_word(rt.alloc(), word);
         let reader = &mut FailingSource::new(ROW, 1, reads);
-        check_command(rt, &reads, words.as_slice(), reader, 2, b"", FAILED);
+        check_command(rt, &reads, words, reader, 2, b"", FAILED);
     }
 }
 
 #[test]
-fn a_read_that_fails_writes_nothing(rt: HostRuntime) -> Result<(), Fail> {
-    let words = one_word(rt.alloc(), "print")?;
+fn a_read_that_fails_writes_nothing(rt: HostRuntime) {
     for reads in 0..6 {
+        let words = one_word(rt.alloc(), "print");
         // Five reads give the 17 bytes, and one more their end.
         let reader = &mut FailingSource::new(ROW, 4, reads);
-        check_command(&rt, &reads, words.as_slice(), reader, 2, b"", FAILED);
+        check_command(&rt, &reads, words, reader, 2, b"", FAILED);
     }
     check_reads(&rt, "print");
     check_reads(&rt, "spans");
-    Ok(())
 }
 
 /// Asserts the output, the message and the status for the bytes, which come `times` times from a terminal, and that
@@ -185,17 +175,9 @@ fn check_terminal(
     output: &[u8],
     out_text: &[u8],
 ) {
-    let words = one_word(rt.alloc(), "print").expect(rt, "no memory");
+    let words = one_word(rt.alloc(), "print");
     let reader = &mut TerminalSource::new(bytes, times);
-    check_command(
-        rt,
-        &times,
-        words.as_slice(),
-        reader,
-        status,
-        output,
-        out_text,
-    );
+    check_command(rt, &times, words, reader, status, output, out_text);
     assert_eq!(rt; reader.reads(), times.saturating_add(1), "of {bytes:?}");
 }
 
@@ -223,17 +205,11 @@ fn check_front(
     writes: usize,
     front: &[u8],
 ) {
-    let words = one_word(rt.alloc(), word).expect(rt, "no memory");
+    let words = one_word(rt.alloc(), word);
     let mut writer = FailingSink::new(rt.alloc(), most, writes);
     let mut errors = MemorySink::new(rt.alloc());
     let reader = &mut FailingSource::new(ROW, 1, usize::MAX);
-    let status = command(
-        rt.alloc(),
-        words.as_slice(),
-        reader,
-        &mut writer,
-        &mut errors,
-    );
+    let status = command(rt.alloc(), words, reader, &mut writer, &mut errors);
     let at = (word, most, writes);
     check_status(rt, &at, status, 2);
     check_bytes(rt, &at, writer.bytes(), front);
@@ -264,13 +240,13 @@ fn a_write_that_fails_leaves_a_beginning(rt: HostRuntime) {
 }
 
 #[test]
-fn a_byte_a_call_is_enough(rt: HostRuntime) -> Result<(), Fail> {
-    let words = one_word(rt.alloc(), "print")?;
+fn a_byte_a_call_is_enough(rt: HostRuntime) {
+    let words = one_word(rt.alloc(), "print");
     let mut writer = FailingSink::new(rt.alloc(), 1, usize::MAX);
     let mut errors = FailingSink::new(rt.alloc(), 1, usize::MAX);
     let status = command(
         rt.alloc(),
-        words.as_slice(),
+        words,
         &mut FailingSource::new(ROW, 1, usize::MAX),
         &mut writer,
         &mut errors,
@@ -279,7 +255,6 @@ fn a_byte_a_call_is_enough(rt: HostRuntime) -> Result<(), Fail> {
     check_status(&rt, at, status, 0);
     check_bytes(&rt, at, writer.bytes(), PRINTED);
     check_bytes(&rt, at, errors.bytes(), b"");
-    Ok(())
 }
 
 /// Asserts the message and the status of an error, and that the status stays the same if the message cannot be written.
