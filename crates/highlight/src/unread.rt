@@ -1,13 +1,13 @@
 //! The text that follows the last piece, and what is wrong in it.
-ghost use Rattle.std.specs.Prelude.{◌≡◌, ◌++◌, ◌-◌, OnOk, drop, string_bytes, take};
-ghost use Rattle.std.specs.Str.{chars, encode_utf8_all, IsUtf8};
+ghost use Rattle.std.specs.Prelude.{◌≡◌, ◌++◌, ◌-◌, OnOk, string_bytes};
+ghost use Rattle.std.specs.Str.{chars};
 ghost use Rattle.highlight.specs.Page.{marked_pieces};
 ghost use Rattle.highlight.specs.Pieces.{faulty, fault_of, first_position, stuck, unread};
 
 use crate::style::Style;
 use crate::writing::Sheet;
 use explain::{Explained, Reason, Stretch};
-use lexical::parts::before;
+use messages::split_chars;
 use pm_span::parts::bounds;
 use std::alloc::{AllocError, Global};
 
@@ -90,18 +90,4 @@ fn push_stuck(sheet: &mut Sheet, text: &str) -> Result<(), AllocError>
     sheet.push_piece(Style::NoPiece, first.encode_utf8(&mut [0; 4]))?;
     sheet.push_piece(Style::Unread, after.as_str())?;
     Ok(())
-}
-
-/// Splits the text after its first `count` characters, or at its end if it has fewer.
-fn split_chars(text: &str, count: u32) -> (&str, &str)
-    ensures front { result.0.now ≡ encode_utf8_all (take count (chars text.now)) }
-    ensures rest { chars result.1.now ≡ drop count (chars text.now) }
-    ensures utf8 { IsUtf8 result.1.now }
-{
-    let mut rest = text.chars();
-    for _ in 0..count {
-        let _ = rest.next();
-    }
-    let after = rest.as_str();
-    (before(text, after), after)
 }

@@ -1,5 +1,5 @@
 //! Lines of a text, and numbers of its characters and bytes.
-ghost use Rattle.std.specs.Prelude.{◌≡◌, drop, length, take};
+ghost use Rattle.std.specs.Prelude.{◌≡◌, length};
 ghost use Rattle.std.specs.Str.{chars, encode_utf8_all};
 ghost use Rattle.rust_check.specs.TextPosition.{first_line, last_line, last_number};
 
@@ -32,19 +32,6 @@ pub fn last_line(text: &str) -> LastLine<'_>
         number,
         text: front,
     }
-}
-
-/// Splits the text after its first `count` characters, or at its end if it has fewer.
-pub fn split_chars(text: &str, count: u32) -> (&str, &str)
-    ensures front { chars result.0.now ≡ take count (chars text.now) }
-    ensures rest { chars result.1.now ≡ drop count (chars text.now) }
-{
-    let mut rest = text.chars();
-    for _ in 0..count {
-        let _ = rest.next();
-    }
-    let after = rest.as_str();
-    (before(text, after), after)
 }
 
 /// Returns the first line of the text, which ends before the first LF or CR.

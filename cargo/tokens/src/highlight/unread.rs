@@ -4,7 +4,7 @@
 use crate::highlight::style::Style;
 use crate::highlight::writing::Sheet;
 use proved_tokens::explain::{Explained, Reason, Stretch};
-use proved_tokens::lexical::parts::before;
+use crate::messages::split_chars;
 use proved_tokens::pm_span::parts::bounds;
 use proved_tokens::shim::alloc::AllocError;
 
@@ -77,15 +77,4 @@ fn push_stuck(sheet: &mut Sheet, text: &str) -> Result<(), AllocError>
     sheet.push_piece(Style::NoPiece, first.encode_utf8(&mut [0; 4]))?;
     sheet.push_piece(Style::Unread, after.as_str())?;
     Ok(())
-}
-
-/// Splits the text after its first `count` characters, or at its end if it has fewer.
-fn split_chars(text: &str, count: u32) -> (&str, &str)
-{
-    let mut rest = text.chars();
-    for _ in 0..count {
-        let _ = rest.next();
-    }
-    let after = rest.as_str();
-    (before(text, after), after)
 }

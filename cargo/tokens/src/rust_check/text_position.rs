@@ -30,17 +30,6 @@ pub fn last_line(text: &str) -> LastLine<'_>
     }
 }
 
-/// Splits the text after its first `count` characters, or at its end if it has fewer.
-pub fn split_chars(text: &str, count: u32) -> (&str, &str)
-{
-    let mut rest = text.chars();
-    for _ in 0..count {
-        let _ = rest.next();
-    }
-    let after = rest.as_str();
-    (before(text, after), after)
-}
-
 /// Returns the first line of the text, which ends before the first LF or CR.
 pub fn first_line(text: &str) -> &str
 {

@@ -2,7 +2,7 @@ use Rattle.std.proofs.Common.{ap, drop, take, ◌∙◌, ◌≡◌, ◌++◌, sy
 use Rattle.std.specs.Str.{chars}
 use Rattle.std.proofs.lemmas.List.{drop-drop, take-append-drop}
 use Rattle.pm_span.proofs.SeamLemmas.{past_one}
-use Rattle.rust_check.proofs.text_position.split_chars.Goals as goal
+use Rattle.messages.proofs.text.split_chars.Goals as goal
 
 pub loop-preserved : goal.loop-preserved
 loop-preserved c =

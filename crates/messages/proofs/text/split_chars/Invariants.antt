@@ -1,6 +1,6 @@
 use Rattle.std.proofs.Common.{◌≡◌, drop}
 use Rattle.std.specs.Str.{chars, IsUtf8}
-use Rattle.rust_check.proofs.text_position.split_chars.Given as goal
+use Rattle.messages.proofs.text.split_chars.Given as goal
 
 -- `rest` is what is left after the characters that were counted
 abbrev pub invariant-loop : goal.invariant-loop
