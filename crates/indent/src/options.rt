@@ -1,7 +1,7 @@
 //! The options of the command line.
 
 use crate::choosing::IndentStyle;
-use messages::Failure;
+use messages::{Failure, is_option};
 use std::alloc::Global;
 
 /// The usage line.
@@ -39,7 +39,7 @@ pub fn options_of(alloc: Global, words: &[String]) -> Result<Options, Failure> {
             "--width" => wants_width = true,
             "--tabs" => step = IndentStyle::Tab,
             "--check" => check = true,
-            _ if path.is_some() || is_unknown(word) => return Err(Failure::Usage(USAGE)),
+            _ if path.is_some() || is_option(word) => return Err(Failure::Usage(USAGE)),
             _ => path = Some(word),
         }
     }
@@ -56,9 +56,4 @@ fn width_of(word: &str) -> Result<u8, Failure> {
         Ok(width) => Ok(width),
         Err(_) => Err(Failure::Usage(USAGE)),
     }
-}
-
-/// Whether the word begins like an option, without being `-`.
-fn is_unknown(word: &str) -> bool {
-    word != "-" && word.starts_with('-')
 }

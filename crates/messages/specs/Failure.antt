@@ -1,5 +1,5 @@
 -- The failure for each error, and the exit status of a program.
-use Rattle.std.specs.Prelude.{ℕ, Bool, true, false, if◌then◌else◌, Result, Ok, Err}
+use Rattle.std.specs.Prelude.{ℕ, Bool, true, false, if◌then◌else◌, List, Option, Some, None, Result, Ok, Err}
 use Rattle.std.specs.IoError.{error_kind}
 use Rattle.std.specs.declared.io.Error.{Error}
 use Rattle.std.specs.declared.io.ErrorKind.{ErrorKind}
@@ -24,6 +24,11 @@ reading_failed error = if is_memory (error_kind error) then Memory else Read err
 -- the failure for an error of a write
 abbrev pub writing_failed : Error → Failure
 writing_failed error = if is_memory (error_kind error) then Memory else Write error
+
+-- the usage line, if the failure has one
+abbrev pub usage_of : Failure → Option (List ℕ)
+usage_of (Usage text) = Some text.now
+usage_of _ = None
 
 -- the exit status after a failure: 1 for a fault of the text, and 2 for any other failure
 abbrev pub failure_status : Failure → ℕ

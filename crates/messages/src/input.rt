@@ -3,7 +3,7 @@ ghost use Rattle.std.specs.Prelude.{◌≡◌, ◌↔◌, Err, IfErr, IfOk, IfSo
 ghost use Rattle.std.specs.Prelude.{option_map, string_bytes};
 ghost use Rattle.std.specs.IoError.{error_kind};
 ghost use Rattle.messages.specs.Input.{IsTextOf};
-ghost use Rattle.messages.specs.Words.{is_no_text, path_of, words_of};
+ghost use Rattle.messages.specs.Words.{is_no_text, is_option, path_of, words_of};
 
 use crate::errors::Failure;
 use std::alloc::Global;
@@ -49,6 +49,17 @@ pub fn path(alloc: Global, words: &[String], usage: &'static str) -> Result<Stri
         [] => Ok(String::from_str(alloc, "-")?),
         [path] => Ok(path.clone()?),
         _ => Err(Failure::Usage(usage)),
+    }
+}
+
+/// Whether the word is an option, known or not: whether it begins with `-` and is not `-` alone.
+pub fn is_option(word: &str) -> bool
+    ensures { result ≡ is_option word.now }
+{
+    match word.as_bytes() {
+        [b'-'] => false,
+        [b'-', ..] => true,
+        _ => false,
     }
 }
 

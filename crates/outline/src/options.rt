@@ -1,9 +1,10 @@
 //! What the arguments of the program say.
 ghost use Rattle.std.specs.Prelude.{◌≡◌, ◌⊎◌, IfErr, IfOk, None, OnOk, Some, map, string_bytes};
+ghost use Rattle.messages.specs.Failure.{usage_of};
 ghost use Rattle.messages.specs.declared.errors.Failure.TheVariants.{Memory};
-ghost use Rattle.outline.specs.Options.{asks, no_wish, or_input, other_word, usage_of, wishes_of, with_word, word_of};
+ghost use Rattle.outline.specs.Options.{asks, no_wish, or_input, wishes_of, with_word, word_of};
 
-use messages::Failure;
+use messages::{Failure, is_option};
 use std::alloc::{AllocError, Global};
 
 /// The usage line of the program.
@@ -66,17 +67,7 @@ fn word_of(word: &str) -> ArgumentKind
     match word {
         "--json" => ArgumentKind::Json,
         "--ctags" => ArgumentKind::Ctags,
-        _ => other_word(word),
-    }
-}
-
-/// The meaning of an argument that is no known option.
-fn other_word(word: &str) -> ArgumentKind
-    ensures { result ≡ other_word word.now }
-{
-    match word.as_bytes() {
-        [b'-'] => ArgumentKind::Path,
-        [b'-', ..] => ArgumentKind::Unknown,
+        _ if is_option(word) => ArgumentKind::Unknown,
         _ => ArgumentKind::Path,
     }
 }

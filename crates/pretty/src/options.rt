@@ -1,5 +1,5 @@
 //! The options of the command line.
-use messages::Failure;
+use messages::{Failure, is_option};
 use std::alloc::Global;
 
 /// The usage line.
@@ -25,15 +25,10 @@ pub fn options_of(alloc: Global, words: &[String]) -> Result<Options, Failure> {
         let word = word.as_str();
         match word {
             "--deny-comments" => deny = true,
-            _ if path.is_some() || is_unknown(word) => return Err(Failure::Usage(USAGE)),
+            _ if path.is_some() || is_option(word) => return Err(Failure::Usage(USAGE)),
             _ => path = Some(word),
         }
     }
     let path = String::from_str(alloc, path.unwrap_or("-"))?;
     Ok(Options { deny, path })
-}
-
-/// Whether the word begins like an option, without being `-`.
-fn is_unknown(word: &str) -> bool {
-    word != "-" && word.starts_with('-')
 }

@@ -1,10 +1,6 @@
 -- What the words of the command line mean.
-use Rattle.std.specs.Prelude.{ℕ, Bool, true, false, not, ◌&&◌, ◌==◌, List, [], ◌∷◌, ◌++◌, codes, length, map, nat_eq}
-use Rattle.std.specs.Prelude.{slice_index, string_bytes, Option, Some, None}
-use Rattle.std.specs.Prelude.{if◌then◌else◌}
-use lib.Pointwise.{pointwise}
-use Rattle.messages.specs.declared.errors.Failure.{Failure}
-use Rattle.messages.specs.declared.errors.Failure.TheVariants.{Usage}
+use Rattle.std.specs.Prelude.{ℕ, Bool, true, false, List, [], ◌∷◌, ◌++◌, codes, map, string_bytes, if◌then◌else◌}
+use Rattle.messages.specs.Words.{is_option, is_same, or_dash}
 use Rattle.rust_check.specs.declared.options.Form.{Form}
 use Rattle.rust_check.specs.declared.options.Form.TheVariants.{Short, Long, Coloured, Json}
 use Rattle.rust_check.specs.declared.options.Options.{Options}
@@ -15,13 +11,7 @@ use Rattle.rust_check.specs.declared.options.ArgumentKind.TheVariants as words
 
 -- ---- one word
 
-abbrev pub is_same : List ℕ → List ℕ → Bool
-is_same a b = pointwise nat_eq a b
-
--- a word that is no known option: a path, or an unknown option if it begins with `-` (45) and is not `-` alone
-abbrev pub other_word : List ℕ → ArgumentKind
-other_word word = if (slice_index word 0 == 45) && not (length word == 1) then words.Unknown else words.Path
-
+-- the meaning of a word: one that is no option is a path
 abbrev pub word_of : List ℕ → ArgumentKind
 word_of word =
     if is_same word (codes "--short") then words.Short
@@ -30,7 +20,8 @@ word_of word =
     else (if is_same word (codes "--color=always") then words.Colour true
     else (if is_same word (codes "--color=never") then words.Colour false
     else (if is_same word (codes "--help") then words.Help
-    else (if is_same word (codes "--version") then words.Version else other_word word))))))
+    else (if is_same word (codes "--version") then words.Version
+    else (if is_option word then words.Unknown else words.Path)))))))
 
 -- ---- the whole command line
 
@@ -63,11 +54,6 @@ with_word words.Version word w = w
 with_word words.Unknown word w = w
 with_word words.Path word w =
     record { form = w.form; coloured = w.coloured; hidden = w.hidden; paths = w.paths ++ (word ∷ []) }
-
--- the paths, or standard input if there are none
-abbrev pub or_dash : List (List ℕ) → List (List ℕ)
-or_dash [] = codes "-" ∷ []
-or_dash (path ∷ paths) = path ∷ paths
 
 abbrev pub or_input : Wishes → Wishes
 or_input w = record { form = w.form; coloured = w.coloured; hidden = w.hidden; paths = or_dash w.paths }
@@ -102,11 +88,6 @@ abbrev pub meant : Request → Asked
 meant (requests.Check options) = Checks (wishes_of options)
 meant requests.Help = Helps
 meant requests.Version = Versions
-
--- the usage line of an error, if it has one
-abbrev pub usage_of : Failure → Option (List ℕ)
-usage_of (Usage text) = Some text.now
-usage_of _ = None
 
 -- the form with colours, which only the long form has
 abbrev pub in_colours : Form → Bool → Form

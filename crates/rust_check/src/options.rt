@@ -1,10 +1,11 @@
 //! The options and paths of the command line.
 ghost use Rattle.std.specs.Prelude.{◌≡◌, ◌⊎◌, IfErr, IfOk, OnOk, Some, map, string_bytes};
+ghost use Rattle.messages.specs.Failure.{usage_of};
 ghost use Rattle.messages.specs.declared.errors.Failure.TheVariants.{Memory};
-ghost use Rattle.rust_check.specs.Options.{Misused, asks, form_of, meant, no_wish, or_input, other_word, usage_of};
-ghost use Rattle.rust_check.specs.Options.{wishes_of, with_word, word_of};
+ghost use Rattle.rust_check.specs.Options.{Misused, asks, form_of, meant, no_wish, or_input, wishes_of, with_word};
+ghost use Rattle.rust_check.specs.Options.{word_of};
 
-use messages::Failure;
+use messages::{Failure, is_option};
 use std::alloc::{AllocError, Global};
 
 /// The usage line.
@@ -95,17 +96,7 @@ fn word_of(word: &str) -> ArgumentKind
         "--color=never" => ArgumentKind::Colour(false),
         "--help" => ArgumentKind::Help,
         "--version" => ArgumentKind::Version,
-        _ => other_word(word),
-    }
-}
-
-/// Returns what a word means that is none of the known options.
-fn other_word(word: &str) -> ArgumentKind
-    ensures { result ≡ other_word word.now }
-{
-    match word.as_bytes() {
-        [b'-'] => ArgumentKind::Path,
-        [b'-', ..] => ArgumentKind::Unknown,
+        _ if is_option(word) => ArgumentKind::Unknown,
         _ => ArgumentKind::Path,
     }
 }

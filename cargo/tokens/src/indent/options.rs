@@ -4,7 +4,7 @@
 use proved_tokens::shim::prelude::GrowText;
 
 use crate::indent::choosing::IndentStyle;
-use crate::messages::Failure;
+use crate::messages::{Failure, is_option};
 
 /// The usage line.
 pub const USAGE: &str = "indent [--check] [--width N | --tabs] [FILE]";
@@ -40,7 +40,7 @@ pub fn options_of(words: &[String]) -> Result<Options, Failure> {
             "--width" => wants_width = true,
             "--tabs" => step = IndentStyle::Tab,
             "--check" => check = true,
-            _ if path.is_some() || is_unknown(word) => return Err(Failure::Usage(USAGE)),
+            _ if path.is_some() || is_option(word) => return Err(Failure::Usage(USAGE)),
             _ => path = Some(word),
         }
     }
@@ -57,9 +57,4 @@ fn width_of(word: &str) -> Result<u8, Failure> {
         Ok(width) => Ok(width),
         Err(_) => Err(Failure::Usage(USAGE)),
     }
-}
-
-/// Whether the word begins like an option, without being `-`.
-fn is_unknown(word: &str) -> bool {
-    word != "-" && word.starts_with('-')
 }

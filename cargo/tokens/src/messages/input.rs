@@ -42,6 +42,16 @@ pub fn path(words: &[String], usage: &'static str) -> Result<String, Failure>
     }
 }
 
+/// Whether the word is an option, known or not: whether it begins with `-` and is not `-` alone.
+pub fn is_option(word: &str) -> bool
+{
+    match word.as_bytes() {
+        [b'-'] => false,
+        [b'-', ..] => true,
+        _ => false,
+    }
+}
+
 /// Returns the text of the file at this path, or of standard input if the path is `-`.
 ///
 /// Fails with `Read` if the file can't be opened or read, with `NotUtf8` if it is not UTF-8, and with `Memory` if

@@ -3,7 +3,7 @@
 
 use proved_tokens::shim::prelude::{Grow, GrowText};
 
-use crate::messages::Failure;
+use crate::messages::{Failure, is_option};
 use proved_tokens::shim::alloc::AllocError;
 
 /// The usage line of the program.
@@ -60,16 +60,7 @@ fn word_of(word: &str) -> ArgumentKind
     match word {
         "--json" => ArgumentKind::Json,
         "--ctags" => ArgumentKind::Ctags,
-        _ => other_word(word),
-    }
-}
-
-/// The meaning of an argument that is no known option.
-fn other_word(word: &str) -> ArgumentKind
-{
-    match word.as_bytes() {
-        [b'-'] => ArgumentKind::Path,
-        [b'-', ..] => ArgumentKind::Unknown,
+        _ if is_option(word) => ArgumentKind::Unknown,
         _ => ArgumentKind::Path,
     }
 }

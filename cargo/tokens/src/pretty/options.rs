@@ -3,7 +3,7 @@
 
 use proved_tokens::shim::prelude::GrowText;
 
-use crate::messages::Failure;
+use crate::messages::{Failure, is_option};
 
 /// The usage line.
 pub const USAGE: &str = "pretty [--deny-comments] [FILE] (plain comments are lost)";
@@ -27,15 +27,10 @@ pub fn options_of(words: &[String]) -> Result<Options, Failure> {
         let word = word.as_str();
         match word {
             "--deny-comments" => deny = true,
-            _ if path.is_some() || is_unknown(word) => return Err(Failure::Usage(USAGE)),
+            _ if path.is_some() || is_option(word) => return Err(Failure::Usage(USAGE)),
             _ => path = Some(word),
         }
     }
     let path = String::from_str_fallibly(path.unwrap_or("-"))?;
     Ok(Options { deny, path })
-}
-
-/// Whether the word begins like an option, without being `-`.
-fn is_unknown(word: &str) -> bool {
-    word != "-" && word.starts_with('-')
 }

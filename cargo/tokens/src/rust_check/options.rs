@@ -3,7 +3,7 @@
 
 use proved_tokens::shim::prelude::{Grow, GrowText};
 
-use crate::messages::Failure;
+use crate::messages::{Failure, is_option};
 use proved_tokens::shim::alloc::AllocError;
 
 /// The usage line.
@@ -87,16 +87,7 @@ fn word_of(word: &str) -> ArgumentKind
         "--color=never" => ArgumentKind::Colour(false),
         "--help" => ArgumentKind::Help,
         "--version" => ArgumentKind::Version,
-        _ => other_word(word),
-    }
-}
-
-/// Returns what a word means that is none of the known options.
-fn other_word(word: &str) -> ArgumentKind
-{
-    match word.as_bytes() {
-        [b'-'] => ArgumentKind::Path,
-        [b'-', ..] => ArgumentKind::Unknown,
+        _ if is_option(word) => ArgumentKind::Unknown,
         _ => ArgumentKind::Path,
     }
 }
