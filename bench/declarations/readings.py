@@ -452,8 +452,11 @@ class Expected:
     def answer(self, part, signs):
         if part in LISTS:
             return self.elements(part, LISTS[part], signs)
+        # These calls look into a group without delimiters, which holds a word here.
+        if part in ("type_path", "entry") and signs == ("Invisible",):
+            signs = ("Word",)
         if part == "type_path":
-            return self.path(("Word",) if signs == ("Invisible",) else signs)
+            return self.path(signs)
         count, is_whole = self.front(part, signs)
         if not is_whole:
             return "fault %d" % trees(signs[:count])
