@@ -252,6 +252,28 @@ fn calls_for_lints_and_editors() -> Outcome {
     let text = "/* a /* b */ c";
     let error = explain(text)?.ok_or("it has no error")?;
     assert!(matches!(advice(text, &error)?, Some(Hint::Comments { depth: 1, closed: Some(_) })));
+    let mut map = SourceMap::new();
+    assert!(TokenStream::from_str(text, &mut map).is_err());
+    assert_eq!((error.at.span.start(&map).line, error.at.span.start(&map).column), (1, 0));
+
+    let literal = "\"a\\\r\n b\r\n\"".parse::<Literal>()?;
+    assert!(literal.str_value().is_err());
+    assert_eq!(literal.text().replace("\r\n", "\n").parse::<Literal>()?.str_value()?, "ab\n");
+    let stream = TokenStream::from_str("/// a\n#[doc = \" a\"] fn f(self::A(x): A) {}", &mut map)?;
+    let docs: Vec<_> = Attributes::new(stream.trees()).filter_map(|attribute| attribute.doc()).collect();
+    let texts: Vec<_> = docs.iter().map(|doc| (doc.text(), doc.span().source_str(&map))).collect();
+    assert_eq!(texts, [("\" a\"", Some("/// a")), ("\" a\"", Some("\" a\""))]);
+
+    let function = parse_function(stream.trees())?;
+    assert_eq!(Parameters::new(function.parameters).next().ok_or("no parameter")?.unwrap_err().at, 1);
+    let (receiver, rest) = parse_parameter(function.parameters.stream_ref().trees())?;
+    assert!(matches!(receiver.kind, ParameterKind::Receiver) && rest.len() == 6);
+    let text = "enum E { A = x as (u8) < 3, B = y as (u8) > (1), C }";
+    let stream: TokenStream = text.parse()?;
+    let Body::Enum(variants) = parse_type_item(stream.trees())?.body else { return Err("it is an enum".into()) };
+    let list = proved_tokens::items::VariantList::new(variants);
+    let names: Vec<_> = list.map(|variant| Ok(variant?.name.to_string())).collect::<Result<_, Box<dyn Error>>>()?;
+    assert_eq!(names, ["A", "C"]);
     Ok(())
 }
 
