@@ -28,13 +28,11 @@ use crate::quoting::{Quote, QuoteError, laws};
 impl<'a> Chooser for Printer<'a> {
     #[cfg_attr(not(debug_assertions), inline(always))]
     fn gap(&mut self, place: GapContext<'_>) -> Gap {
-        if place.after.is_none() {
-            return match place.before {
-                Some(_) => Gap::Line(0),
-                None => Gap::Nothing,
-            };
+        match (place.after, place.before) {
+            (Some(_), _) => self.next_gap(),
+            (None, Some(_)) => Gap::Line(0),
+            (None, None) => Gap::Nothing,
         }
-        self.next_gap()
     }
 }
 

@@ -23,6 +23,7 @@ pub enum Lexeme {
     Lifetime,
     /// A keyword that no rule mentions.
     Keyword,
+    As,
     Await,
     Else,
     Extern,
@@ -90,6 +91,8 @@ pub enum Role {
     Colon,
     Dot,
     Where,
+    /// The `for` before the type of an `impl`.
+    Target,
     /// The `|` that begins and ends a closure's parameters. `||` ends them.
     BarOpen,
     BarClose,
@@ -155,18 +158,10 @@ impl Atom {
     /// An atom with no role yet.
     #[inline(always)]
     pub fn new(kind: Kind, width: usize) -> Atom {
-        Atom {
-            width,
-            offset: 0,
-            tall_before: 0,
-            node: 0,
-            gap: Gap::Nothing,
-            kind,
-            role: Role::Plain,
-            glued: false,
-            tall: false,
-            ends: false,
-        }
+        let mut atom = NOTHING;
+        atom.kind = kind;
+        atom.width = width;
+        atom
     }
 
     /// The number of its tokens. A group counts as its opener.
@@ -234,16 +229,11 @@ impl Atom {
 
     /// Whether it is a word, but not a keyword.
     pub fn is_name(&self) -> bool {
-        matches!(
-            self.kind,
-            Kind::Lexeme(
-                Lexeme::Name
-                    | Lexeme::Fragment
-                    | Lexeme::Literal
-                    | Lexeme::String
-                    | Lexeme::Lifetime
-            )
-        )
+        match self.kind {
+            Kind::Lexeme(Lexeme::Name | Lexeme::Fragment | Lexeme::Literal) => true,
+            Kind::Lexeme(Lexeme::String | Lexeme::Lifetime) => true,
+            _ => false,
+        }
     }
 
     /// Whether an operator after it has two sides.
@@ -259,6 +249,7 @@ impl Atom {
 /// Returns what an identifier with this text is.
 pub fn word_of(text: &str) -> Lexeme {
     match text.as_bytes() {
+        b"as" => Lexeme::As,
         b"await" => Lexeme::Await,
         b"else" => Lexeme::Else,
         b"extern" => Lexeme::Extern,
@@ -277,7 +268,7 @@ pub fn word_of(text: &str) -> Lexeme {
         b"break" | b"return" | b"yield" => Lexeme::Return,
         b"where" => Lexeme::Where,
         b"while" => Lexeme::While,
-        b"as" | b"continue" | b"dyn" | b"ref" | b"type" | b"use" => Lexeme::Keyword,
+        b"continue" | b"dyn" | b"ref" | b"type" | b"use" => Lexeme::Keyword,
         b"block" | b"expr" | b"ident" | b"item" | b"lifetime" | b"literal" => Lexeme::Fragment,
         b"meta" | b"pat" | b"path" | b"stmt" | b"tt" | b"ty" | b"vis" => Lexeme::Fragment,
         _ => Lexeme::Name,

@@ -68,7 +68,7 @@ impl Tree {
         let most = if meta { usize::MAX } else { SHORT };
         let short = list && several && self.are_short(own.from, own.until, Role::Comma, most);
         match atom.role {
-            Role::Use if self.has(own.from, own.until, Role::Use) => LayStep::Names,
+            Role::Use if self.find_role(own.from, own.until, Role::Use) < own.until => LayStep::Names,
             role if role == Role::Use || short => LayStep::Fill,
             _ => LayStep::Part,
         }
@@ -101,17 +101,16 @@ impl Tree {
         }
         let fills = match task.step {
             // A path in imports with inner lists has its own line.
-            LayStep::Names => !self.has(last.first, part.end, Role::Path),
+            LayStep::Names => self.find_role(last.first, part.end, Role::Path) == part.end,
             step => step == LayStep::Fill,
         };
         if !first && fills && self.fits(part, 2) {
             self.lead(own, part.first);
         } else {
-            let blank = !first && self.parts_items(&last, part);
-            let indent = task.indent;
-            let line = Gap::Line(indent);
-            let gap = if blank { Gap::Blank(indent) } else { line };
-            self.break_line(part.first, gap, indent);
+            self.begin_line(part.first, task.indent);
+            if !first && self.parts_items(&last, part) {
+                self.set_gap(part.first, Gap::Blank(task.indent));
+            }
         }
         self.push(task.step, task, part.next, task.child);
         let comma = part.end < own.until && self.atom(part.end).ends_part();
@@ -127,17 +126,11 @@ impl Tree {
 
     /// Returns whether the part is an item.
     fn is_item(&self, part: &Node) -> bool {
-        let begins = matches!(
-            self.atom(part.first).kind,
-            Kind::Lexeme(
-                Lexeme::Pub
-                    | Lexeme::Fn
-                    | Lexeme::Impl
-                    | Lexeme::Item
-                    | Lexeme::Prefix
-                    | Lexeme::Keyword
-            )
-        );
+        let begins = match self.atom(part.first).kind {
+            Kind::Lexeme(Lexeme::Pub | Lexeme::Fn | Lexeme::Impl | Lexeme::Item) => true,
+            Kind::Lexeme(Lexeme::Prefix | Lexeme::Keyword) => true,
+            _ => false,
+        };
         begins && (self.atom(part.end).is_mark(';') || self.previous(part.end).is_brace())
     }
 
@@ -145,32 +138,54 @@ impl Tree {
     pub fn next_of_item(&mut self, task: &Task, own: &Node, child: &Node) {
         let atom = *self.atom(child.first);
         if child.form == Form::Bounds {
-            self.write(own, task.at, child.first);
-            if task.step == LayStep::Broken && self.is_shut {
-                // They go on after the parameters.
-                self.lead(own, child.first);
-            } else {
-                self.begin_line(child.first, task.indent);
-            }
-            self.put(child.first, child.from);
-            self.leave(LayStep::Apart, task, child);
-            return self.push_parts(LayStep::Part, task, task.child);
+            return self.next_bounds(task, own, child);
         }
         if child.first >= own.until {
             return self.next_body(task, own, child, &atom);
         }
-        let brace = self.atom(own.until).is_brace();
-        let tail = if brace { 3 } else { 1 };
-        if self.fit(task.at, own.until, tail) {
+        let after = self.atom(own.until);
+        let brace = after.is_brace() as usize;
+        let tail = brace.saturating_add((!after.is_full() && after.role != Role::Where) as usize);
+        let space = self.atom(task.at).is_spaced() as usize;
+        let fits = !child.must && self.fit(task.at, own.until, tail.saturating_add(space));
+        let next = *self.node(child.next);
+        // What an `impl` is for may be on the next line.
+        if fits || next.form == Form::Unread && self.fit(task.at, next.first, 0) {
             return self.push(task.step, task, child.next, task.at);
+        }
+        if child.form == Form::Unread {
+            self.write(own, task.at, child.first);
+            self.begin_line(child.first, deeper(task.indent));
+            self.put(child.first, child.end);
+            return self.leave(LayStep::Apart, task, child);
+        }
+        let result = atom.role != Role::Less && !atom.is_round();
+        if result && self.fit(task.at, own.until, space) {
+            // Only the brace is on the next line.
+            return self.push(LayStep::Apart, task, child.next, task.at);
         }
         self.reach(task, own, child, false);
         self.leave(LayStep::Broken, task, child);
-        if atom.role == Role::Params {
+        if atom.is_round() {
             return self.lay_lines(task, task.child);
         }
         let tail = self.tail_of(task, own, child);
         self.lay(task.child, task.indent, tail);
+    }
+
+    /// Writes the bounds after `where`.
+    fn next_bounds(&mut self, task: &Task, own: &Node, child: &Node) {
+        self.write(own, task.at, child.first);
+        if task.step == LayStep::Broken && self.is_shut {
+            // They go on after the parameters.
+            self.lead(own, child.first);
+        } else {
+            self.begin_line(child.first, task.indent);
+        }
+        self.put(child.first, child.from);
+        self.leave(LayStep::Apart, task, child);
+        self.read_short(task.child);
+        self.push_parts(LayStep::Part, task, task.child);
     }
 
     /// Writes the body of an item. An empty one after a head of several lines has two lines.

@@ -37,13 +37,11 @@ use std::alloc::Global;
 impl<'a> Chooser for Printer<'a> {
     #[inline(always)]
     fn gap(&mut self, place: GapContext<'_>) -> Gap {
-        if place.after.is_none() {
-            return match place.before {
-                Some(_) => Gap::Line(0),
-                None => Gap::Nothing,
-            };
+        match (place.after, place.before) {
+            (Some(_), _) => self.next_gap(),
+            (None, Some(_)) => Gap::Line(0),
+            (None, None) => Gap::Nothing,
         }
-        self.next_gap()
     }
 }
 

@@ -1,5 +1,5 @@
 //! Measures from the inside out: widths on one line, and what needs several lines. rustfmt's limits are here.
-use crate::atoms::{Atom, Lexeme, Role};
+use crate::atoms::{Atom, Kind, Lexeme, Role};
 use crate::parts::SHORT;
 use crate::tree::{Form, NO_HEAD, NOWHERE, Node, Tree};
 use layout::Gap;
@@ -12,6 +12,8 @@ const META: usize = 70;
 const BRANCHES: usize = 50;
 /// The largest width of the fields of a struct literal.
 const FIELDS: usize = 18;
+/// The largest width of the fields of a variant.
+const VARIANT: usize = 35;
 /// The width from which the name of a call is long: a chain as its only argument begins on the next line.
 const NAME: usize = 4;
 
@@ -42,6 +44,7 @@ impl Tree {
     fn head_of(&self, own: &Node, last: &Node) -> usize {
         let opener = match own.form {
             Form::Control => self.node(own.from),
+            Form::Operators => self.node(own.child),
             _ => last,
         };
         let first = self.atom(last.first);
@@ -54,6 +57,7 @@ impl Tree {
         let head = match own.form {
             Form::Leaf | Form::Plain | Form::Chain => last.head,
             Form::Closure if block => last.head,
+            Form::Operators if self.atom(opener.end).is_word(Lexeme::As) => opener.head,
             Form::Control if opener.form == Form::Group => 1,
             _ => NO_HEAD,
         };
@@ -82,7 +86,6 @@ impl Tree {
     pub fn measure_group(&mut self, group: usize) {
         let own = self.node(group);
         let (first, from, until) = (own.first, own.from, own.until);
-        let brace = self.atom(first).is_brace();
         if from >= until {
             return;
         }
@@ -90,11 +93,11 @@ impl Tree {
         let inner = self.width(from, until);
         // The parts of a short list are read when it is laid out on lines. Most short lists never are.
         if inner > SHORT || self.is_tall(from, until) {
-            self.read_parts(group, brace);
+            self.read_parts(group);
         }
         let own = self.node(group);
         let atom = self.atom(first);
-        let padded = brace && atom.role != Role::Use && !self.is_doubled(own);
+        let padded = atom.is_brace() && atom.role != Role::Use && !self.is_doubled(own);
         let gap = if padded { Gap::Space } else { Gap::Nothing };
         let must = self.needs_lines(own, atom, inner);
         let long = must || inner > SHORT;
@@ -126,12 +129,16 @@ impl Tree {
         let single = own.child == own.last;
         let loose = matches!(atom.role, Role::Repeated | Role::Attribute | Role::Meta)
             || previous.role == Role::Bang;
-        let forced = comma && !loose && !(atom.role == Role::Tuple && self.is_single(own));
+        let lone = self.part_end(own.from, own.until, false) >= own.until;
+        let forced = comma && !loose && !(atom.role == Role::Tuple && lone);
         let next = self.atom(own.end);
         let sign = next.role == Role::Arm || next.is_mark('=') || next.is_mark('|');
         let pattern = sign || next.is_word(Lexeme::If) || previous.is_word(Lexeme::Let);
         let index = !atom.is_round() && previous.is_value();
+        let before = self.atom(own.first.saturating_sub(2));
+        let variant = next.ends && (before.ends || matches!(before.kind, Kind::Nothing));
         let limit = match atom.role {
+            Role::Fields if variant => VARIANT,
             Role::Fields => FIELDS,
             Role::Meta if !single => META,
             Role::Plain | Role::Tuple if !(single || pattern || index) => CALL,
@@ -139,7 +146,7 @@ impl Tree {
         };
         own.must
             || atom.role == Role::Block
-            || atom.role == Role::Use && self.has(own.from, own.until, Role::Use)
+            || atom.role == Role::Use && self.find_role(own.from, own.until, Role::Use) < own.until
             || self.is_tall(own.from, own.until)
             || forced
             || inner.saturating_sub(comma as usize) > limit
@@ -166,19 +173,25 @@ impl Tree {
         let path = self.previous(own.first.saturating_sub(1)).role == Role::Path;
         let short = bang || name.is_name() && name.width < NAME && !path;
         let root = self.node(value.child);
-        let calls = root.must || self.node(root.next).next != NOWHERE;
-        let chain = value.form == Form::Chain && calls && short && atom.is_round();
+        let long = root.must || self.node(root.next).next != NOWHERE;
+        let parted = !several && short && atom.is_round();
+        let chain = value.form == Form::Chain && parted;
         // Parentheses in parentheses break their lines themselves.
         let round = value.form == Form::Group && self.atom(value.first).is_round();
-        if chain && !several || tuple && (value.head == NO_HEAD || round) {
+        let operators = value.form == Form::Operators && parted && !bang;
+        if chain && long || operators || tuple && (value.head == NO_HEAD || round) {
             return 0;
         }
-        let before = self.distance(own.from, value.first);
-        let width = before.saturating_add(value.head);
-        if width > CALL && !tuple {
-            NO_HEAD
-        } else {
-            width
+        let literal = value.form == Form::Leaf && value.must && !bang;
+        let head = match literal && parted {
+            true => self.atom(value.first).width,
+            false => value.head,
+        };
+        let width = self.distance(own.from, value.first).saturating_add(head);
+        match width <= CALL || tuple {
+            true => width,
+            false if chain => 0,
+            false => NO_HEAD,
         }
     }
 }

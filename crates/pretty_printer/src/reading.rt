@@ -39,11 +39,10 @@ pub fn push_list<'a>(
                 }
                 atom
             }
-            Some(TokenTree::Ident(ident)) if is_raw(ident) => {
-                Atom::new(Kind::Lexeme(Lexeme::Name), width_of(ident))
-            }
             Some(TokenTree::Ident(ident)) => {
-                Atom::new(Kind::Lexeme(word_of(name_of(ident))), width_of(ident))
+                let raw = is_raw(ident);
+                let word = if raw { Lexeme::Name } else { word_of(name_of(ident)) };
+                Atom::new(Kind::Lexeme(word), width_of(ident))
             }
             Some(TokenTree::Literal(literal)) => literal_atom(literal.text()),
             Some(TokenTree::Punct(punct)) => mark_atom(punct.as_char(), trees, index),
@@ -71,11 +70,8 @@ fn has_statements(trees: &[TokenTree]) -> bool {
 
 /// Returns the atom of a literal with this text. It needs several lines if its text has several.
 fn literal_atom(text: &str) -> Atom {
-    let word = if text.starts_with("\"") {
-        Lexeme::String
-    } else {
-        Lexeme::Literal
-    };
+    let quoted = text.starts_with("\"");
+    let word = if quoted { Lexeme::String } else { Lexeme::Literal };
     let (line, tall) = match text.split_once('\n') {
         Some((line, _)) => (line, true),
         None => (text, false),
@@ -88,10 +84,9 @@ fn literal_atom(text: &str) -> Atom {
 /// Returns the number of characters of a text.
 fn char_count(text: &str) -> usize {
     // Most texts are ASCII, where each byte is a character.
-    if text.is_ascii() {
-        text.len()
-    } else {
-        text.chars().count()
+    match text.is_ascii() {
+        true => text.len(),
+        false => text.chars().count(),
     }
 }
 

@@ -4,6 +4,7 @@
 use crate::shim::prelude::Grow;
 
 use crate::pretty_printer::atoms::{Atom, Kind, Lexeme, Role, Sign};
+use crate::pretty_printer::parts::SHORT;
 use crate::pretty_printer::roles::awaits_operand;
 use crate::pretty_printer::tree::{Form, NOWHERE, Tree};
 
@@ -11,12 +12,11 @@ use crate::pretty_printer::tree::{Form, NOWHERE, Tree};
 const ARM: usize = 0;
 /// Of closures, control flow and `return`.
 const WEAKEST: usize = 1;
-
 const ASSIGN: usize = 2;
-
 const RANGE: usize = 3;
-
 const AND: usize = 5;
+/// Of `as`.
+const CAST: usize = 13;
 /// Of what is before its only operand.
 const BEFORE: usize = 14;
 
@@ -27,20 +27,21 @@ impl Tree {
         self.reader.controls = 0;
         self.reader.operand = NOWHERE;
         self.reader.chain = NOWHERE;
-        let mut depth: usize = 0;
-        for index in first..end {
-            let own = *self.atom(index);
-            match own.role {
-                Role::Less => depth = depth.saturating_add(1),
-                Role::Greater => depth = depth.saturating_sub(1),
-                _ => {}
+        // A label, or the name of a field, is before what is read.
+        let named = self.next(first).role == Role::Colon;
+        let mut at = if named { first.saturating_add(2) } else { first };
+        for _ in first..end {
+            if at >= end {
+                break;
             }
-            if depth > 0 || own.role == Role::Greater {
-                self.go_on(index, &own);
-            } else if self.reader.operand == NOWHERE {
-                self.begin(index, &own);
-            } else {
-                self.take_next(index, &own);
+            let own = *self.atom(at);
+            let from = at;
+            at = if own.role == Role::Less { own.node } else { at }.saturating_add(1);
+            match own.role {
+                Role::Less => self.take_angles(from, at.min(end)),
+                Role::Greater => self.go_on(from, &own),
+                _ if self.reader.operand == NOWHERE => self.begin(from, &own),
+                _ => self.take_next(from, &own),
             }
         }
         self.reduce(ARM, end);
@@ -65,17 +66,25 @@ impl Tree {
         }
     }
 
+    /// Adds angles around types to the operand, or begins an operand with them. Long ones may need several lines.
+    fn take_angles(&mut self, first: usize, end: usize) {
+        let own = *self.atom(first);
+        self.go_on(first, &own);
+        if self.width(first, end) > SHORT || self.is_tall(first, end) {
+            let angles = self.push_list_node(Form::Group, first, end);
+            self.append(self.reader.operand, angles);
+        }
+    }
+
     /// Begins an operand, or a node that takes one.
     fn begin(&mut self, index: usize, own: &Atom) {
         let previous = *self.previous(index);
         let next = *self.next(index);
         let closure = next.role == Role::BarOpen || next.role == Role::BarClose;
         let opens = own.role == Role::BarOpen || own.role == Role::BarClose && !own.is_mark('|');
-        // It is the rest of an operator such as `>>`, the `|` after `move`, or a label.
+        // It is the rest of an operator such as `>>`, or the `|` after `move`.
         let passed = own.role == Role::Between && previous.glued
-            || opens && previous.is_word(Lexeme::Prefix)
-            || own.role == Role::Colon && previous.is_word(Lexeme::Lifetime)
-            || own.is_word(Lexeme::Lifetime) && next.role == Role::Colon;
+            || opens && previous.is_word(Lexeme::Prefix);
         match own.kind {
             _ if passed => {}
             Kind::Sign(_) => match own.role {
@@ -116,10 +125,7 @@ impl Tree {
 
     /// Returns the last open node and its strength.
     fn top(&self) -> (usize, usize) {
-        match self.reader.opens.last() {
-            Some(top) => *top,
-            None => (NOWHERE, ARM),
-        }
+        self.reader.opens.last().copied().unwrap_or((NOWHERE, ARM))
     }
 
     /// Returns whether the last open node may take a block.
@@ -145,7 +151,7 @@ impl Tree {
                 return self.take_dot(index);
             }
             Kind::Sign(_) if own.role == Role::BarClose => return self.attach(ASSIGN, index),
-            Kind::Sign(_) if strength > WEAKEST => return self.take_operator(index, strength),
+            _ if strength > WEAKEST => return self.take_operator(index, strength),
             _ => {}
         }
         self.go_on(index, own);
@@ -267,7 +273,7 @@ impl Tree {
             let pushed = self.reader.opens.push_fallibly((node, kept));
             return self.check(pushed);
         }
-        if own.form == Form::Operators && own_strength == strength {
+        if own.form == Form::Operators && own_strength == strength && strength != CAST {
             return self.attach(BEFORE, index);
         }
         if strength != ASSIGN {
@@ -289,6 +295,7 @@ impl Tree {
 fn strength_of(own: &Atom, previous: &Atom, next: &Atom) -> usize {
     match own.kind {
         _ if own.role == Role::Range => RANGE,
+        Kind::Lexeme(Lexeme::As) => CAST,
         _ if own.role != Role::Between || previous.glued && previous.is_sign() => WEAKEST,
         Kind::Sign(Sign::Assign) => ASSIGN,
         Kind::Sign(Sign::Or) => 4,

@@ -196,7 +196,7 @@ impl Tree {
     pub fn reach(&mut self, task: &Task, own: &Node, child: &Node, line: bool) {
         self.write(own, task.at, child.first);
         if line {
-            self.break_line(child.first, Gap::Line(task.indent), task.indent);
+            self.begin_line(child.first, task.indent);
         } else {
             self.lead(own, child.first);
         }
@@ -210,17 +210,12 @@ impl Tree {
         }
     }
 
-    /// Begins a line at this column before an atom.
+    /// Begins a line at this column before an atom, unless the atom touches the one before it.
     pub fn begin_line(&mut self, index: usize, column: usize) {
-        self.break_line(index, Gap::Line(column), column);
-    }
-
-    /// Begins a line by this gap before an atom, unless the atom touches the one before it.
-    pub fn break_line(&mut self, index: usize, gap: Gap, column: usize) {
         if self.previous(index).glued {
             return;
         }
-        self.set_gap(index, gap);
+        self.set_gap(index, Gap::Line(column));
         self.column = column;
         self.is_fresh = true;
         self.is_shut = false;

@@ -2,49 +2,43 @@
 //! Reads the parts of lists: statements, items, arms, fields and arguments.
 
 use crate::pretty_printer::atoms::{Kind, Lexeme, Role};
-use crate::pretty_printer::tree::{Form, NOWHERE, Node, Tree};
+use crate::pretty_printer::tree::{Form, NOWHERE, Tree};
 
 /// The width in characters up to which a part is not read, because no rule breaks its line.
 pub const SHORT: usize = 50;
 
 impl Tree {
-    /// Reads the parts of a list, which is placed, as children of its node.
-    pub fn read_parts(&mut self, list: usize, block: bool) {
-        let own = *self.node(list);
-        let mut start = own.from;
-        for _ in own.from..own.until {
-            if start >= own.until {
+    /// Adds the parts in `from..until` to the children of a list. The long ones are read if `read`: the atoms are placed.
+    pub fn add_parts(&mut self, list: usize, from: usize, until: usize, block: bool, read: bool) {
+        let mut start = from;
+        for _ in from..until {
+            if start >= until {
                 break;
             }
-            let past = self.part_end(start, own.until, block);
-            let end = self.without_mark(past);
-            let long = self.is_tall(start, end) || self.width(start, end) > SHORT;
-            let part = if long {
-                self.read_part(start, end, block)
-            } else {
-                self.push_node(Form::Unread, start, end)
+            let past = self.part_end(start, until, block);
+            let end = past.saturating_sub(self.previous(past).ends_part() as usize);
+            let long = read && (self.is_tall(start, end) || self.width(start, end) > SHORT);
+            let part = match long {
+                true => self.read_part(start, end, block),
+                false => self.push_node(Form::Unread, start, end),
             };
             self.append(list, part);
             start = past;
         }
     }
 
-    /// Returns the end of a part without its comma or semicolon. The part ends at this index.
-    pub fn without_mark(&self, end: usize) -> usize {
-        end.saturating_sub(self.previous(end).ends_part() as usize)
+    /// Reads the parts of a group, which is placed.
+    pub fn read_parts(&mut self, group: usize) {
+        let own = *self.node(group);
+        let block = self.atom(own.first).is_brace();
+        self.add_parts(group, own.from, own.until, block, true);
     }
 
     /// Reads the parts of a group, unless they are read already.
     pub fn read_short(&mut self, group: usize) {
-        let own = *self.node(group);
-        if own.child == NOWHERE {
-            self.read_parts(group, self.atom(own.first).is_brace());
+        if self.node(group).child == NOWHERE {
+            self.read_parts(group);
         }
-    }
-
-    /// Returns whether a list that is not in braces has one part.
-    pub fn is_single(&self, list: &Node) -> bool {
-        self.part_end(list.from, list.until, false) >= list.until
     }
 
     /// Reads a part, unless it is read already.
@@ -62,20 +56,22 @@ impl Tree {
 
     /// Returns the index after the part that begins here. It ends with a comma outside of angles, and in braces where a
     /// statement, an item or an arm ends.
-    fn part_end(&self, first: usize, end: usize, block: bool) -> usize {
-        let mut depth: usize = 0;
-        for index in first..end {
-            let own = self.atom(index);
+    pub fn part_end(&self, first: usize, end: usize, block: bool) -> usize {
+        let mut bars = false;
+        let mut at = first;
+        for _ in first..end {
+            let own = self.atom(at);
             match own.role {
                 _ if block => {}
-                Role::Less | Role::BarOpen => depth = depth.saturating_add(1),
-                Role::Greater => depth = depth.saturating_sub(1),
-                Role::BarClose if own.is_mark('|') => depth = depth.saturating_sub(1),
+                Role::Less => at = own.node,
+                Role::BarOpen => bars = true,
+                Role::BarClose => bars = false,
                 _ => {}
             }
-            let comma = depth == 0 && own.role == Role::Comma && !own.glued;
-            if comma && !block || own.ends {
-                return index.saturating_add(1);
+            at = at.saturating_add(1);
+            let comma = !bars && own.role == Role::Comma && !own.glued;
+            if at >= end || comma && !block || own.ends {
+                return at.min(end);
             }
         }
         end
@@ -115,16 +111,19 @@ impl Tree {
             self.append(node, generics);
             from = past;
         }
-        if self.atom(from).role == Role::Params {
+        if self.atom(from).is_round() {
             self.append(node, self.atom(from).node);
+            from = from.saturating_add(1);
         }
+        let rest = self.read_rest(from, head, impls);
+        self.append(node, rest);
         if head < stop {
             let bounds = self.push_list_node(Form::Bounds, head, stop);
             // Only one bound of an `impl` without items may be on the line of its head.
-            let lone = impls && last.is_brace() && !last.is_full();
-            let comma = self.previous(stop).ends_part();
+            let single = self.part_end(head, stop, false) >= stop;
+            let lone = impls && last.is_brace() && !last.is_full() && single;
             if let Some(own) = self.nodes.get_mut(bounds) {
-                own.must = own.must || !lone || own.child != own.last || comma;
+                own.must = own.must || !lone;
             }
             self.append(node, bounds);
         }
@@ -138,30 +137,28 @@ impl Tree {
         node
     }
 
-    /// Adds a list that is not a group: the bounds after `where`, or the parameters in angles.
-    fn push_list_node(&mut self, form: Form, first: usize, end: usize) -> usize {
+    /// Reads the rest of an item's head: the result of a function if it is long, and of an `impl` what is from `for` on.
+    fn read_rest(&mut self, from: usize, head: usize, impls: bool) -> usize {
+        let target = self.find_role(from, head, Role::Target);
+        match impls {
+            true if target < head => self.push_node(Form::Unread, target, head),
+            true => self.push_node(Form::Unread, from, head),
+            false if self.width(from, head) <= SHORT => NOWHERE,
+            false => self.read_expression(from.saturating_add(1), head),
+        }
+    }
+
+    /// Adds a list that is not a group, whose parts are read when it is laid out: the bounds after `where`, or the parameters in angles.
+    pub fn push_list_node(&mut self, form: Form, first: usize, end: usize) -> usize {
         let node = self.push_node(form, first, end);
         let angles = (form == Form::Group) as usize;
         let until = end.saturating_sub(angles);
+        let must = self.previous(until).ends_part() || self.is_tall(first, until);
         if let Some(own) = self.nodes.get_mut(node) {
+            own.must = must;
             own.from = first.saturating_add(1);
             own.until = until;
         }
-        self.push_unread(node, first.saturating_add(1), until, false);
         node
-    }
-
-    /// Adds parts that are not read to the children of a list.
-    pub fn push_unread(&mut self, list: usize, from: usize, until: usize, block: bool) {
-        let mut start = from;
-        for _ in from..until {
-            if start >= until {
-                break;
-            }
-            let past = self.part_end(start, until, block);
-            let part = self.push_node(Form::Unread, start, self.without_mark(past));
-            self.append(list, part);
-            start = past;
-        }
     }
 }

@@ -40,7 +40,7 @@ impl<'a> Printer<'a> {
         let end = tree.atoms.len().saturating_sub(1);
         assign_roles(&mut tree, first, end, true, Role::Block);
         let part = tree.nodes.len();
-        tree.push_unread(NOWHERE, first, end, true);
+        tree.add_parts(NOWHERE, first, end, true, false);
         Ok(Printer {
             nodes: tree.nodes.len(),
             tree,
@@ -128,23 +128,20 @@ impl<'a> Printer<'a> {
         self.tree.nodes.truncate(self.nodes);
         self.groups.truncate(top);
         for next in self.next_group..top {
-            let Some(group) = self.groups.get(next) else {
-                break;
-            };
-            let group = *group;
-            if self.tree.node(group.node).first >= end {
-                break;
+            match self.groups.get(next).copied() {
+                Some(group) if self.tree.node(group.node).first < end => {
+                    let pushed = self.groups.push_fallibly(group);
+                    self.tree.check(pushed);
+                    self.next_group = next.saturating_add(1);
+                }
+                _ => break,
             }
-            let pushed = self.groups.push_fallibly(group);
-            self.tree.check(pushed);
-            self.next_group = next.saturating_add(1);
         }
         for next in top..usize::MAX {
-            let Some(group) = self.groups.get(next) else {
-                break;
-            };
-            let group = *group;
-            self.read_group(group);
+            match self.groups.get(next).copied() {
+                Some(group) => self.read_group(group),
+                None => break,
+            }
         }
         // Groups are before the groups inside them, and are measured after them.
         for _ in top..self.groups.len() {
@@ -162,13 +159,11 @@ impl<'a> Printer<'a> {
             tree.failure = Some(error);
         }
         let end = tree.atoms.len().saturating_sub(1);
-        let own = tree.atom(tree.node(group.node).first);
-        let block = own.is_brace();
-        let role = own.role;
+        let own = *tree.atom(tree.node(group.node).first);
         if let Some(node) = tree.nodes.get_mut(group.node) {
             node.from = first;
             node.until = end;
         }
-        assign_roles(tree, first, end, block, role);
+        assign_roles(tree, first, end, own.is_brace(), own.role);
     }
 }

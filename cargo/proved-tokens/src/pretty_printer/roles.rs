@@ -74,6 +74,9 @@ impl State {
                 } else if word == Lexeme::Where && is_item(self.head) {
                     role = Role::Where;
                 }
+                if word == Lexeme::For && self.head == Head::Impl && self.depth == 0 {
+                    role = Role::Target;
+                }
             }
             Kind::Group(_) => role = self.group_role(tree, index, own),
             Kind::Sign(sign) => {
@@ -145,10 +148,8 @@ impl State {
         if bounds || inner {
             return;
         }
-        let after_sign = previous.is_sign()
-            && previous.role != Role::Greater
-            && previous.role != Role::Semicolon;
-        let is_value = after_sign
+        let ended = matches!(previous.role, Role::Greater | Role::Semicolon);
+        let is_value = previous.is_sign() && !ended
             || matches!(previous.kind, Kind::Nothing) && self.start == NOWHERE
             || previous.is_word(Lexeme::Return);
         let after_else = previous.is_word(Lexeme::Else);
@@ -169,11 +170,8 @@ impl State {
             // It is an argument of a type.
             return Role::Expression;
         }
-        let goes_on = next.is_mark('=')
-            || next.is_mark('|')
-            || next.is_mark(':')
-            || next.is_word(Lexeme::In)
-            || awaits_operand(previous);
+        let sign = matches!(next.kind, Kind::Sign(Sign::One('=' | '|' | ':')));
+        let goes_on = sign || next.is_word(Lexeme::In) || awaits_operand(previous);
         if self.head == Head::Nothing || !is_item(self.head) && goes_on {
             return self.value_role(own, previous);
         }
@@ -199,20 +197,14 @@ impl State {
     /// Returns the role of a group that is not in braces.
     fn list_role(&self, own: &Atom, previous: &Atom, earlier: &Atom) -> Role {
         let named = previous.is_any_word() && earlier.is_word(Lexeme::Fn);
-        if previous.is_mark('$') {
-            Role::Repeated
-        } else if !own.is_round() && previous.role == Role::Hash {
-            Role::Attribute
-        } else if !own.is_round() {
-            Role::Plain
-        } else if self.head == Head::Fn && (named || previous.role == Role::Greater) {
-            Role::Params
-        } else if matches!(self.inside, Role::Attribute | Role::Meta) {
-            Role::Meta
-        } else if previous.is_value() || previous.role == Role::Bang {
-            Role::Plain
-        } else {
-            Role::Tuple
+        match own.is_round() {
+            _ if previous.is_mark('$') => Role::Repeated,
+            false if previous.role == Role::Hash => Role::Attribute,
+            false => Role::Plain,
+            _ if self.head == Head::Fn && (named || previous.role == Role::Greater) => Role::Params,
+            _ if matches!(self.inside, Role::Attribute | Role::Meta) => Role::Meta,
+            _ if previous.is_value() || previous.role == Role::Bang => Role::Plain,
+            _ => Role::Tuple,
         }
     }
 }
@@ -228,10 +220,8 @@ fn head_of(word: Lexeme) -> Option<Head> {
         Lexeme::Fn => Some(Head::Fn),
         Lexeme::Impl => Some(Head::Impl),
         Lexeme::Item | Lexeme::Extern => Some(Head::Item),
-        Lexeme::For | Lexeme::While | Lexeme::Loop | Lexeme::Match | Lexeme::If => Some(
-            Head::Other,
-        ),
-        Lexeme::Else => Some(Head::Other),
+        Lexeme::For | Lexeme::While | Lexeme::Loop => Some(Head::Other),
+        Lexeme::Match | Lexeme::If | Lexeme::Else => Some(Head::Other),
         _ => None,
     }
 }

@@ -60,8 +60,10 @@ impl Tree {
 
     /// Writes the next operand, with its operator at the beginning of a line. Lines of patterns are not deeper.
     pub fn next_operand(&mut self, task: &Task, own: &Node, child: &Node) {
-        let fills = task.step == LayStep::Fill
-            && self.fit(task.at, child.end, ARM.saturating_add(1));
+        let cast = self.atom(task.at).is_word(Lexeme::As);
+        let tail = if cast { task.tail } else { ARM };
+        let fills = (cast || task.step == LayStep::Fill)
+            && self.fit(task.at, child.end, tail.saturating_add(1));
         let pattern = matches!(task.step, LayStep::Line | LayStep::Fill);
         let below = deeper(task.indent);
         let inner = if pattern { task.indent } else { below };
@@ -93,26 +95,28 @@ impl Tree {
         self.lead(own, child.first);
         let tail = self.tail_of(task, own, child);
         let fits = self.fits(child, tail);
-        self.leave(
-            if fits { LayStep::Next } else { LayStep::Broken },
-            task,
-            child,
-        );
+        let step = if fits { LayStep::Next } else { LayStep::Broken };
+        self.leave(step, task, child);
         if gives_up {
             return self.lay_lines(task, task.child);
         }
-        // The right side of `=` may fit on the next line. Closures and blocks stay.
-        let closure = child.form == Form::Closure && child.head != NO_HEAD;
-        let stays = closure || self.atom(child.first).is_word(Lexeme::Prefix) || child.must || fits;
+        // The right side of `=`, or its first line, may fit only on the next line. Closures and blocks stay.
         let equals = before.role == Role::Between && child.first > own.first;
         let below = deeper(task.indent);
-        let width = self.width(child.first, child.end).saturating_add(tail);
-        let fits_below = below < self.column && below.saturating_add(width) <= WIDTH;
-        if equals && !stays && fits_below {
+        let block = child.form == Form::Closure || self.atom(child.first).is_word(Lexeme::Prefix);
+        let stays = child.must || block && child.head != NO_HEAD;
+        let opens = self.column.saturating_add(child.head) <= WIDTH;
+        let width = match stays {
+            true => NO_HEAD,
+            false => self.width(child.first, child.end).saturating_add(tail),
+        };
+        let needed = if opens { width } else { width.min(child.head) };
+        let room = below < self.column && below.saturating_add(needed) <= WIDTH;
+        let moves = equals && !fits && room;
+        if moves {
             self.begin_line(child.first, below);
-            return self.lay(task.child, below, tail);
         }
-        self.lay(task.child, task.indent, tail);
+        self.lay(task.child, if moves { below } else { task.indent }, tail);
     }
 
     /// Writes the next condition or block of an `if`, a `match` or a loop.
@@ -121,11 +125,8 @@ impl Tree {
         let line = block && task.step == LayStep::Broken && !self.is_shut;
         self.reach(task, own, child, line);
         let flat = block || self.fits(child, 2);
-        self.leave(
-            if flat { LayStep::Next } else { LayStep::Broken },
-            task,
-            child,
-        );
+        let step = if flat { LayStep::Next } else { LayStep::Broken };
+        self.leave(step, task, child);
         if block {
             return self.lay_lines(task, task.child);
         }

@@ -40,10 +40,9 @@ pub fn pair_angles(tree: &mut Tree, index: usize, end: usize) {
 /// Returns whether no type goes on with the atom after this one.
 fn ends_types(atom: &Atom, previous: &Atom) -> bool {
     match atom.kind {
-        Kind::Lexeme(word) => matches!(
-            word,
-            Lexeme::String | Lexeme::If | Lexeme::Let | Lexeme::Match | Lexeme::Else
-        ),
+        Kind::Lexeme(Lexeme::String) => !previous.is_word(Lexeme::Extern),
+        Kind::Lexeme(Lexeme::If | Lexeme::Let | Lexeme::Match | Lexeme::Else) => true,
+        Kind::Lexeme(_) => false,
         // Braces may be an argument, as in `f::<{ N }>()`.
         Kind::Group(_) => {
             atom.is_brace() && !matches!(previous.kind, Kind::Sign(Sign::One('<' | ',' | '=')))
@@ -102,12 +101,10 @@ impl State {
     /// Returns the role of `|` or `||`.
     fn bar_role(&mut self, mark: char, value: bool) -> Role {
         let closes = mark == '|' && self.in_bars;
-        let found = if closes || !value && mark != '|' {
-            Role::BarClose
-        } else if value {
-            Role::Between
-        } else {
-            Role::BarOpen
+        let found = match value {
+            _ if closes || !value && mark != '|' => Role::BarClose,
+            true => Role::Between,
+            false => Role::BarOpen,
         };
         self.in_bars = found == Role::BarOpen;
         found
@@ -117,15 +114,12 @@ impl State {
 /// Returns the role of `!`.
 fn bang_role(previous: &Atom, next: &Atom, value: bool) -> Role {
     let called = previous.is_any_word() && value && !next.is_sign();
-    if previous.is_mark('#') {
-        Role::Hash
-    } else if called || previous.is_word(Lexeme::MacroRules) {
-        Role::Bang
-    } else if matches!(previous.kind, Kind::Sign(Sign::Arrow)) {
+    match previous.kind {
+        _ if previous.is_mark('#') => Role::Hash,
+        _ if called || previous.is_word(Lexeme::MacroRules) => Role::Bang,
         // It is a type.
-        Role::Plain
-    } else {
-        Role::Before
+        Kind::Sign(Sign::Arrow) => Role::Plain,
+        _ => Role::Before,
     }
 }
 

@@ -135,10 +135,7 @@ impl Tree {
 
     /// Returns the atom at this index.
     pub fn atom(&self, index: usize) -> &Atom {
-        match self.atoms.get(index) {
-            Some(atom) => atom,
-            None => &NOTHING,
-        }
+        self.atoms.get(index).unwrap_or(&NOTHING)
     }
 
     /// Returns the atom before this index.
@@ -153,10 +150,7 @@ impl Tree {
 
     /// Returns the node at this index.
     pub fn node(&self, index: usize) -> &Node {
-        match self.nodes.get(index) {
-            Some(node) => node,
-            None => &NO_NODE,
-        }
+        self.nodes.get(index).unwrap_or(&NO_NODE)
     }
 
     /// Keeps the error of an allocation that failed.
@@ -175,10 +169,9 @@ impl Tree {
         node.end = end;
         let pushed = self.nodes.push_fallibly(node);
         self.check(pushed);
-        if self.failure.is_none() {
-            index
-        } else {
-            NOWHERE
+        match self.failure {
+            Some(_) => NOWHERE,
+            None => index,
         }
     }
 
@@ -188,9 +181,8 @@ impl Tree {
             return;
         }
         let must = self.node(child).must;
-        let mut last = NOWHERE;
+        let last = self.node(node).last;
         if let Some(own) = self.nodes.get_mut(node) {
-            last = own.last;
             own.last = child;
             own.must = own.must || must;
             if last == NOWHERE {
@@ -223,25 +215,16 @@ impl Tree {
 
     /// Returns the number of characters that the atoms in `from..end` take on one line.
     pub fn width(&self, from: usize, end: usize) -> usize {
-        if end <= from {
-            return 0;
+        match end > from {
+            true => self.distance(from, end - 1).saturating_add(self.previous(end).width),
+            false => 0,
         }
-        self.distance(from, end - 1)
-            .saturating_add(self.atom(end - 1).width)
     }
 
     /// Returns whether an atom in `from..end` needs several lines.
     pub fn is_tall(&self, from: usize, end: usize) -> bool {
-        if end <= from {
-            return false;
-        }
-        let last = self.atom(end - 1);
-        last.tall || last.tall_before > self.atom(from).tall_before
-    }
-
-    /// Returns whether an atom in `from..end` has this role.
-    pub fn has(&self, from: usize, end: usize, role: Role) -> bool {
-        self.find_role(from, end, role) < end
+        let last = self.previous(end);
+        end > from && (last.tall || last.tall_before > self.atom(from).tall_before)
     }
 
     /// Returns the index of the first atom in `from..end` with this role, or `end`.
