@@ -8,8 +8,11 @@ use crate::tree::{Form, NOWHERE, Tree};
 const ARM: usize = 0;
 /// Of closures, control flow and `return`.
 const WEAKEST: usize = 1;
+
 const ASSIGN: usize = 2;
+
 const RANGE: usize = 3;
+
 const AND: usize = 5;
 /// Of `as`.
 const CAST: usize = 13;
@@ -25,7 +28,11 @@ impl Tree {
         self.reader.chain = NOWHERE;
         // A label, or the name of a field, is before what is read.
         let named = self.next(first).role == Role::Colon;
-        let mut at = if named { first.saturating_add(2) } else { first };
+        let mut at = if named {
+            first.saturating_add(2)
+        } else {
+            first
+        };
         for _ in first..end {
             if at >= end {
                 break;
@@ -77,6 +84,7 @@ impl Tree {
         let previous = *self.previous(index);
         let next = *self.next(index);
         let closure = next.role == Role::BarOpen || next.role == Role::BarClose;
+        let awaits = self.node(self.top().0).form == Form::Control;
         let opens = own.role == Role::BarOpen || own.role == Role::BarClose && !own.is_mark('|');
         // It is the rest of an operator such as `>>`, or the `|` after `move`.
         let passed = own.role == Role::Between && previous.glued
@@ -103,7 +111,7 @@ impl Tree {
                 Lexeme::Prefix => self.open(Form::Plain, index, BEFORE),
                 _ => self.go_on(index, own),
             },
-            _ if own.is_body() && self.awaits_block() && !awaits_operand(&previous) => {
+            _ if awaits && own.is_body() && !awaits_operand(&previous) => {
                 self.take_block(index, own);
             }
             _ => self.go_on(index, own),
@@ -124,13 +132,11 @@ impl Tree {
         self.reader.opens.last().copied().unwrap_or((NOWHERE, ARM))
     }
 
-    /// Returns whether the last open node may take a block.
-    fn awaits_block(&self) -> bool {
-        self.node(self.top().0).form == Form::Control
-    }
-
     /// Takes the atom after an operand.
     fn take_next(&mut self, index: usize, own: &Atom) {
+        if own.is_name() || own.role == Role::Path {
+            return self.go_on(index, own);
+        }
         let previous = *self.previous(index);
         let strength = strength_of(own, &previous, self.next(index));
         let bang = previous.role == Role::Bang;
@@ -238,7 +244,7 @@ impl Tree {
     /// Takes the block of the last `if`, `match` or loop, which ends unless `else` follows.
     fn take_block(&mut self, index: usize, own: &Atom) {
         for _ in 0..self.reader.opens.len() {
-            if self.awaits_block() {
+            if self.node(self.top().0).form == Form::Control {
                 break;
             }
             self.reduce_one(index);

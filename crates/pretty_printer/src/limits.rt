@@ -10,9 +10,9 @@ pub const CALL: usize = 60;
 const META: usize = 70;
 /// The largest width of an `if` whose value is used, and of a `let` with `else`.
 const BRANCHES: usize = 50;
-/// The largest width of the fields of a struct literal.
+/// The largest widths of the fields of a struct literal, and of a variant.
 const FIELDS: usize = 18;
-/// The largest width of the fields of a variant.
+
 const VARIANT: usize = 35;
 /// The width from which the name of a call is long: a chain as its only argument begins on the next line.
 const NAME: usize = 4;
@@ -21,10 +21,9 @@ impl Tree {
     /// Ends a node before `end`, and measures it.
     pub fn finish(&mut self, index: usize, end: usize) {
         let own = self.node(index);
-        let branch = self.previous(end).role == Role::Branch;
         let limit = match own.form {
             Form::Chain if self.node(own.child).next != own.last => CALL,
-            Form::Control | Form::Let if branch => BRANCHES,
+            Form::Control | Form::Let if self.previous(end).role == Role::Branch => BRANCHES,
             _ => usize::MAX,
         };
         let wide = self.width(own.first, end) > limit;
@@ -125,12 +124,16 @@ impl Tree {
     /// Returns whether a group needs several lines. `inner` is the width of its list. The parts of a long one are read.
     fn needs_lines(&self, own: &Node, atom: &Atom, inner: usize) -> bool {
         let comma = self.previous(own.until).is_mark(',');
+        let tall = own.must || atom.role == Role::Block || self.is_tall(own.from, own.until);
+        if tall || inner <= FIELDS && !comma && atom.role != Role::Use {
+            return tall;
+        }
         let previous = self.previous(own.first);
         let single = own.child == own.last;
         let loose = matches!(atom.role, Role::Repeated | Role::Attribute | Role::Meta)
             || previous.role == Role::Bang;
-        let lone = self.part_end(own.from, own.until, false) >= own.until;
-        let forced = comma && !loose && !(atom.role == Role::Tuple && lone);
+        let tuple = comma && atom.role == Role::Tuple;
+        let lone = tuple && self.part_end(own.from, own.until, false) >= own.until;
         let next = self.atom(own.end);
         let sign = next.role == Role::Arm || next.is_mark('=') || next.is_mark('|');
         let pattern = sign || next.is_word(Lexeme::If) || previous.is_word(Lexeme::Let);
@@ -144,11 +147,8 @@ impl Tree {
             Role::Plain | Role::Tuple if !(single || pattern || index) => CALL,
             _ => usize::MAX,
         };
-        own.must
-            || atom.role == Role::Block
-            || atom.role == Role::Use && self.find_role(own.from, own.until, Role::Use) < own.until
-            || self.is_tall(own.from, own.until)
-            || forced
+        atom.role == Role::Use && self.find_role(own.from, own.until, Role::Use) < own.until
+            || comma && !loose && !lone
             || inner.saturating_sub(comma as usize) > limit
     }
 
@@ -182,8 +182,7 @@ impl Tree {
         if chain && long || operators || tuple && (value.head == NO_HEAD || round) {
             return 0;
         }
-        let literal = value.form == Form::Leaf && value.must && !bang;
-        let head = match literal && parted {
+        let head = match value.form == Form::Leaf && value.must && parted && !bang {
             true => self.atom(value.first).width,
             false => value.head,
         };

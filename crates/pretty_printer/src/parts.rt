@@ -6,7 +6,7 @@ use crate::tree::{Form, NOWHERE, Tree};
 pub const SHORT: usize = 50;
 
 impl Tree {
-    /// Adds the parts in `from..until` to the children of a list. The long ones are read if `read`: the atoms are placed.
+    /// Adds the parts in `from..until` to the children of a list. If `read`, it is placed, and long parts are read.
     pub fn add_parts(&mut self, list: usize, from: usize, until: usize, block: bool, read: bool) {
         let mut start = from;
         for _ in from..until {
@@ -59,17 +59,16 @@ impl Tree {
         let mut at = first;
         for _ in first..end {
             let own = self.atom(at);
+            at = at.saturating_add(1);
             match own.role {
+                _ if own.ends || at >= end => return at,
                 _ if block => {}
-                Role::Less => at = own.node,
+                Role::Comma if !bars && !own.glued => return at,
+                Role::Less if own.node.saturating_add(1) >= end => return end,
+                Role::Less => at = own.node.saturating_add(1),
                 Role::BarOpen => bars = true,
                 Role::BarClose => bars = false,
                 _ => {}
-            }
-            at = at.saturating_add(1);
-            let comma = !bars && own.role == Role::Comma && !own.glued;
-            if at >= end || comma && !block || own.ends {
-                return at.min(end);
             }
         }
         end
@@ -113,8 +112,10 @@ impl Tree {
             self.append(node, self.atom(from).node);
             from = from.saturating_add(1);
         }
-        let rest = self.read_rest(from, head, impls);
-        self.append(node, rest);
+        if !impls && self.width(from, head) > SHORT {
+            let result = self.read_expression(from.saturating_add(1), head);
+            self.append(node, result);
+        }
         if head < stop {
             let bounds = self.push_list_node(Form::Bounds, head, stop);
             // Only one bound of an `impl` without items may be on the line of its head.
@@ -135,18 +136,7 @@ impl Tree {
         node
     }
 
-    /// Reads the rest of an item's head: the result of a function if it is long, and of an `impl` what is from `for` on.
-    fn read_rest(&mut self, from: usize, head: usize, impls: bool) -> usize {
-        let target = self.find_role(from, head, Role::Target);
-        match impls {
-            true if target < head => self.push_node(Form::Unread, target, head),
-            true => self.push_node(Form::Unread, from, head),
-            false if self.width(from, head) <= SHORT => NOWHERE,
-            false => self.read_expression(from.saturating_add(1), head),
-        }
-    }
-
-    /// Adds a list that is not a group, whose parts are read when it is laid out: the bounds after `where`, or the parameters in angles.
+    /// Adds a list that is not a group: the bounds after `where`, or angles. Its parts are read when it is laid out.
     pub fn push_list_node(&mut self, form: Form, first: usize, end: usize) -> usize {
         let node = self.push_node(form, first, end);
         let angles = (form == Form::Group) as usize;

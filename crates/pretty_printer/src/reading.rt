@@ -39,10 +39,11 @@ pub fn push_list<'a>(
                 }
                 atom
             }
+            Some(TokenTree::Ident(ident)) if is_raw(ident) => {
+                Atom::new(Kind::Lexeme(Lexeme::Name), width_of(ident))
+            }
             Some(TokenTree::Ident(ident)) => {
-                let raw = is_raw(ident);
-                let word = if raw { Lexeme::Name } else { word_of(name_of(ident)) };
-                Atom::new(Kind::Lexeme(word), width_of(ident))
+                Atom::new(Kind::Lexeme(word_of(name_of(ident))), width_of(ident))
             }
             Some(TokenTree::Literal(literal)) => literal_atom(literal.text()),
             Some(TokenTree::Punct(punct)) => mark_atom(punct.as_char(), trees, index),
@@ -70,8 +71,10 @@ fn has_statements(trees: &[TokenTree]) -> bool {
 
 /// Returns the atom of a literal with this text. It needs several lines if its text has several.
 fn literal_atom(text: &str) -> Atom {
-    let quoted = text.starts_with("\"");
-    let word = if quoted { Lexeme::String } else { Lexeme::Literal };
+    let word = match text.starts_with("\"") {
+        true => Lexeme::String,
+        false => Lexeme::Literal,
+    };
     let (line, tall) = match text.split_once('\n') {
         Some((line, _)) => (line, true),
         None => (text, false),
@@ -91,6 +94,7 @@ fn char_count(text: &str) -> usize {
 }
 
 /// Returns the number of characters of an identifier.
+#[inline(always)]
 fn width_of(ident: &Ident) -> usize {
     let front: usize = if is_raw(ident) { 2 } else { 0 };
     char_count(name_of(ident)).saturating_add(front)

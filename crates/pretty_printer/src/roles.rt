@@ -72,9 +72,6 @@ impl State {
                 } else if word == Lexeme::Where && is_item(self.head) {
                     role = Role::Where;
                 }
-                if word == Lexeme::For && self.head == Head::Impl && self.depth == 0 {
-                    role = Role::Target;
-                }
             }
             Kind::Group(_) => role = self.group_role(tree, index, own),
             Kind::Sign(sign) => {
@@ -146,13 +143,14 @@ impl State {
         if bounds || inner {
             return;
         }
-        let ended = matches!(previous.role, Role::Greater | Role::Semicolon);
-        let is_value = previous.is_sign() && !ended
+        let after_sign = previous.is_sign()
+            && previous.role != Role::Greater
+            && previous.role != Role::Semicolon;
+        let is_value = after_sign
             || matches!(previous.kind, Kind::Nothing) && self.start == NOWHERE
             || previous.is_word(Lexeme::Return);
-        let after_else = previous.is_word(Lexeme::Else);
         self.head = match word {
-            Lexeme::If if after_else => self.last,
+            Lexeme::If if previous.is_word(Lexeme::Else) => self.last,
             Lexeme::If if is_value => Head::Branch,
             Lexeme::Else if self.last == Head::Branch || !previous.is_brace() => Head::Branch,
             _ => head,

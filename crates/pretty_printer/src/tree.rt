@@ -213,10 +213,11 @@ impl Tree {
 
     /// Returns the number of characters that the atoms in `from..end` take on one line.
     pub fn width(&self, from: usize, end: usize) -> usize {
-        match end > from {
-            true => self.distance(from, end - 1).saturating_add(self.previous(end).width),
-            false => 0,
+        if end <= from {
+            return 0;
         }
+        self.distance(from, end - 1)
+            .saturating_add(self.atom(end - 1).width)
     }
 
     /// Returns whether an atom in `from..end` needs several lines.

@@ -93,8 +93,6 @@ pub enum Role {
     Colon,
     Dot,
     Where,
-    /// The `for` before the type of an `impl`.
-    Target,
     /// The `|` that begins and ends a closure's parameters. `||` ends them.
     BarOpen,
     BarClose,
@@ -160,10 +158,18 @@ impl Atom {
     /// An atom with no role yet.
     #[cfg_attr(not(debug_assertions), inline(always))]
     pub fn new(kind: Kind, width: usize) -> Atom {
-        let mut atom = NOTHING;
-        atom.kind = kind;
-        atom.width = width;
-        atom
+        Atom {
+            width,
+            offset: 0,
+            tall_before: 0,
+            node: 0,
+            gap: Gap::Nothing,
+            kind,
+            role: Role::Plain,
+            glued: false,
+            tall: false,
+            ends: false,
+        }
     }
 
     /// The number of its tokens. A group counts as its opener.

@@ -70,7 +70,8 @@ impl Tree {
         let most = if meta { usize::MAX } else { SHORT };
         let short = list && several && self.are_short(own.from, own.until, Role::Comma, most);
         match atom.role {
-            Role::Use if self.find_role(own.from, own.until, Role::Use) < own.until => LayStep::Names,
+            Role::Use if self.find_role(own.from, own.until, Role::Use) < own.until =>
+                LayStep::Names,
             role if role == Role::Use || short => LayStep::Fill,
             _ => LayStep::Part,
         }
@@ -122,8 +123,11 @@ impl Tree {
     /// Returns whether an empty line is between two parts: between two items, if one of them has several lines or the
     /// second has an attribute.
     pub fn parts_items(&self, last: &Node, next: &Node) -> bool {
+        if !self.is_item(last) {
+            return false;
+        }
         let tall = self.is_tall(last.first, last.end) || self.is_tall(next.first, next.end);
-        self.is_item(last) && (self.atom(next.first).is_mark('#') || tall && self.is_item(next))
+        self.atom(next.first).is_mark('#') || tall && self.is_item(next)
     }
 
     /// Returns whether the part is an item.
@@ -146,20 +150,11 @@ impl Tree {
             return self.next_body(task, own, child, &atom);
         }
         let after = self.atom(own.until);
-        let brace = after.is_brace() as usize;
+        let brace: usize = if after.is_brace() { 2 } else { 0 };
         let tail = brace.saturating_add((!after.is_full() && after.role != Role::Where) as usize);
-        let space = self.atom(task.at).is_spaced() as usize;
-        let fits = !child.must && self.fit(task.at, own.until, tail.saturating_add(space));
-        let next = *self.node(child.next);
-        // What an `impl` is for may be on the next line.
-        if fits || next.form == Form::Unread && self.fit(task.at, next.first, 0) {
+        let space = (task.at > own.first && self.atom(task.at).is_spaced()) as usize;
+        if !child.must && self.fit(task.at, own.until, tail.saturating_add(space)) {
             return self.push(task.step, task, child.next, task.at);
-        }
-        if child.form == Form::Unread {
-            self.write(own, task.at, child.first);
-            self.begin_line(child.first, deeper(task.indent));
-            self.put(child.first, child.end);
-            return self.leave(LayStep::Apart, task, child);
         }
         let result = atom.role != Role::Less && !atom.is_round();
         if result && self.fit(task.at, own.until, space) {
@@ -178,11 +173,10 @@ impl Tree {
     /// Writes the bounds after `where`.
     fn next_bounds(&mut self, task: &Task, own: &Node, child: &Node) {
         self.write(own, task.at, child.first);
-        if task.step == LayStep::Broken && self.is_shut {
+        match task.step == LayStep::Broken && self.is_shut {
             // They go on after the parameters.
-            self.lead(own, child.first);
-        } else {
-            self.begin_line(child.first, task.indent);
+            true => self.lead(own, child.first),
+            false => self.begin_line(child.first, task.indent),
         }
         self.put(child.first, child.from);
         self.leave(LayStep::Apart, task, child);

@@ -71,10 +71,9 @@ impl Tree {
         if child.first == own.first {
             return self.lay(task.child, task.indent, task.tail);
         }
-        if fills {
-            self.lead(own, task.at);
-        } else {
-            self.begin_line(task.at, inner);
+        match fills {
+            true => self.lead(own, task.at),
+            false => self.begin_line(task.at, inner),
         }
         self.put(task.at, child.first);
         self.lead(own, child.first);
@@ -111,8 +110,7 @@ impl Tree {
             false => self.width(child.first, child.end).saturating_add(tail),
         };
         let needed = if opens { width } else { width.min(child.head) };
-        let room = below < self.column && below.saturating_add(needed) <= WIDTH;
-        let moves = equals && !fits && room;
+        let moves = equals && !fits && below < self.column && below.saturating_add(needed) <= WIDTH;
         if moves {
             self.begin_line(child.first, below);
         }
