@@ -2,8 +2,8 @@
 use proved_macros::expand;
 use proved_macros::proved_tokens::error::CompileError;
 use proved_macros::proved_tokens::items::{
-    impl_generics, parse_type_item, type_generics, where_clause, AttributeArgs, Attributes, Body, Entries, EntryKind,
-    Field, FieldList, Fields,
+    impl_generics, parse_type_item, parse_type_path, type_generics, where_clause, AttributeArgs, Attributes, Body,
+    Entries, EntryKind, Field, FieldList, Fields, PathArguments, TypePath,
 };
 use proved_macros::proved_tokens::{format_ident, quote, TokenStream, TokenTree};
 
@@ -68,6 +68,8 @@ struct Options {
     name: Option<TokenStream>,
 }
 
+const WANTED: &str = "`default` or `name = ..` is wanted";
+
 /// Returns the options of a field, or the error of the first entry that is not one.
 fn options(field: &Field) -> Result<Options, CompileError> {
     let mut options = Options::default();
@@ -85,21 +87,18 @@ fn options(field: &Field) -> Result<Options, CompileError> {
                 EntryKind::Value(value @ [TokenTree::Ident(_)]) if entry.is("name") => {
                     options.name = Some(value.into())
                 }
-                _ => return Err(CompileError::new_spanned(entry.path, "`default` or `name = ..` is wanted")),
+                EntryKind::Literal(trees) => return Err(CompileError::new_spanned(trees, WANTED)),
+                _ => return Err(CompileError::new_spanned(entry.path, WANTED)),
             }
         }
     }
     Ok(options)
 }
 
-/// Returns the type inside `Option<..>`, if the type is written so.
+/// Returns the type inside `Option<..>`, if the type is written so, also after a path such as `std::option::`.
 fn inside_option(kind: &[TokenTree]) -> Option<&[TokenTree]> {
-    match kind {
-        [TokenTree::Ident(name), TokenTree::Punct(open), inside @ .., TokenTree::Punct(_)]
-            if *name == "Option" && open.as_char() == '<' =>
-        {
-            Some(inside)
-        }
+    match parse_type_path(kind).ok()? {
+        TypePath { name, arguments: PathArguments::AngleBracketed(inside), .. } if *name == "Option" => Some(inside),
         _ => None,
     }
 }

@@ -16,7 +16,7 @@ where
     retries: u8,
     r#type: [u8; N],
     #[builder(default = Some("x".to_string()))]
-    agent: Option<String>,
+    agent: ::std::option::Option<String>,
 }
 
 #[test]
