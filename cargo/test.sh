@@ -321,7 +321,7 @@ if has proc-macro2-1 && has unicode-ident-1; then
     }
     try "the example of a derive over the bridge and the public crate" in_copy examples/names test --offline --quiet
     try "its errors stand at its user's tokens" \
-        told examples/names "a variant has a name alone" 7:10 "a name is a literal" 12:6
+        told examples/names "a variant has a name alone" 7:10 "a name is a literal" 12:6 "a name is a literal" 18:14
     try "the example of an attribute over the bridge" in_copy examples/traced test --offline --quiet
     wanted="only a function with a body is traced"
     try "its errors stand at its user's tokens" told examples/traced "$wanted" 5:1 "$wanted" 9:5

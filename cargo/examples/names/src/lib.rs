@@ -3,10 +3,10 @@
 use proved_macros::expand;
 use proved_macros::proved_tokens::error::CompileError;
 use proved_macros::proved_tokens::items::{
-    impl_generics, parse_type_item, type_generics, where_clause, AttributeArgs, Attributes, Body, Fields, Variant,
-    VariantList,
+    bare_trees, impl_generics, parse_type_item, type_generics, where_clause, AttributeArgs, Attributes, Body, Fields,
+    Variant, VariantList,
 };
-use proved_macros::proved_tokens::{quote, Delimiter, Literal, TokenStream, TokenTree};
+use proved_macros::proved_tokens::{quote, Literal, TokenStream, TokenTree};
 
 /// Gives an enum the function `name`, which answers the name of a value's variant, or the text of its attribute
 /// `#[name = "text"]`. No variant has fields.
@@ -47,16 +47,11 @@ fn text(variant: &Variant) -> Result<Literal, CompileError> {
     let Some(attribute) = Attributes::new(variant.attributes).find(|attribute| attribute.is("name")) else {
         return Ok(Literal::from(variant.name.to_string().as_str()));
     };
-    let text = if let AttributeArgs::Value(value) = attribute.args() { literal(value) } else { None };
-    let wanted = "a name is a literal, as in `#[name = \"red\"]`";
-    text.cloned().ok_or_else(|| CompileError::new(attribute.group.span(), wanted))
-}
-
-/// The literal that these trees are, perhaps in groups without delimiters, as a macro by example passes it on.
-fn literal(trees: &[TokenTree]) -> Option<&Literal> {
-    match trees {
-        [TokenTree::Literal(text)] => Some(text),
-        [TokenTree::Group(group)] if group.delimiter() == Delimiter::None => literal(group.stream_ref().trees()),
-        _ => None,
+    let AttributeArgs::Value(value) = attribute.args() else {
+        return Err(CompileError::new(attribute.group.span(), "a name is a literal, as in `#[name = \"red\"]`"));
+    };
+    match bare_trees(value) {
+        [TokenTree::Literal(text)] => Ok(text.clone()),
+        _ => Err(CompileError::new_spanned(value, "a name is a literal")),
     }
 }

@@ -4,13 +4,14 @@ use names::Names;
 pub struct Sizes<const A: usize, const B: usize>;
 
 macro_rules! shape {
-    ($name:ident, $t:ty, $e:expr, $m:meta, $v:vis, $p:path, $l:literal, $n:meta, $b:block) => {
+    ($name:ident, $t:ty, $e:expr, $m:meta, $v:vis, $p:path, $l:literal, $n:meta, $b:block, $lt:lifetime) => {
         #[derive(Names)]
         #[$m]
         $v enum $name<const N: $t = $b>
         where
             [$t; N]: $p,
             Sizes<$b, N>: $p,
+            for<$lt> &$lt $t: $p,
         {
             #[$m]
             First = $e,
@@ -23,8 +24,8 @@ macro_rules! shape {
 }
 
 macro_rules! twice_shape {
-    ($name:ident, $t:ty, $e:expr, $m:meta, $v:vis, $p:path, $l:literal, $n:meta, $b:block) => {
-        shape!($name, $t, $e, $m, $v, $p, $l, $n, $b);
+    ($name:ident, $t:ty, $e:expr, $m:meta, $v:vis, $p:path, $l:literal, $n:meta, $b:block, $lt:lifetime) => {
+        shape!($name, $t, $e, $m, $v, $p, $l, $n, $b, $lt);
     };
 }
 
@@ -36,12 +37,25 @@ macro_rules! item {
     };
 }
 
-shape!(Once, usize, 1 + 1, allow(dead_code), pub(crate), Sized, "second", name = "third", { 1 + 1 });
-twice_shape!(Twice, usize, 1 + 1, allow(dead_code), pub, ::core::marker::Sized, "second", name = "third", { 1 + 3 });
+macro_rules! twice_item {
+    ($i:item) => {
+        item! { $i }
+    };
+}
+
+shape!(Once, usize, 1 + 1, allow(dead_code), pub(crate), Sized, "second", name = "third", { 1 + 1 }, 'a);
+twice_shape!(
+    Twice, usize, 1 + 1, allow(dead_code), pub, ::core::marker::Sized, "second", name = "third", { 1 + 3 }, 'b
+);
 item! {
     #[allow(dead_code)]
     pub enum Whole {
         #[name = "w"]
+        First,
+    }
+}
+twice_item! {
+    pub(crate) enum TwiceWhole {
         First,
     }
 }
@@ -53,5 +67,5 @@ fn fragments_are_taken_over() {
     assert_eq!([Twice::<3>::First, Twice::Second, Twice::Third].map(|value| value.name()), names);
     let (once, twice): (Once, Twice) = (Once::First, Twice::Second);
     assert_eq!((once.name(), twice.name()), ("First", "second"));
-    assert_eq!(Whole::First.name(), "w");
+    assert_eq!((Whole::First.name(), TwiceWhole::First.name()), ("w", "First"));
 }

@@ -1,4 +1,4 @@
-//! A variant with fields, and one whose name is no literal: the errors are told there.
+//! A variant with fields, and two whose names are no literals: the errors are shown there.
 use names::Names;
 
 #[derive(Names)]
@@ -11,4 +11,10 @@ enum Color {
 enum Shape {
     #[name(square)]
     Square,
+}
+
+#[derive(Names)]
+enum Size {
+    #[name = small]
+    Small,
 }
