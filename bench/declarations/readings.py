@@ -167,7 +167,7 @@ def match(pattern, value, bound):
 
 
 TURNS = {"Stay": 0, "Open": 1, "Close": -1}
-WORDS = "Auto Default Safe Union".split()
+WORDS = "Auto Default Gen Safe Union".split()
 KEYWORDS = ("Async Const Dyn Enum Extern Fn For Impl Macro Mod Mut Pub Static Struct Trait Type Unsafe Use "
             "Where").split()
 
@@ -315,6 +315,9 @@ PARTS = [
         "Hash Brackets Pub Restriction Visibility Invisible Struct Word Semicolon",
         "Const Async Unsafe Safe Extern Literal Fn Word Parentheses Semicolon",
         "Default Const Safe Fn Word Colon Equals Semicolon",
+        "Default Const Async Gen Unsafe Safe Extern Fn Word Parentheses Semicolon",
+        "Const Gen Safe Fn Word Colon Less Greater Equals Semicolon",
+        "Gen Exclamation PathSeparator Fn Static Word Braces Parentheses Pub",
         "Fn Word Less Greater Parentheses Arrow Where Braces Semicolon",
         "Const Static Mut Word Underscore Colon Equals Semicolon Less Greater",
         "Type Word Colon Equals Semicolon Where Plus Comma",
@@ -340,6 +343,7 @@ PROVED = [
     ("function_item", "Functions.function_item", [
         "Hash Brackets Pub Restriction Visibility Fn Word Parentheses Semicolon",
         "Default Const Async Unsafe Safe Extern Literal Fn Word Parentheses Braces",
+        "Pub Default Const Async Gen Unsafe Safe Extern Fn Word Parentheses Braces",
         "Fn Word Less Greater Parentheses Restriction Arrow Where Colon Semicolon",
         "Fn Word Parentheses Arrow Where Colon Plus Block Braces"]),
     ("impl_item", "ImplItems.impl_item", [

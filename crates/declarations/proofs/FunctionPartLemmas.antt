@@ -125,14 +125,15 @@ abi_ends trees e = perhaps_stays rule.abi trees (heads_none rule.abi trees e)
 
 pub ruleset options = (may_find, may_stay, may_end, abi_finds, abi_stays, abi_ends)
 
-pub qualifiers_find : (trees a b c d rest : List TokenTree) → Finds (perhaps (one (signs.Word words.Default))) trees a
+pub qualifiers_find : (trees a b c d e rest : List TokenTree) → Finds (perhaps (one (signs.Word words.Default))) trees a
     → Finds (perhaps (key keywords.Const)) a b → Finds (perhaps (key keywords.Async)) b c
-    → Finds (perhaps (Sign is_safe)) c d → Finds (perhaps rule.abi) d rest
+    → Finds (perhaps (one (signs.Word words.Gen))) c d → Finds (perhaps (Sign is_safe)) d e
+    → Finds (perhaps rule.abi) e rest
     → Finds rule.qualifiers trees rest
-qualifiers_find trees a b c d rest default const async safe abi =
+qualifiers_find trees a b c d e rest default const async gen safe abi =
     then_finds _ _ trees a rest default
     (then_finds _ _ a b rest const
-    (then_finds _ _ b c rest async (then_finds _ _ c d rest safe abi)))
+    (then_finds _ _ b c rest async (then_finds _ _ c d rest gen (then_finds _ _ d e rest safe abi))))
 
 -- ---- trees that are one sign
 

@@ -413,6 +413,15 @@ is_word_here words.Default = record {
   no_name = refl;
   is_there = refl;
 }
+is_word_here words.Gen = record {
+  no_end = refl;
+  no_hash = refl;
+  no_lifetime = refl;
+  no_const = refl;
+  no_attributes = refl;
+  no_name = refl;
+  is_there = refl;
+}
 is_word_here words.Safe = record {
   no_end = refl;
   no_hash = refl;
@@ -471,6 +480,7 @@ closed_none cs =
 no_parameter : (w : Word) → begins_parameter (signs.Word w) ≡ false
 no_parameter words.Auto = refl
 no_parameter words.Default = refl
+no_parameter words.Gen = refl
 no_parameter words.Safe = refl
 no_parameter words.Union = refl
 no_parameter words.Plain = refl

@@ -49,6 +49,7 @@ item_keyword _ = None
 abbrev pub item_word : Word → Option Shift
 item_word words.Auto = to_front items.Trait fronts.Auto
 item_word words.Default = to_front items.Function fronts.Default
+item_word words.Gen = to_front items.Function fronts.Gen
 item_word words.Safe = to_front items.Function fronts.Safe
 item_word words.Union = to_spot items.Union spots.Name
 item_word words.Plain = None
@@ -86,6 +87,7 @@ default_front (signs.Keyword keywords.Const) = to_front items.Constant fronts.Co
 default_front (signs.Keyword keywords.Impl) = to_front items.Impl fronts.Impl
 default_front (signs.Keyword keywords.Type) = to_spot items.Alias spots.Name
 default_front (signs.Keyword keywords.Unsafe) = to_front items.Function fronts.DefaultUnsafe
+default_front (signs.Word words.Gen) = to_front items.Function fronts.Gen
 default_front (signs.Word words.Safe) = to_front items.Function fronts.Qualified
 default_front class = before_fn class
 
@@ -97,16 +99,22 @@ abbrev pub safe_front : SignClass → Option Shift
 safe_front (signs.Keyword keywords.Static) = to_front items.Static fronts.Static
 safe_front class = before_fn class
 
-abbrev pub async_front : SignClass → Option Shift
-async_front (signs.Keyword keywords.Unsafe) = to_front items.Function fronts.Qualified
-async_front (signs.Word words.Safe) = to_front items.Function fronts.Qualified
-async_front class = before_fn class
+-- the step after the `gen` of a function, or after its `async` if it has no `gen`
+abbrev pub gen_front : SignClass → Option Shift
+gen_front (signs.Keyword keywords.Unsafe) = to_front items.Function fronts.Qualified
+gen_front (signs.Word words.Safe) = to_front items.Function fronts.Qualified
+gen_front class = before_fn class
 
--- the step after `const`. A `safe` may be the constant's name, or belong to a function
+abbrev pub async_front : SignClass → Option Shift
+async_front (signs.Word words.Gen) = to_front items.Function fronts.Gen
+async_front class = gen_front class
+
+-- the step after `const`. A `safe` or a `gen` may be the constant's name, or belong to a function
 abbrev pub const_front : SignClass → Option Shift
 const_front (signs.Keyword keywords.Async) = to_front items.Function fronts.Async
 const_front (signs.Keyword keywords.Unsafe) = to_front items.Function fronts.Qualified
 const_front (signs.Word words.Safe) = to_front items.Constant fronts.ConstSafe
+const_front (signs.Word words.Gen) = to_front items.Constant fronts.ConstGen
 const_front (signs.Word _) = to_spot items.Constant spots.Generics
 const_front signs.Underscore = to_spot items.Constant spots.Generics
 const_front class = before_fn class
@@ -114,6 +122,11 @@ const_front class = before_fn class
 abbrev pub const_safe : SignClass → Option Shift
 const_safe (signs.Keyword keyword) = before_fn (signs.Keyword keyword)
 const_safe class = generics items.Constant class
+
+abbrev pub const_gen : SignClass → Option Shift
+const_gen (signs.Keyword keyword) = gen_front (signs.Keyword keyword)
+const_gen (signs.Word word) = gen_front (signs.Word word)
+const_gen class = generics items.Constant class
 
 -- the step after `extern` and its ABI, if it has one
 abbrev pub extern_abi : SignClass → Option Shift
@@ -157,6 +170,7 @@ call_word word signs.Exclamation = to_front items.Call fronts.CallName
 call_word word signs.PathSeparator = to_front items.Call fronts.CallPath
 call_word words.Auto class = auto_front class
 call_word words.Default class = default_front class
+call_word words.Gen class = gen_front class
 call_word words.Safe class = safe_front class
 call_word words.Union (signs.Word _) = to_spot items.Union spots.Generics
 call_word _ _ = None
@@ -270,9 +284,11 @@ front_step item fronts.Default class = default_front class
 front_step item fronts.DefaultUnsafe class = default_unsafe class
 front_step item fronts.Safe class = safe_front class
 front_step item fronts.Async class = async_front class
+front_step item fronts.Gen class = gen_front class
 front_step item fronts.Qualified class = before_fn class
 front_step item fronts.Const class = const_front class
 front_step item fronts.ConstSafe class = const_safe class
+front_step item fronts.ConstGen class = const_gen class
 front_step item fronts.Extern class = extern_front class
 front_step item fronts.UnsafeExtern class = unsafe_extern class
 front_step item fronts.ExternAbi class = extern_abi class

@@ -111,8 +111,9 @@ abbrev pub word_of : Name → Word
 word_of ident =
     if is_written ident (codes "auto") then words.Auto
     else (if is_written ident (codes "default") then words.Default
+    else (if is_written ident (codes "gen") then words.Gen
     else (if is_written ident (codes "safe") then words.Safe
-    else (if is_written ident (codes "union") then words.Union else words.Plain)))
+    else (if is_written ident (codes "union") then words.Union else words.Plain))))
 
 abbrev pub or_else : {A : Type 0} → Option A → Option A → Option A
 or_else None other = other

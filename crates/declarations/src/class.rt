@@ -9,6 +9,8 @@ pub enum Word {
     Auto,
     /// `default`
     Default,
+    /// `gen`
+    Gen,
     /// `safe`
     Safe,
     /// `union`
@@ -227,5 +229,6 @@ pub(crate) fn code(class: SignClass) -> u8
         SignClass::Infix => 64,
         SignClass::Mark => 65,
         SignClass::Block => 66,
+        SignClass::Word(Word::Gen) => 67,
     }
 }

@@ -87,3 +87,63 @@ fn an_item_has_a_kind_and_a_name(rt: HostRuntime) -> Result<(), Fail> {
         ],
     )
 }
+
+#[test]
+fn gen_is_a_qualifier_of_functions(rt: HostRuntime) -> Result<(), Fail> {
+    check(
+        &rt,
+        &[
+            ("gen fn f() {} x", 5, ItemKind::Function, "f"),
+            ("pub gen fn f() {} x", 6, ItemKind::Function, "f"),
+            ("async gen fn f() {}", 6, ItemKind::Function, "f"),
+            ("const gen fn f() {}", 6, ItemKind::Function, "f"),
+            ("const async gen fn f();", 7, ItemKind::Function, "f"),
+            ("gen unsafe fn f() {}", 6, ItemKind::Function, "f"),
+            ("pub gen safe fn f();", 7, ItemKind::Function, "f"),
+            ("const gen safe fn f();", 7, ItemKind::Function, "f"),
+            ("gen extern fn f() {}", 6, ItemKind::Function, "f"),
+            (
+                "const gen unsafe extern \"C\" fn f() {}",
+                9,
+                ItemKind::Function,
+                "f",
+            ),
+            ("default gen fn f() {}", 6, ItemKind::Function, "f"),
+            (
+                "default const async gen unsafe extern fn f() {} x",
+                10,
+                ItemKind::Function,
+                "f",
+            ),
+            ("gen fn gen() {}", 5, ItemKind::Function, "gen"),
+        ],
+    )
+}
+
+#[test]
+fn gen_is_a_name_where_no_function_follows(rt: HostRuntime) -> Result<(), Fail> {
+    check(
+        &rt,
+        &[
+            ("gen!(); x", 4, ItemKind::MacroCall, ""),
+            ("gen::f!{} x", 6, ItemKind::MacroCall, ""),
+            ("a::gen!{}", 6, ItemKind::MacroCall, ""),
+            ("r#gen!{}", 3, ItemKind::MacroCall, ""),
+            ("macro_rules! gen {}", 4, ItemKind::MacroCall, "gen"),
+            ("fn gen() {}", 4, ItemKind::Function, "gen"),
+            ("const gen: u8 = 1; x", 7, ItemKind::Constant, "gen"),
+            ("const gen<T>: u8 = 1;", 10, ItemKind::Constant, "gen"),
+            ("default const gen: gen;", 6, ItemKind::Constant, "gen"),
+            ("const r#gen: u8 = 1;", 7, ItemKind::Constant, "r#gen"),
+            ("static gen: gen = gen;", 7, ItemKind::Static, "gen"),
+            ("type gen<gen> = gen;", 8, ItemKind::TypeAlias, "gen"),
+            ("struct gen(gen);", 4, ItemKind::Struct, "gen"),
+            ("union gen { gen: gen }", 3, ItemKind::Union, "gen"),
+            ("trait gen: gen {}", 5, ItemKind::Trait, "gen"),
+            ("impl<gen> gen for gen<gen> {}", 11, ItemKind::Impl, ""),
+            ("mod gen;", 3, ItemKind::Module, "gen"),
+            ("use gen::gen as gen;", 8, ItemKind::Use, ""),
+            ("extern crate gen;", 4, ItemKind::ExternCrate, "gen"),
+        ],
+    )
+}

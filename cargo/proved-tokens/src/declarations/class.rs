@@ -8,6 +8,8 @@ pub enum Word {
     Auto,
     /// `default`
     Default,
+    /// `gen`
+    Gen,
     /// `safe`
     Safe,
     /// `union`
@@ -225,5 +227,6 @@ pub(crate) fn code(class: SignClass) -> u8
         SignClass::Infix => 64,
         SignClass::Mark => 65,
         SignClass::Block => 66,
+        SignClass::Word(Word::Gen) => 67,
     }
 }

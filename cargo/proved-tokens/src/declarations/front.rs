@@ -47,6 +47,7 @@ fn item_word(word: Word) -> Option<Shift>
     match word {
         Word::Auto => to_front(Item::Trait, Front::Auto),
         Word::Default => to_front(Item::Function, Front::Default),
+        Word::Gen => to_front(Item::Function, Front::Gen),
         Word::Safe => to_front(Item::Function, Front::Safe),
         Word::Union => to_spot(Item::Union, Spot::Name),
         Word::Plain => None,
@@ -105,6 +106,7 @@ fn default_front(class: SignClass) -> Option<Shift>
         SignClass::Keyword(Keyword::Impl) => to_front(Item::Impl, Front::Impl),
         SignClass::Keyword(Keyword::Type) => to_spot(Item::Alias, Spot::Name),
         SignClass::Keyword(Keyword::Unsafe) => to_front(Item::Function, Front::DefaultUnsafe),
+        SignClass::Word(Word::Gen) => to_front(Item::Function, Front::Gen),
         SignClass::Word(Word::Safe) => to_front(Item::Function, Front::Qualified),
         _ => before_fn(class),
     }
@@ -129,6 +131,15 @@ fn safe_front(class: SignClass) -> Option<Shift>
 fn async_front(class: SignClass) -> Option<Shift>
 {
     match class {
+        SignClass::Word(Word::Gen) => to_front(Item::Function, Front::Gen),
+        _ => gen_front(class),
+    }
+}
+
+/// The step after the `gen` of a function, or after its `async` if it has no `gen`.
+fn gen_front(class: SignClass) -> Option<Shift>
+{
+    match class {
         SignClass::Keyword(Keyword::Unsafe) | SignClass::Word(Word::Safe) => to_front(
             Item::Function,
             Front::Qualified,
@@ -137,13 +148,14 @@ fn async_front(class: SignClass) -> Option<Shift>
     }
 }
 
-/// The step after `const`. A `safe` may be the constant's name, or belong to a function.
+/// The step after `const`. A `safe` or a `gen` may be the constant's name, or belong to a function.
 fn const_front(class: SignClass) -> Option<Shift>
 {
     match class {
         SignClass::Keyword(Keyword::Async) => to_front(Item::Function, Front::Async),
         SignClass::Keyword(Keyword::Unsafe) => to_front(Item::Function, Front::Qualified),
         SignClass::Word(Word::Safe) => to_front(Item::Constant, Front::ConstSafe),
+        SignClass::Word(Word::Gen) => to_front(Item::Constant, Front::ConstGen),
         SignClass::Word(_) | SignClass::Underscore => to_spot(Item::Constant, Spot::Generics),
         _ => before_fn(class),
     }
@@ -153,6 +165,14 @@ fn const_safe(class: SignClass) -> Option<Shift>
 {
     match class {
         SignClass::Keyword(_) => before_fn(class),
+        _ => generics(Item::Constant, class),
+    }
+}
+
+fn const_gen(class: SignClass) -> Option<Shift>
+{
+    match class {
+        SignClass::Keyword(_) | SignClass::Word(_) => gen_front(class),
         _ => generics(Item::Constant, class),
     }
 }
@@ -223,6 +243,7 @@ fn call_word(word: Word, class: SignClass) -> Option<Shift>
         (_, SignClass::PathSeparator) => to_front(Item::Call, Front::CallPath),
         (Word::Auto, _) => auto_front(class),
         (Word::Default, _) => default_front(class),
+        (Word::Gen, _) => gen_front(class),
         (Word::Safe, _) => safe_front(class),
         (Word::Union, SignClass::Word(_)) => to_spot(Item::Union, Spot::Generics),
         _ => None,
@@ -407,9 +428,11 @@ pub(crate) fn front_step(item: Item, front: Front, class: SignClass) -> Option<S
         (Front::DefaultUnsafe, _) => default_unsafe(class),
         (Front::Safe, _) => safe_front(class),
         (Front::Async, _) => async_front(class),
+        (Front::Gen, _) => gen_front(class),
         (Front::Qualified, _) => before_fn(class),
         (Front::Const, _) => const_front(class),
         (Front::ConstSafe, _) => const_safe(class),
+        (Front::ConstGen, _) => const_gen(class),
         (Front::Extern, _) => extern_front(class),
         (Front::UnsafeExtern, _) => unsafe_extern(class),
         (Front::ExternAbi, _) => extern_abi(class),

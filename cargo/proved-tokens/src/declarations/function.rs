@@ -43,14 +43,13 @@ pub struct Function<'a> {
 /// `const unsafe`, the name is `f`, and the generic parameters are `<T>`. The parameters are `(x: T)`, the return type
 /// is `Vec<T>`, the where clause is `where T: A`, and the body is `{ x }`.
 ///
-/// The qualifiers are `default`, `const`, `async`, `unsafe` or `safe`, and `extern` with or without a literal. Each may
-/// come once, in this order. The call does not check which of them fit together, or whether the function needs a body.
-/// It does not read the trees inside the parentheses and the braces.
+/// The qualifiers are `default`, `const`, `async`, `gen`, `unsafe` or `safe`, and `extern` with or without a literal.
+/// Each may come once, in this order. The call does not check which of them fit together, or whether the function needs
+/// a body. It does not read the trees inside the parentheses and the braces.
 ///
 /// If the trees are not exactly one function, the call returns a `Fault`. Its position is before the first tree that
 /// does not fit, which may be a tree after the function. The rule `function-item` is in crates/declarations/README.md.
-/// The call rejects `gen fn`. It also rejects a function inside a group without delimiters: pass the trees of this
-/// group. The call allocates nothing.
+/// The call rejects a function inside a group without delimiters: pass the trees of this group. It allocates nothing.
 ///
 /// # Contract
 ///
@@ -217,7 +216,8 @@ fn past_qualifiers(trees: &[TokenTree]) -> &[TokenTree]
     let after_default = may(trees, SignClass::Word(Word::Default));
     let after_const = may(after_default, SignClass::Keyword(Keyword::Const));
     let after_async = may(after_const, SignClass::Keyword(Keyword::Async));
-    may_abi(may_safe(after_async))
+    let after_gen = may(after_async, SignClass::Word(Word::Gen));
+    may_abi(may_safe(after_gen))
 }
 
 // ---- the name and the parameters

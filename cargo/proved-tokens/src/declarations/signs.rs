@@ -446,6 +446,9 @@ fn word_of(ident: &Ident, first: u8) -> Word
     if is_written(ident, first, "default") {
         return Word::Default;
     }
+    if is_written(ident, first, "gen") {
+        return Word::Gen;
+    }
     if is_written(ident, first, "safe") {
         return Word::Safe;
     }

@@ -118,12 +118,16 @@ pub enum Front {
     Safe,
     /// After `async`.
     Async,
+    /// After `gen`.
+    Gen,
     /// After the `unsafe` or `safe` of what must be a function.
     Qualified,
     /// After `const`.
     Const,
     /// After `const safe`.
     ConstSafe,
+    /// After `const gen`.
+    ConstGen,
     /// After `extern`.
     Extern,
     /// After `unsafe extern`.

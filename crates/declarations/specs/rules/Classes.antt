@@ -75,6 +75,7 @@ code signs.Dot = 63
 code signs.Infix = 64
 code signs.Mark = 65
 code signs.Block = 66
+code (signs.Word words.Gen) = 67
 
 -- all classes
 abbrev pub classes : List SignClass
@@ -93,7 +94,7 @@ classes =
     signs.Visibility ∷ signs.Invisible ∷ signs.Less ∷ signs.LessJoint ∷ signs.Greater ∷ signs.Comma ∷ signs.Colon ∷
     signs.Semicolon ∷ signs.Equals ∷ signs.Plus ∷ signs.Minus ∷ signs.Star ∷ signs.And ∷ signs.Question ∷
     signs.Exclamation ∷ signs.Hash ∷ signs.Tilde ∷ signs.Bar ∷ signs.Dot ∷ signs.Infix ∷ signs.Mark ∷
-    signs.Block ∷ []
+    signs.Block ∷ (signs.Word words.Gen) ∷ []
 
 -- whether all elements of a list pass the test
 abbrev pub all_of : {T : Type 0} → (T → Bool) → List T → Bool

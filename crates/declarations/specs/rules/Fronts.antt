@@ -60,6 +60,10 @@ auto_front = To (keyword keywords.Trait) Trait
 abbrev pub safe_front : G
 safe_front = Either (To (keyword keywords.Static) Static) function_front
 
+-- the rest of a function after `gen`
+abbrev pub gen_front : G
+gen_front = Either (To is_safe Qualified) function_front
+
 -- the rest of an item after `default unsafe`
 abbrev pub default_unsafe : G
 default_unsafe = Either (To (keyword keywords.Impl) Impl) function_front
@@ -72,6 +76,7 @@ default_front = alt (
     ∷ To (keyword keywords.Impl) Impl
     ∷ To (keyword keywords.Type) Alias
     ∷ Then (key keywords.Unsafe) default_unsafe
+    ∷ Then (one (signs.Word words.Gen)) gen_front
     ∷ To (is (signs.Word words.Safe)) Qualified
     ∷ function_front
     ∷ [])
@@ -90,7 +95,12 @@ unsafe_front = alt (
 
 -- the rest of a function after `async`
 abbrev pub async_front : G
-async_front = Either (To is_safe Qualified) function_front
+async_front = Either (Then (one (signs.Word words.Gen)) gen_front) gen_front
+
+-- whether the sign is the name of a constant, and after `const` belongs to nothing else
+abbrev pub is_constant_name : SignClass → Bool
+is_constant_name c =
+    (is_word c && not (one_of (signs.Word words.Safe ∷ signs.Word words.Gen ∷ []) c)) || is signs.Underscore c
 
 -- the rest of an item after `const`
 abbrev pub const_front : G
@@ -99,6 +109,6 @@ const_front = alt (
     ∷ To (keyword keywords.Unsafe) Qualified
     ∷ function_front
     ∷ Then (one (signs.Word words.Safe)) (Either function_front constant_rest)
-    ∷ seq (Mark Named ∷ Sign (λ c. (is_word c && not (is (signs.Word words.Safe) c)) || is signs.Underscore c)
-    ∷ constant_rest ∷ [])
+    ∷ Then (one (signs.Word words.Gen)) (Either gen_front constant_rest)
+    ∷ seq (Mark Named ∷ Sign is_constant_name ∷ constant_rest ∷ [])
     ∷ [])

@@ -20,6 +20,7 @@ qualifiers = seq (
     perhaps (one (signs.Word words.Default))
     ∷ perhaps (key keywords.Const)
     ∷ perhaps (key keywords.Async)
+    ∷ perhaps (one (signs.Word words.Gen))
     ∷ perhaps (Sign is_safe)
     ∷ perhaps abi
     ∷ [])

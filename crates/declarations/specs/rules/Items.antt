@@ -7,7 +7,7 @@ use Rattle.declarations.specs.rules.Names.{Trait, Impl, Module, Use, UsePath, Ca
 use Rattle.declarations.specs.rules.Parts.{attributes, inner_attributes, visible, visibility, generics}
 use Rattle.declarations.specs.rules.Bodies.{braces, semicolon, name, where_and_body}
 use Rattle.declarations.specs.rules.Fronts.{fn, is_segment, as_name, extern_front, auto_front, safe_front}
-use Rattle.declarations.specs.rules.Fronts.{default_front, unsafe_front}
+use Rattle.declarations.specs.rules.Fronts.{default_front, gen_front, unsafe_front}
 use Rattle.declarations.specs.declared.class.SignClass.{SignClass}
 use Rattle.declarations.specs.declared.class.SignClass.TheVariants as signs
 use Rattle.declarations.specs.declared.class.Keyword.TheVariants as keywords
@@ -68,6 +68,7 @@ abbrev pub declaration : G
 declaration = alt (
     Then (one (signs.Word words.Auto)) auto_front
     ∷ Then (one (signs.Word words.Default)) default_front
+    ∷ Then (one (signs.Word words.Gen)) gen_front
     ∷ Then (one (signs.Word words.Safe)) safe_front
     ∷ To (is (signs.Word words.Union)) Union
     ∷ keyword_item
@@ -82,6 +83,7 @@ abbrev pub private_item : G
 private_item = alt (
     Then (one (signs.Word words.Auto)) (Either call auto_front)
     ∷ Then (one (signs.Word words.Default)) (Either call default_front)
+    ∷ Then (one (signs.Word words.Gen)) (Either call gen_front)
     ∷ Then (one (signs.Word words.Safe)) (Either call safe_front)
     ∷ Then (one (signs.Word words.Union)) (Either call (seq (name ∷ generics ∷ where_and_body ∷ [])))
     ∷ Then (Sign begins_call) call

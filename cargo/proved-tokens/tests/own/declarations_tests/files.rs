@@ -93,6 +93,16 @@ fn a_file_has_inner_attributes_and_items() -> Result<(), Fail> {
             (ItemKind::ExternBlock, 5),
             (ItemKind::MacroCall, 0),
         ],
+    )?;
+    check_file(
+        &rt,
+        "gen fn f() {} trait T { gen fn f(); const gen: u8; } impl T for S { async gen fn f() {} gen! {} }",
+        0,
+        &[
+            (ItemKind::Function, 0),
+            (ItemKind::Trait, 10),
+            (ItemKind::Impl, 9),
+        ],
     )
 }
 

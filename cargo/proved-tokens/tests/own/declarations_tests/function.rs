@@ -101,6 +101,17 @@ fn qualifiers_come_before_fn_in_order() -> Result<(), Fail> {
                 Body(0, 0, 6, 0, 0, 0, 0),
             ),
             ("const async fn f() {}", Body(0, 0, 2, 0, 0, 0, 0)),
+            ("gen fn f() {}", Body(0, 0, 1, 0, 0, 0, 0)),
+            ("async gen fn f() {}", Body(0, 0, 2, 0, 0, 0, 0)),
+            ("#[a] pub gen fn f();", NoBody(2, 1, 1, 0, 0, 0, 0)),
+            (
+                "const gen unsafe extern \"C\" fn f() {}",
+                Body(0, 0, 5, 0, 0, 0, 0),
+            ),
+            (
+                "default const async gen safe extern fn f();",
+                NoBody(0, 0, 6, 0, 0, 0, 0),
+            ),
             (
                 "pub(crate) default unsafe fn f();",
                 NoBody(0, 2, 2, 0, 0, 0, 0),
@@ -216,6 +227,9 @@ fn a_name_is_no_keyword() -> Result<(), Fail> {
         ("fn auto() {}", "auto"),
         ("default fn default() {}", "default"),
         ("safe fn safe();", "safe"),
+        ("fn gen() {}", "gen"),
+        ("gen fn gen() {}", "gen"),
+        ("async gen fn r#gen() {}", "r#gen"),
     ] {
         let stream = TokenStream::from_str(text, &mut SourceMap::new())?;
         match parse_function(stream.trees()) {
@@ -245,6 +259,7 @@ fn a_fault_is_before_the_first_tree_that_does_not_fit() -> Result<(), Fail> {
             ("", EndsAt(0)),
             ("#[a] pub", EndsAt(3)),
             ("const unsafe", EndsAt(2)),
+            ("async gen", EndsAt(2)),
             ("fn", EndsAt(1)),
             ("fn f", EndsAt(2)),
             ("fn f<T>", EndsAt(5)),
@@ -286,8 +301,13 @@ fn qualifiers_in_another_order_and_other_items_are_faults() -> Result<(), Fail> 
             ("const const fn f() {}", FaultAt(1)),
             ("unsafe safe fn f();", FaultAt(1)),
             ("const default fn f() {}", FaultAt(1)),
-            ("gen fn f() {}", FaultAt(0)), // an unstable form of functions, which the call does not read
-            ("async gen fn f() {}", FaultAt(1)),
+            ("gen async fn f() {}", FaultAt(1)),
+            ("unsafe gen fn f() {}", FaultAt(1)),
+            ("gen gen fn f() {}", FaultAt(1)),
+            ("gen default fn f() {}", FaultAt(1)),
+            ("r#gen fn f() {}", FaultAt(0)), // a raw identifier is a plain word
+            ("async r#gen fn f() {}", FaultAt(1)),
+            ("gen!();", FaultAt(1)),
             ("struct S;", FaultAt(0)),
             ("pub struct S;", FaultAt(1)),
             ("const F: u8 = 1;", FaultAt(1)),

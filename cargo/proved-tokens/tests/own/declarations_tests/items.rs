@@ -193,7 +193,7 @@ fn items_have_their_parts_in_order() -> Result<(), Fail> {
 #[test]
 fn keywords_are_no_names() -> Result<(), Fail> {
     let rt = HostRuntime;
-    let text = "struct _ Self dyn yield try union auto r#struct";
+    let text = "struct _ Self dyn yield try union auto gen r#struct";
     let stream = TokenStream::from_str(text, &mut SourceMap::new())?;
     for (i, tree) in stream.trees().iter().enumerate() {
         if let TokenTree::Ident(ident) = tree {
