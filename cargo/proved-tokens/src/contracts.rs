@@ -818,6 +818,26 @@
 //! - <a id="pm_token.Escaped.written_char"></a>**written_char**: how a character without a short escape is
 //!   written in strings
 //!
+//! # Words of `pretty_printer`
+//!
+//! - <a id="pretty_printer.PrettyText.IsPrettyText"></a>**IsPrettyText**: the text is a layout of the respaced
+//!   stream in which some marks are joined, and reads back to it. A well spaced stream need not be respaced
+//! - <a id="pretty_printer.Laws.JoinsOnce"></a>**JoinsOnce**: joining again with the same answers changes
+//!   nothing
+//! - <a id="pretty_printer.Laws.NothingWanted"></a>**NothingWanted**: joining without an answer changes nothing
+//! - <a id="pretty_printer.Laws.OnlySpacing"></a>**OnlySpacing**: joining changes only spacings
+//! - <a id="pretty_printer.Laws.SpacedAsInItsText"></a>**SpacedAsInItsText**: the pretty text of a well spaced
+//!   stream, whose marks are spaced as in this text, is a layout of it and reads back to it
+//! - <a id="pretty_printer.Laws.StaysWellSpaced"></a>**StaysWellSpaced**: a well spaced stream stays well
+//!   spaced
+//! - <a id="pretty_printer.Laws.WasWellSpaced"></a>**WasWellSpaced**: a stream is well spaced if it is when it
+//!   is joined
+//! - <a id="pretty_printer.Joined.begins_operator"></a>**begins_operator**: whether the two marks begin an
+//!   operator or a comment if they are written close
+//! - <a id="pretty_printer.Joined.joined"></a>**joined**: `joined`: the same trees with the same spans, in
+//!   which each mark that is wanted and may be joined is Joint. `wants` has an answer for each mark in reading
+//!   order
+//!
 //! # Words of `proc_macro2`
 //!
 //! - <a id="proc_macro2.Laws.BrokenLine"></a>**BrokenLine**: if a source parses, a line feed may be put in

@@ -8,8 +8,11 @@
 use crate::shim::prelude::TryClone;
 
 mod atoms;
+mod chosen;
 mod expressions;
 mod groups;
+mod join;
+pub mod laws;
 mod limits;
 mod lines;
 mod parts;
@@ -20,12 +23,14 @@ mod sides;
 mod signs;
 mod tree;
 
+use chosen::Chosen;
+use join::join;
 use crate::layout::{Chooser, Gap, GapContext, LayoutError, text_with};
 use printer::Printer;
 use crate::proc_macro2::TokenStream;
-use crate::quoting::{Quote, QuoteError, laws};
+use crate::quoting::{Quote, QuoteError};
 
-impl<'a> Chooser for Printer<'a> {
+impl Chooser for Chosen {
     #[cfg_attr(not(debug_assertions), inline(always))]
     fn gap(&mut self, place: GapContext<'_>) -> Gap {
         match (place.after, place.before) {
@@ -40,8 +45,10 @@ impl<'a> Chooser for Printer<'a> {
 /// several lines.
 ///
 /// The marks are respaced first, as `Quote::finish` does: a Joint mark becomes Alone if it can't be joined with the
-/// next token. The text is a layout of the respaced stream, so it reads back to that stream, up to spans. A stream that
-/// is `well-spaced` is respaced to itself. No contract says where the lines break.
+/// next token. A stream that is `well-spaced` is respaced to itself. Then some Alone marks become Joint, so that they
+/// are written close to the next mark: those after which the layout wants no space, if the two marks begin no operator.
+/// `>` and `,` are written `>,`, but `&` and `&` are written `& &`. The text is a layout of this stream, which is
+/// `joined`, so it reads back to it, up to spans. No contract says which marks these are, and where the lines break.
 ///
 /// `NoneGroup` and `LoneQuote` are returned for the first tree that no spacing of the marks allows (`first-fault`), and
 /// `Memory` if memory runs out. The call takes time in proportion to the length of the text.
@@ -50,28 +57,21 @@ impl<'a> Chooser for Printer<'a> {
 ///
 /// # Contract
 ///
-/// - `ensures layout`: <code>[IfOk] result (λ text. [IsLayout] ([respace_marks] stream.now) ([chars]
-///   ([string_bytes] text)))</code>
-/// - `ensures back`: <code>[IfOk] result (λ text. [ReadsBack] ([respace_marks] stream.now) ([chars]
-///   ([string_bytes] text)))</code>
-/// - `ensures unchanged`: <code>[IfOk] result (λ text. [IsWellSpaced] stream.now → [IsLayout] stream.now
-///   ([chars] ([string_bytes] text)) × [ReadsBack] stream.now ([chars] ([string_bytes] text)))</code>
+/// - `ensures text`: <code>[IfOk] result (λ text. [IsPrettyText] stream.now ([chars] ([string_bytes]
+///   text)))</code>
 /// - `ensures fault`: <code>[IfErr] result ([IsFaultOf] stream.now)</code>
 /// - `ensures hopeless`: <code>[IfErr] result ([HopelessIfNamed] stream.now)</code>
 ///
 /// [IfOk]: crate::contracts#std.IfOk
-/// [IsLayout]: crate::contracts#layout.Layout.IsLayout
-/// [respace_marks]: crate::contracts#quoting.Respaced.respace_marks
+/// [IsPrettyText]: crate::contracts#pretty_printer.PrettyText.IsPrettyText
 /// [chars]: crate::contracts#std.chars
 /// [string_bytes]: crate::contracts#std.string_bytes
-/// [ReadsBack]: crate::contracts#layout.Writing.ReadsBack
-/// [IsWellSpaced]: crate::contracts#pm_stream.WellSpaced.IsWellSpaced
 /// [IfErr]: crate::contracts#std.IfErr
 /// [IsFaultOf]: crate::contracts#quoting.Fault.IsFaultOf
 /// [HopelessIfNamed]: crate::contracts#quoting.Choice.HopelessIfNamed
 pub fn to_pretty_string(stream: &TokenStream) -> Result<String, QuoteError>
 {
-    laws::respacing();
+    crate::quoting::laws::respacing();
     match lay_out(stream) {
         Ok(text) => return Ok(text),
         Err(LayoutError::Memory(error)) => return Err(QuoteError::Memory(error)),
@@ -88,11 +88,17 @@ pub fn to_pretty_string(stream: &TokenStream) -> Result<String, QuoteError>
     }
 }
 
-/// Returns the tokens of the stream as text for people, or `NotWellSpaced` if the stream is not well spaced.
+/// Returns the tokens of the stream as text for people, in which some marks are joined, or `NotWellSpaced` if the
+/// stream is not well spaced.
 fn lay_out(stream: &TokenStream) -> Result<String, LayoutError>
 {
-    let mut printer = Printer::new(stream)?;
-    let text = text_with(stream, &mut printer)?;
-    printer.finish()?;
+    laws::joining();
+    let mut chosen = Printer::new(stream)?.choose()?;
+    if !chosen.wants_any() {
+        let text = text_with(stream, &mut chosen)?;
+        return Ok(text);
+    }
+    let joined = join(stream, chosen.wants())?;
+    let text = text_with(&joined, &mut chosen)?;
     Ok(text)
 }

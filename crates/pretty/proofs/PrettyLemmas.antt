@@ -9,6 +9,7 @@ use Rattle.proc_macro2.specs.Forest.{Forest}
 use Rattle.proc_macro2.specs.Parsing.{ParsesTo}
 use Rattle.layout.specs.Layout.{IsLayout}
 use Rattle.layout.specs.Writing.{ReadsBack}
+use Rattle.pretty_printer.specs.Joined.{joined}
 use Rattle.relayout.specs.Comments.{IsCommented}
 use Rattle.relayout.specs.Relaid.{HasNoCover}
 use Rattle.pretty.specs.Answer.{IsPretty, Writes, WritesUnless}
@@ -16,9 +17,10 @@ use Rattle.pretty.specs.Comments.{comments}
 use Rattle.pretty.specs.Script.{code_of, script_line}
 
 -- a layout that reads back still does if comments replace attributes
-pub pretty_is : (stream : Forest) (laid text : List ℕ) → IsLayout stream laid → ReadsBack stream laid
-    → IsCommented laid text → IsPretty stream text
-pretty_is stream laid text layout back commented = record {
+pub pretty_is : (wants : List Bool) (stream : Forest) (laid text : List ℕ) → IsLayout (joined wants stream) laid
+    → ReadsBack (joined wants stream) laid → IsCommented laid text → IsPretty stream text
+pretty_is wants stream laid text layout back commented = record {
+  wants = wants;
   laid = laid;
   layout = layout;
   commented = commented;

@@ -9,16 +9,19 @@ use Rattle.proc_macro2.specs.Parsing.{ParsesTo}
 use Rattle.messages.specs.Parsed.{first}
 use Rattle.layout.specs.Layout.{IsLayout}
 use Rattle.layout.specs.Writing.{ReadsBack}
+use Rattle.pretty_printer.specs.Joined.{joined}
 use Rattle.relayout.specs.Comments.{IsCommented}
 use Rattle.pretty.specs.Comments.{comments}
 use Rattle.pretty.specs.Script.{code_of, script_line, with_line}
 
--- the text is a layout of the stream in which doc comments replace attributes, and reads back to the stream
+-- the text is a layout in which doc comments replace attributes, of the stream with some of its marks joined, and reads
+-- back to this stream
 pub record IsPretty (stream : Forest) (text : List ℕ) : Type 0 where
+  pub wants : List Bool
   pub laid : List ℕ
-  pub layout : IsLayout stream laid
+  pub layout : IsLayout (joined wants stream) laid
   pub commented : IsCommented laid text
-  pub back : ReadsBack stream text
+  pub back : ReadsBack (joined wants stream) text
 
 -- a pretty text of the stream is appended to the output, after the first line of the script
 abbrev pub WritesPretty : List ℕ → Forest → Option (List ℕ) → Option (List ℕ) → Type 0

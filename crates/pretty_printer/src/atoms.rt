@@ -124,7 +124,7 @@ pub struct Atom {
     pub offset: usize,
     /// The number of atoms before it in its list that need several lines.
     pub tall_before: usize,
-    /// Of a group: the index of its node. Of `<` around types: that of its `>`.
+    /// Of a group: the index of its node. Of `<` around types: that of its `>`, and the other way round.
     pub node: usize,
     /// The gap before it: at first that on one line, and that in the text once lines are broken.
     pub gap: Gap,
@@ -176,6 +176,42 @@ impl Atom {
             Kind::Lexeme(Lexeme::Lifetime) => 2,
             Kind::Sign(_) => self.width,
             _ => 1,
+        }
+    }
+
+    /// The number of its marks.
+    pub fn marks(&self) -> usize {
+        match self.kind {
+            Kind::Lexeme(Lexeme::Lifetime) => 1,
+            Kind::Sign(_) => self.width,
+            _ => 0,
+        }
+    }
+
+    /// The first mark of an operator or a lifetime. Of an operator that may begin with several marks: `=`.
+    pub fn first_mark(&self) -> char {
+        match self.kind {
+            Kind::Sign(Sign::One(mark)) => mark,
+            Kind::Sign(Sign::Path) => ':',
+            Kind::Sign(Sign::Arrow) => '-',
+            Kind::Sign(Sign::And) => '&',
+            Kind::Sign(Sign::Or) => '|',
+            Kind::Sign(Sign::Range) => '.',
+            Kind::Sign(_) => '=',
+            _ => '\'',
+        }
+    }
+
+    /// The last mark of an operator. Of a range: `.`.
+    pub fn last_mark(&self) -> char {
+        match self.kind {
+            Kind::Sign(Sign::One(mark)) => mark,
+            Kind::Sign(Sign::Path) => ':',
+            Kind::Sign(Sign::Arrow | Sign::Arm) => '>',
+            Kind::Sign(Sign::And) => '&',
+            Kind::Sign(Sign::Or) => '|',
+            Kind::Sign(Sign::Range) => '.',
+            _ => '=',
         }
     }
 

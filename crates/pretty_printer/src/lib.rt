@@ -7,17 +7,19 @@
 
 ghost use Rattle.std.specs.Prelude.{◌≡◌, Err, IfErr, IfOk, string_bytes};
 ghost use Rattle.std.specs.Str.{chars};
-ghost use Rattle.layout.specs.Layout.{IsLayout};
-ghost use Rattle.layout.specs.Writing.{IsNoWrite, ReadsBack};
+ghost use Rattle.layout.specs.Writing.{IsNoWrite};
 ghost use Rattle.layout.specs.declared.errors.LayoutError.TheVariants.{NotWellSpaced};
 ghost use Rattle.proc_macro2.specs.WellSpaced.{IsWellSpaced};
 ghost use Rattle.quoting.specs.Choice.{HopelessIfNamed};
 ghost use Rattle.quoting.specs.Fault.{IsFaultOf};
-ghost use Rattle.quoting.specs.Respaced.{respace_marks};
+ghost use Rattle.pretty_printer.specs.PrettyText.{IsJoinedLayout, IsPrettyText};
 
 mod atoms;
+mod chosen;
 mod expressions;
 mod groups;
+mod join;
+pub mod laws;
 mod limits;
 mod lines;
 mod parts;
@@ -28,13 +30,15 @@ mod sides;
 mod signs;
 mod tree;
 
+use chosen::Chosen;
+use join::join;
 use layout::{Chooser, Gap, GapContext, LayoutError, text_with};
 use printer::Printer;
 use proc_macro2::TokenStream;
-use quoting::{Quote, QuoteError, laws};
+use quoting::{Quote, QuoteError};
 use std::alloc::Global;
 
-impl<'a> Chooser for Printer<'a> {
+impl Chooser for Chosen {
     #[inline(always)]
     fn gap(&mut self, place: GapContext<'_>) -> Gap {
         match (place.after, place.before) {
@@ -49,22 +53,21 @@ impl<'a> Chooser for Printer<'a> {
 /// several lines.
 ///
 /// The marks are respaced first, as `Quote::finish` does: a Joint mark becomes Alone if it can't be joined with the
-/// next token. The text is a layout of the respaced stream, so it reads back to that stream, up to spans. A stream that
-/// is `well-spaced` is respaced to itself. No contract says where the lines break.
+/// next token. A stream that is `well-spaced` is respaced to itself. Then some Alone marks become Joint, so that they
+/// are written close to the next mark: those after which the layout wants no space, if the two marks begin no operator.
+/// `>` and `,` are written `>,`, but `&` and `&` are written `& &`. The text is a layout of this stream, which is
+/// `joined`, so it reads back to it, up to spans. No contract says which marks these are, and where the lines break.
 ///
 /// `NoneGroup` and `LoneQuote` are returned for the first tree that no spacing of the marks allows (`first-fault`), and
 /// `Memory` if memory runs out. The call takes time in proportion to the length of the text.
 ///
 /// `fn f(){g(1)}` is written over three lines, the second of which is `    g(1)`.
 pub fn to_pretty_string(alloc: Global, stream: &TokenStream) -> Result<String, QuoteError>
-    ensures layout { IfOk result (λ text. IsLayout (respace_marks stream.now) (chars (string_bytes text))) }
-    ensures back { IfOk result (λ text. ReadsBack (respace_marks stream.now) (chars (string_bytes text))) }
-    ensures unchanged { IfOk result (λ text. IsWellSpaced stream.now
-        → IsLayout stream.now (chars (string_bytes text)) × ReadsBack stream.now (chars (string_bytes text))) }
+    ensures text { IfOk result (λ text. IsPrettyText stream.now (chars (string_bytes text))) }
     ensures fault { IfErr result (IsFaultOf stream.now) }
     ensures hopeless { IfErr result (HopelessIfNamed stream.now) }
 {
-    laws::respacing();
+    quoting::laws::respacing();
     match lay_out(alloc, stream) {
         Ok(text) => return Ok(text),
         Err(LayoutError::Memory(error)) => return Err(QuoteError::Memory(error)),
@@ -81,16 +84,21 @@ pub fn to_pretty_string(alloc: Global, stream: &TokenStream) -> Result<String, Q
     }
 }
 
-/// Returns the tokens of the stream as text for people, or `NotWellSpaced` if the stream is not well spaced.
+/// Returns the tokens of the stream as text for people, in which some marks are joined, or `NotWellSpaced` if the
+/// stream is not well spaced.
 fn lay_out(alloc: Global, stream: &TokenStream) -> Result<String, LayoutError>
     ensures spaced { IfOk result (λ text. IsWellSpaced stream.now) }
-    ensures layout { IfOk result (λ text. IsLayout stream.now (chars (string_bytes text))) }
-    ensures back { IfOk result (λ text. ReadsBack stream.now (chars (string_bytes text))) }
+    ensures text { IfOk result (λ text. IsJoinedLayout stream.now (chars (string_bytes text))) }
     ensures refused { result ≡ Err NotWellSpaced → IsWellSpaced stream.now → ⊥ }
     ensures unwritten { IfErr result IsNoWrite }
 {
-    let mut printer = Printer::new(alloc, stream)?;
-    let text = text_with(stream, &mut printer, alloc)?;
-    printer.finish()?;
+    laws::joining();
+    let mut chosen = Printer::new(alloc, stream)?.choose()?;
+    if !chosen.wants_any() {
+        let text = text_with(stream, &mut chosen, alloc)?;
+        return Ok(text);
+    }
+    let joined = join(alloc, stream, chosen.wants())?;
+    let text = text_with(&joined, &mut chosen, alloc)?;
     Ok(text)
 }

@@ -17,6 +17,9 @@ pub fn pair_angles(tree: &mut Tree, index: usize, end: usize) {
                     less.role = Role::Less;
                     less.node = later;
                 }
+                if let Some(greater) = tree.atoms.get_mut(later) {
+                    greater.node = matched;
+                }
             }
             tree.set_role(later, Role::Greater);
         } else if ends_types(next, tree.previous(later)) {
@@ -158,7 +161,11 @@ pub fn wants_space(tree: &Tree, index: usize, previous: &Atom, next: &Atom, role
             Kind::Lexeme(Lexeme::Impl | Lexeme::For | Lexeme::Fn)
         );
         let keyword = previous.is_any_word() && !previous.is_name();
-        return keyword && !(opens && role == Role::Less);
+        // For example `impl<T> ::a::B for C<T>` and `for<'a> ::a::B<'a>`.
+        let generic = previous.role == Role::Greater && role == Role::Path;
+        let before = tree.previous(previous.node);
+        let bound = generic && matches!(before.kind, Kind::Lexeme(Lexeme::Impl | Lexeme::For));
+        return bound || keyword && !(opens && role == Role::Less);
     }
     if !next.is_list() {
         return true;

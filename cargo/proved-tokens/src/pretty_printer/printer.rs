@@ -3,7 +3,9 @@
 
 use crate::shim::prelude::Grow;
 
-use crate::pretty_printer::atoms::Role;
+use crate::pretty_printer::atoms::{Lexeme, Role};
+use crate::pretty_printer::chosen::Chosen;
+use crate::pretty_printer::join::begins_operator;
 use crate::pretty_printer::reading::{Unread, push_list};
 use crate::pretty_printer::roles::assign_roles;
 use crate::pretty_printer::tree::{NOWHERE, Tree};
@@ -26,8 +28,8 @@ pub struct Printer<'a> {
     at: usize,
     end: usize,
     outer: Vec<(usize, usize)>,
-    /// The number of tokens without a gap that come next, because they are in one atom.
-    joined: usize,
+    /// The gaps so far.
+    chosen: Chosen,
 }
 
 impl<'a> Printer<'a> {
@@ -51,57 +53,78 @@ impl<'a> Printer<'a> {
             at: first,
             end,
             outer: Vec::new(),
-            joined: 0,
+            chosen: Chosen::new(),
         })
     }
 
-    /// Returns the gap before the next token, opener or closer. It is any gap if an allocation failed.
-    #[cfg_attr(not(debug_assertions), inline(always))]
-    pub fn next_gap(&mut self) -> Gap {
-        if self.joined > 0 {
-            self.joined -= 1;
-            return Gap::Nothing;
+    /// Returns the gaps of the stream.
+    pub fn choose(mut self) -> Result<Chosen, AllocError> {
+        for _ in 0..usize::MAX {
+            if self.at < self.end {
+                self.step()?;
+                continue;
+            }
+            let gap = self.tree.atom(self.at).gap;
+            let Some((at, end)) = self.outer.pop() else {
+                break;
+            };
+            self.chosen.add(gap, 1)?;
+            self.at = at;
+            self.end = end;
         }
-        self.step()
-    }
-
-    /// Returns an error if an allocation failed.
-    pub fn finish(self) -> Result<(), AllocError> {
         match self.tree.failure {
             Some(error) => Err(error),
-            None => Ok(()),
+            None => Ok(self.chosen),
         }
     }
 
-    /// Returns the gap before the next atom of the list, or before its end.
-    #[inline(never)]
-    fn step(&mut self) -> Gap {
+    /// Chooses the gap before the next atom of the list.
+    #[cfg_attr(not(debug_assertions), inline(always))]
+    fn step(&mut self) -> Result<(), AllocError> {
         let index = self.at;
-        if index >= self.end {
-            let gap = self.tree.atom(index).gap;
-            if let Some((at, end)) = self.outer.pop() {
-                self.at = at;
-                self.end = end;
-            }
-            return gap;
-        }
         let in_parts = self.outer.is_empty() && self.part < self.nodes;
         if in_parts && index == self.tree.node(self.part).first {
             self.lay_part();
         }
         let own = self.tree.atom(index);
-        let gap = own.gap;
-        self.joined = own.tokens().saturating_sub(1);
+        let (gap, tokens, node) = (own.gap, own.tokens(), own.node);
+        let (group, marks) = (own.is_group(), own.marks());
+        if marks > 0 {
+            if matches!(gap, Gap::Nothing) && self.may_touch(index) {
+                self.chosen.want()?;
+            }
+            self.chosen.pass_marks(marks);
+        }
+        self.chosen.add(gap, tokens)?;
         self.at = index.saturating_add(1);
-        if own.is_group() {
-            let inner = self.tree.node(own.node);
+        if group {
+            let inner = self.tree.node(node);
             let (from, until) = (inner.from, inner.until);
             let pushed = self.outer.push_fallibly((self.at, self.end));
             self.tree.check(pushed);
             self.at = from;
             self.end = until;
         }
-        gap
+        Ok(())
+    }
+
+    /// Returns whether the operator before this one or before this lifetime may be written close to it. The marks of an
+    /// inner doc attribute stay Alone, as they are read from `//!`.
+    fn may_touch(&self, index: usize) -> bool {
+        let own = self.tree.atom(index);
+        let before = self.tree.previous(index);
+        let open = before.is_sign() && !before.glued;
+        if !open || begins_operator(before.last_mark(), own.first_mark()) {
+            return false;
+        }
+        let list = self.tree.next(index);
+        if !before.is_mark('#') || !list.is_group() {
+            return true;
+        }
+        let first = self.tree.node(list.node).from;
+        let named = self.tree.atom(first).width == "doc".len();
+        let text = self.tree.atom(first.saturating_add(2));
+        !(named && text.is_word(Lexeme::String))
     }
 
     /// Reads the next part, and breaks its lines.

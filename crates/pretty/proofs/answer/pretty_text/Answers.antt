@@ -8,13 +8,14 @@ use Rattle.pretty.proofs.answer.pretty_text.Goals as goal
 
 pub returns-in-Ok-with_doc_comments-clause-ok : goal.returns-in-Ok-with_doc_comments-clause-ok
 returns-in-Ok-with_doc_comments-clause-ok c =
-    let kept = c.in-Ok.ensures.unchanged c.requires in
-    pretty_is _ _ _ kept.0 kept.1
+    let text = c.in-Ok.ensures.text in
+    let kept = text.unchanged c.requires in
+    pretty_is text.wants _ _ _ kept.0 kept.1
     (subst (λ bytes. IsCommented (chars bytes) (chars (string_bytes c.in-Ok-with_doc_comments.text)))
     c.as_str.ensures.value c.in-Ok-with_doc_comments.ensures.ok)
 
 pub unreachable-requires-in-Err-NoPiece : goal.unreachable-requires-in-Err-NoPiece
 unreachable-requires-in-Err-NoPiece c =
     let none = rw c.in-Err-NoPiece.field-0-is at c.in-Err-NoPiece.ensures.no_piece in
-    has_cover _ _ (c.in-Ok.ensures.unchanged c.requires).1
+    has_cover _ _ (c.in-Ok.ensures.text.unchanged c.requires).1
     (subst (λ bytes. HasNoCover (chars bytes)) c.as_str.ensures.value none)

@@ -1,0 +1,6 @@
+mod PrettyTextLemmas
+mod JoiningLemmas
+mod JoinedPartLemmas
+mod JoinedListLemmas
+mod ArrayLemmas
+mod PushLemmas

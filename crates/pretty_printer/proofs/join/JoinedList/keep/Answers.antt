@@ -1,0 +1,44 @@
+use Rattle.std.proofs.Common.{◌∙◌, ◌+◌, ap, sym, subst, Option}
+use Rattle.proc_macro2.specs.Forest.{Forest, chain}
+use Rattle.proc_macro2.specs.Trees.{alone}
+use Rattle.quoting.specs.Part.{done_of}
+use Rattle.pretty_printer.specs.JoinedPart.{Puts}
+use Rattle.pretty_printer.proofs.JoinedListLemmas.{first_goes_inside, part_of, puts_kept, puts_new}
+use Rattle.pretty_printer.proofs.join.JoinedList.keep.Goals as goal
+use Rattle.pretty_printer.proofs.join.JoinedList.keep.Goals.{in-Some+in_ok-clone+in_ok-put, in_default}
+
+pub put-requires : goal.put-requires
+put-requires c =
+    let inside = c.self.inside in
+    first_goes_inside inside.stream.now inside.changed inside.done inside.trees.now inside.wants.now c.args.tree.now _
+    c.args.self.now
+    c.self.invariant.1 c.self.view_is c.requires c.in_ok-clone.ensures.cases
+
+pub returns : goal.returns
+returns c =
+    let inside = c.self.inside in
+    elim c.match-self.branch [
+      | in-Some+in_ok-clone+in_ok-put w ↦
+          subst (λ i. Puts c.args.self.now (alone c.args.tree.now) c.args.wants.now
+          (part_of i.stream.now i.changed (i.done + 1) i.trees.now c.args.wants.now))
+          (sym w.self-inside-is)
+          (puts_new inside.stream.now inside.changed inside.done inside.trees.now inside.wants.now c.args.wants.now
+          w.in-Some.changed w.put.new.stream
+          (alone c.args.tree.now) c.args.self.now
+          c.self.view_is
+          (ap (λ (changed : Option Forest). done_of changed inside.done inside.trees.now) (sym w.in-Some.is))
+          (w.in_ok-put.ensures ∙ ap (λ t. chain w.in-Some.changed (alone t)) w.in_ok-clone.ensures.cases))
+      | in_default w ↦
+          subst (λ i. Puts c.args.self.now (alone c.args.tree.now) c.args.wants.now
+          (part_of i.stream.now i.changed (i.done + 1) i.trees.now c.args.wants.now))
+          (sym w.self-inside-is)
+          (subst (λ (changed : Option Forest). Puts c.args.self.now (alone c.args.tree.now) c.args.wants.now
+          (part_of inside.stream.now changed (inside.done + 1) inside.trees.now c.args.wants.now))
+          (sym w.in_default.is)
+          (puts_kept inside.stream.now inside.done inside.trees.now inside.wants.now c.args.wants.now c.args.tree.now
+          c.args.self.now
+          (ap (λ (changed : Option Forest). part_of inside.stream.now changed inside.done inside.trees.now
+          inside.wants.now)
+          (sym w.in_default.is) ∙ c.self.view_is)
+          c.requires))
+    ]

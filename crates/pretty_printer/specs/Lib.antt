@@ -1,0 +1,4 @@
+pub mod Joined
+pub mod JoinedPart
+pub mod PrettyText
+pub mod Laws
