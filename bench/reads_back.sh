@@ -1,6 +1,7 @@
 #!/usr/bin/env bash
-# Checks that pretty texts read back: that `tokens same` finds the tokens of a Rust file in what `tokens pretty` writes
-# for it.
+# Checks that pretty texts read back: that what `tokens pretty` writes for a Rust file has the tokens of the file, but
+# for the spacing of marks. `tokens pretty` writes a mark close to the next one where the layout wants no space, as `*@`
+# for `* @` in a macro.
 #
 #   bench/reads_back.sh TOKENS FOLDER
 #
@@ -9,8 +10,30 @@
 # back, and there are some.
 set -u
 tokens=$(realpath "$1") || exit 1
-text=$(mktemp)
-trap 'rm -f "$text"' EXIT
+room=$(mktemp -d)
+trap 'rm -rf "$room"' EXIT
+text=$room/text
+
+# Whether the tokens of two files are the same, but that the second may lack spaces between two marks of the first.
+same_but_for_marks() {
+    "$tokens" print < "$1" > "$room/first" && "$tokens" print < "$2" > "$room/second" || return 1
+    python3 - "$room/first" "$room/second" << 'END'
+import sys
+first, second = (open(name, encoding="utf-8", newline="").read() for name in sys.argv[1:])
+marks, at = set("~!@#$%^&*-=+|;:,<.>/?'"), 0
+for place, character in enumerate(first):
+    if second[at:at + 1] == character:
+        at += 1
+    elif character != " " or not {*first[place - 1:place], *first[place + 1:place + 2]} <= marks:
+        sys.exit(f"{sys.argv[1]}: the texts differ at {first[place:place + 40]!r}")
+sys.exit(at != len(second))
+END
+}
+
+has_same_tokens() {
+    "$tokens" same -- "$1" "$2" > /dev/null || same_but_for_marks "$1" "$2"
+}
+
 same=0
 differ=0
 faulty=0
@@ -21,7 +44,7 @@ while IFS= read -r -d '' file; do
     if [ "$status" -eq 1 ]; then
         faulty=$((faulty + 1))
         echo "doesn't parse: $file"
-    elif [ "$status" -eq 0 ] && "$tokens" same -- "$file" "$text"; then
+    elif [ "$status" -eq 0 ] && has_same_tokens "$file" "$text"; then
         same=$((same + 1))
     else
         differ=$((differ + 1))
